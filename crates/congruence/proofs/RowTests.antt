@@ -1,0 +1,139 @@
+-- What the tests of the rows say (document 01, "Exchanges and rounds"): `front`, `standsAt`, `crowded`, `clean`, `cleanFront` and `active`, by positions.
+use Prim.Native.Nat.{ℕ, _+_, _≤_, _<_}
+use mathlib.Core.Bool.{Bool, true, false, _&&_, not, true≢false, and-eq-true-iff}
+use mathlib.Core.List.{List, _++_}
+use mathlib.Core.Path.{_≡_, refl, sym, ap, _∙_, subst}
+use mathlib.Core.Logic.{by-cases, _⊎_, inl, inr}
+use native.Mathlib.Omega.{arith}
+use native.Mathlib.Decide.{decLt}
+use lib.Dec.{leb}
+use borrow.Author.Tests.{leb-true, le-leb, not-true}
+use lib.ListN.{length, getD, take, drop}
+use lib.Seq.{getD-take, length-take-le, take-length}
+use Rattle.words.specs.Words.{Word, front}
+use Rattle.words.proofs.Segments.{Same, same-sym, same-via}
+use Rattle.words.proofs.Fronts.{front-same, front-fits, same-front}
+use Rattle.words.proofs.Searching.{any-of, any-found, least-passes, least-first, least-bound}
+use Rattle.overlap.specs.Pieces.{word}
+use Rattle.overlap.specs.Cuts.{len, xlen, xylen, xyOf}
+use Rattle.congruence.specs.Rows.{standsAt, crowded, clean, cleanFront, active}
+use Rattle.congruence.proofs.Heads.{Facts, Head, Front, Whole, Clean, behind}
+
+-- a test passes or fails
+pub true-or-false : (b : Bool) → (b ≡ true) ⊎ (b ≡ false)
+true-or-false true = inl refl
+true-or-false false = inr refl
+
+-- a test that passes where it cannot fails
+pub false-of-not : (b : Bool) → (b ≡ true → ⊥) → b ≡ false
+false-of-not true h = absurd (h refl)
+false-of-not false h = refl
+
+-- a front of a word, by position
+pub same-take : (w : Word) (n : ℕ) → Same (take n w) 0 w 0 n
+same-take w n = record { at = λ k h. ap (λ m. getD (take n w) m 0) (omega arith) ∙ getD-take n w k 0 h ∙ ap (λ m. getD w m 0) (omega arith) }
+
+module _ {B : List Word} where
+  -- the first n letters of relation word i are a front of what is left of u behind q
+  pub head-of-test : (u : Word) (q i n : ℕ) → (i < length B) × (xlen B i < n) × (n ≤ len B i) → front (take n (word B i)) (drop q u) ≡ true → Head B u q i n
+  head-of-test u q i n c e =
+      let l = length-take-le n (word B i) (c .2) in
+      let s : Same (take n (word B i)) 0 u q n = subst (Same (take n (word B i)) 0 u q) l (front-same (take n (word B i)) u q e) in
+      record {
+        there = c .0;
+        long = c .1;
+        part = c .2;
+        fits = let f = front-fits (take n (word B i)) u q (omega arith) e in omega arith;
+        same = same-via (same-sym (same-take (word B i) n)) s (omega arith);
+      }
+
+  pub test-of-head : {u : Word} {q i n : ℕ} → Head B u q i n → front (take n (word B i)) (drop q u) ≡ true
+  test-of-head {u} {q} {i} {n} h =
+      let l = length-take-le n (word B i) (h .part) in
+      let s : Same (take n (word B i)) 0 u q n = same-via (same-take (word B i) n) (h .same) (omega arith) in
+      same-front (take n (word B i)) u q (let f = h .fits in omega arith) (subst (Same (take n (word B i)) 0 u q) (sym l) s)
+
+  -- the whole relation word i is a front of what is left of u behind q
+  pub test-of-whole : {u : Word} {q i : ℕ} → Whole B u q i → front (word B i) (drop q u) ≡ true
+  test-of-whole {u} {q} {i} h = rw (take-length (word B i)) at (test-of-head h)
+
+  module _ (R : Facts B) where
+    pub front-of-test : (u : Word) (q i : ℕ) → i < length B → front (xyOf B i) (drop q u) ≡ true → Front B u q i
+    front-of-test u q i h e = let a = R .some i h in head-of-test u q i (xylen B i) (omega arith) e
+
+    pub whole-of-test : (u : Word) (q i : ℕ) → i < length B → front (word B i) (drop q u) ≡ true → Whole B u q i
+    whole-of-test u q i h e =
+        let a = R .some i h in head-of-test u q i (len B i) (omega arith) (subst (λ (w : Word). front w (drop q u) ≡ true) (sym (take-length (word B i))) e)
+
+    -- standsAt: some XY stands there
+    pub stands-found : (u : Word) (q : ℕ) → standsAt B u q ≡ true → (j : ℕ) × Front B u q j
+    unfolding standsAt
+    stands-found u q e = let f = any-found (length B) (λ j. front (xyOf B j) (drop q u)) e in (f .0, front-of-test u q (f .0) (f .1) (f .2))
+
+    pub stands-of-front : {u : Word} {q j : ℕ} → Front B u q j → standsAt B u q ≡ true
+    unfolding standsAt
+    stands-of-front {u} {q} {j} h = any-of (length B) (λ j. front (xyOf B j) (drop q u)) j (h .there) (test-of-head h)
+
+    -- crowded: some XY begins from lo on and below hi
+    pub crowded-found : (u : Word) (lo hi : ℕ) → crowded B u lo hi ≡ true → (q : ℕ) × (j : ℕ) × (lo ≤ q) × (q < hi) × Front B u q j
+    unfolding crowded
+    crowded-found u lo hi e =
+        let f = any-found hi (λ q. leb lo q && standsAt B u q) e in
+        let r = simp and-eq-true-iff at (f .2) in
+        let s = stands-found u (f .0) (r .1) in
+        (f .0, s .0, leb-true lo (f .0) (r .0), f .1, s .1)
+
+    pub crowded-of-front : {u : Word} {q j : ℕ} (lo hi : ℕ) → (lo ≤ q) × (q < hi) → Front B u q j → crowded B u lo hi ≡ true
+    unfolding crowded
+    crowded-of-front {u} {q} {j} lo hi c h = any-of hi (λ q. leb lo q && standsAt B u q) q (c .1) (simp and-eq-true-iff (le-leb lo q (c .0), stands-of-front h))
+
+    pub crowded-none : (u : Word) (lo hi : ℕ) → crowded B u lo hi ≡ false → (q j : ℕ) → (lo ≤ q) × (q < hi) → Front B u q j → ⊥
+    crowded-none u lo hi e q j c h = true≢false (sym (crowded-of-front lo hi c h) ∙ e)
+
+    -- XY at a place is clean, or another XY begins inside it
+    pub clean-or-crowded : {u : Word} {p i : ℕ} → Front B u p i → Clean B u p i ⊎ ((q : ℕ) × (j : ℕ) × (p < q) × (q < p + xylen B i) × Front B u q j)
+    clean-or-crowded {u} {p} {i} h = go (crowded B u (p + 1) (p + xylen B i)) refl
+      where
+        go : (b : Bool) → crowded B u (p + 1) (p + xylen B i) ≡ b → Clean B u p i ⊎ ((q : ℕ) × (j : ℕ) × (p < q) × (q < p + xylen B i) × Front B u q j)
+        go true e = let f = crowded-found u (p + 1) (p + xylen B i) e in inr (f .0, f .1, omega (arith, f .2), f .3, f .4)
+        go false e = inl (record { at = h; only = λ q j a b f. crowded-none u (p + 1) (p + xylen B i) e q j (omega arith) f })
+
+    -- clean: document 01 looks behind X only, and nothing can begin before
+    pub clean-of-test : (u : Word) (i : ℕ) → i < length B → clean B u i ≡ true → Clean B u 0 i
+    unfolding clean
+    clean-of-test u i h e =
+        let r = simp and-eq-true-iff at e in
+        let f = front-of-test u 0 i h (r .0) in
+        record { at = f; only = λ q j a b g. let c = behind R f g a in crowded-none u (xlen B i + 1) (xylen B i) (not-true (crowded B u (xlen B i + 1) (xylen B i)) (r .1)) q j (omega arith) g }
+
+    pub test-of-clean : {u : Word} {i : ℕ} → Clean B u 0 i → clean B u i ≡ true
+    unfolding clean
+    test-of-clean {u} {i} h = simp and-eq-true-iff (test-of-head (h .at), ap not (false-of-not (crowded B u (xlen B i + 1) (xylen B i)) none))
+      where
+        none : crowded B u (xlen B i + 1) (xylen B i) ≡ true → ⊥
+        none e = let f = crowded-found u (xlen B i + 1) (xylen B i) e in h .only (f .0) (f .1) (omega (arith, f .2)) (omega (arith, f .3)) (f .4)
+
+    -- cleanFront: the one clean front, if there is one
+    pub cleanFront-clean : (u : Word) → cleanFront B u < length B → Clean B u 0 (cleanFront B u)
+    unfolding cleanFront
+    cleanFront-clean u h = clean-of-test u (cleanFront B u) h (least-passes (length B) (clean B u) h)
+
+    pub cleanFront-none : (u : Word) → (cleanFront B u < length B → ⊥) → (i : ℕ) → Clean B u 0 i → ⊥
+    unfolding cleanFront
+    cleanFront-none u h i c =
+        let b = least-bound (length B) (clean B u) in
+        let a = c .at in
+        true≢false (sym (test-of-clean c) ∙ least-first (length B) (clean B u) .none i (let t = a .there in by-cases (decLt (cleanFront B u) (length B)) (λ x. absurd (h x)) (λ x. omega arith)))
+
+    -- active: some XY begins in z t before the end of z
+    pub active-found : (z t : Word) → active B z t ≡ true → (d : ℕ) × (j : ℕ) × (d < length z) × Front B (z ++ t) d j
+    unfolding active
+    active-found z t e = let f = crowded-found (z ++ t) 0 (length z) e in (f .0, f .1, f .3, f .4)
+
+    pub active-none : (z t : Word) → active B z t ≡ false → (d j : ℕ) → d < length z → Front B (z ++ t) d j → ⊥
+    unfolding active
+    active-none z t e d j h f = crowded-none (z ++ t) 0 (length z) e d j (omega arith) f
+
+    pub active-of-front : (z t : Word) (d j : ℕ) → d < length z → Front B (z ++ t) d j → active B z t ≡ true
+    unfolding active
+    active-of-front z t d j h f = crowded-of-front 0 (length z) (omega arith) f

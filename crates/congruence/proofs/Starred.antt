@@ -1,0 +1,37 @@
+-- The starred bench cases of document 01 hold of the definitions, by computing them.
+use mathlib.Core.Path.{refl}
+use Rattle.words.specs.Search.{anyBelow, least, greatest}
+use Rattle.words.specs.Words.{front, commonEnd}
+use Rattle.overlap.specs.Cuts.{twin, pieceAt, three, loose, firstLoose, xlen, zlen}
+use Rattle.overlap.specs.Verdict.{judge, firstRepeated, repeated, sameWord}
+use Rattle.congruence.specs.Rows.{standsAt, crowded, clean, cleanFront, active, dropFirst, row3, row4, row5, row6, row7, row8, fromFront, round}
+use Rattle.congruence.specs.Rounds.{answerFrom}
+use Rattle.congruence.specs.Starred.{product, StarredHold}
+
+pub starred-hold : StarredHold
+unfolding product judge firstRepeated repeated sameWord firstLoose loose three pieceAt twin xlen zlen greatest least anyBelow front standsAt crowded clean cleanFront active dropFirst row3 row4 row5 row6 row7 row8 fromFront round answerFrom commonEnd
+starred-hold = (
+  (refl, tt),
+  (
+    (refl, tt),
+    (
+      (refl, (refl, refl, refl, (refl, refl, refl, tt))),
+      (
+        (refl, tt),
+        (
+          (refl, tt),
+          (
+            (refl, (refl, refl, refl, (refl, refl, refl, tt))),
+            (
+              (refl, refl),
+              (
+                (refl, refl),
+                (refl, (refl, (refl, (refl, (refl, (refl, (refl, tt))))))),
+              ),
+            ),
+          ),
+        ),
+      ),
+    ),
+  ),
+)

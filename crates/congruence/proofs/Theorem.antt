@@ -1,0 +1,87 @@
+-- The rows decide congruence, put together: that they end and how soon (Bound), what they say (RoundRight), and the allowance (Allowance).
+use Prim.Native.Nat.{ℕ, _≤_, _<_}
+use mathlib.Core.Bool.{Bool, true, false, true≢false, false≢true}
+use mathlib.Core.List.{List, []}
+use mathlib.Core.Logic.{_↔_}
+use mathlib.Core.Path.{_≡_, refl, sym, ap, _∙_, subst}
+use native.Mathlib.Omega.{arith}
+use Rattle.words.specs.Words.{Word}
+use Rattle.words.specs.Relations.{Relation, sides}
+use Rattle.overlap.specs.Pieces.{C4}
+use Rattle.overlap.proofs.Facts.{rigid-of-c4}
+use Rattle.congruence.specs.Congruence.{Congruent}
+use Rattle.congruence.specs.Rounds.{Rounds, Answer, ending, compareUnder}
+use Rattle.congruence.specs.Rounds.Answer.{same, different, spent}
+use Rattle.congruence.specs.Theorem.{Decided, RowsDecide, Reached, EndOfTail, TailThenRest, ComparisonShape}
+use Rattle.congruence.specs.Theorem.Reached.{begun, on}
+use Rattle.congruence.proofs.ShapeQuiet.{TailEnd, Cut4}
+use Rattle.congruence.proofs.ShapeQuiet.TailEnd.{void, endOf}
+use Rattle.congruence.proofs.ShapeRows.{Paired, sides-paired}
+use Rattle.congruence.proofs.Shape.{Tailed, Held, held-start, held-round}
+use Rattle.congruence.proofs.Bound.{RoundsOf, rounds-exist, rounds-unique, rounds-at-most}
+use Rattle.congruence.proofs.Allowance.{ended-iff, enough-of-ended, spent-iff}
+use Rattle.congruence.proofs.RoundRight.{rounds-right}
+
+module _ (B : List Word) (c : Cut4 B) (even : Paired B) (u v : Word) where
+  -- a result that both says and denies
+  says : {n : ℕ} (b : Bool) → Rounds B u v [] n b → ((b ≡ true) ↔ Congruent B u v) × ((b ≡ false) ↔ (¬ Congruent B u v))
+  says true r = let s = rounds-right c even r in (((λ e. s .0 e), (λ _. refl)), ((λ e. absurd (true≢false e)), (λ f. absurd (f (s .0 refl)))))
+  says false r = let s = rounds-right c even r in (((λ e. absurd (false≢true e)), (λ a. absurd (s .1 refl a))), ((λ e. s .1 e), (λ _. refl)))
+
+  -- the answer with a count, by the result
+  joined : {n : ℕ} (b : Bool) (r : Rounds B u v [] n b) (allowance : ℕ) → (compareUnder B allowance u v ≡ same n) ↔ ((n ≤ allowance) × Congruent B u v)
+  joined true r allowance =
+      let i = ended-iff r allowance in
+      let s = says true r .0 in
+      ((λ e. (i .0 e, s .0 refl)), (λ a. i .1 (a .0)))
+  joined {n} false r allowance =
+      let s = says false r .1 in
+      ((λ e. absurd (true≢false (enough-of-ended r allowance true n e .0))), (λ a. absurd (s .0 refl (a .1))))
+
+  parted : {n : ℕ} (b : Bool) (r : Rounds B u v [] n b) (allowance : ℕ) → (compareUnder B allowance u v ≡ different n) ↔ ((n ≤ allowance) × (¬ Congruent B u v))
+  parted {n} true r allowance =
+      let s = says true r .0 in
+      ((λ e. absurd (false≢true (enough-of-ended r allowance false n e .0))), (λ a. absurd (a .1 (s .0 refl))))
+  parted false r allowance =
+      let i = ended-iff r allowance in
+      let s = says false r .1 in
+      ((λ e. (i .0 e, s .0 refl)), (λ a. i .1 (a .0)))
+
+  pub decided : Decided B u v
+  decided =
+      let r = rounds-exist B c even u v in
+      let s = says (r .same) (r .rounds) in
+      record {
+        rounds = r .count;
+        result = r .same;
+        made = r .rounds;
+        only = λ n b d. rounds-unique d (r .rounds);
+        congruent = s .0;
+        apart = s .1;
+        bound = rounds-at-most B c even u v (r .count) (r .same) (r .rounds);
+        closer = (r .first, r .second);
+        spends = spent-iff (r .rounds);
+        joins = joined (r .same) (r .rounds);
+        parts = parted (r .same) (r .rounds);
+      }
+
+pub rows-decide : RowsDecide
+rows-decide relations c u v = decided (sides relations) (rigid-of-c4 (sides relations) c) (sides-paired relations) u v
+
+-- the shape, along the rounds
+held-reached : (B : List Word) → Cut4 B → Paired B → (u v : Word) {u₁ v₁ p₁ : Word} → Reached B u v u₁ v₁ p₁ → Held B u v u₁ v₁ p₁
+held-reached B c even u v begun = held-start B u v
+held-reached B c even u v (on {u₁ = u₁} {v₁ = v₁} {p₁ = p₁} {u₂ = u₂} {v₂ = v₂} {p₂ = p₂} r e) =
+    held-round B c u v u₁ v₁ p₁ u₂ v₂ p₂ (held-reached B c even u v r) even e
+
+end-of-tail : {B : List Word} {z : Word} → TailEnd B z → EndOfTail B z
+end-of-tail (void e) = EndOfTail.nothing e
+end-of-tail (endOf i n h e) = EndOfTail.of i n h e
+
+tail-then-rest : {B : List Word} {g w : Word} → Tailed B g w → TailThenRest B g w
+tail-then-rest t = record { tail = t .tail; from = t .from; ends = end-of-tail (t .ends); within = t .within; made = t .made }
+
+pub comparison-shape : ComparisonShape
+comparison-shape relations c u v u₁ v₁ p₁ r =
+    let h = held-reached (sides relations) (rigid-of-c4 (sides relations) c) (sides-paired relations) u v r in
+    (tail-then-rest (h .first), tail-then-rest (h .second), end-of-tail (h .mark))

@@ -1,0 +1,5 @@
+pub mod Congruence
+pub mod Rows
+pub mod Rounds
+pub mod Theorem
+pub mod Starred

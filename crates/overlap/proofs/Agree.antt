@@ -1,0 +1,172 @@
+-- The tests that compute agree with the definitions in words (document 003, section 1): pieces, products of fewer than four pieces, C(4).
+use Prim.Native.Nat.{ℕ, zero, suc, _+_, _-_, _≤_, _<_}
+use mathlib.Core.Bool.{Bool, true, false, _&&_, true≢false, and-eq-true-iff}
+use mathlib.Core.List.{List, [], _∷_, _++_, append-assoc}
+use mathlib.Core.Path.{_≡_, refl, sym, ap, _∙_, subst}
+use mathlib.Core.Logic.{by-cases, _↔_}
+use native.Mathlib.Omega.{arith}
+use native.Mathlib.Decide.{ℕ-discrete}
+use lib.Dec.{leb}
+use borrow.Author.Tests.{leb-true, le-leb}
+use lib.ListN.{length, take, drop, length-append}
+use Rattle.words.specs.Search.{anyBelow, least}
+use Rattle.words.specs.Words.{Word, front}
+use Rattle.words.proofs.Searching.{any-of, any-found, least-bound, least-passes, least-first, least-is, least-none}
+use Rattle.words.proofs.Fronts.{front-same, front-fits, same-front}
+use Rattle.overlap.specs.Pieces.{word, Occurs, IsPiece, empty, twice, IsProduct, C4}
+use Rattle.overlap.specs.Cuts.{len, pieceAt, three, loose, firstLoose}
+use Rattle.overlap.specs.Verdict.{FewPieces, Lowest}
+use Rattle.overlap.proofs.Places.{piece-of-test, test-of-piece, piece-part, length-segment}
+use Rattle.overlap.proofs.Occurrences.{occurs-segment, occurs-fits, occurs-same, occurs-of-same, is-piece-of-occurs, place-of-is-piece}
+use Rattle.overlap.proofs.Facts.{product-of-three}
+
+-- of a word that occurs, the test at that place says whether it is a piece
+pub pieceAt-iff-piece : (B : List Word) (w : Word) (i p : ℕ) → Occurs B w i p → pieceAt B i p (length w) ≡ true ↔ IsPiece B w
+pieceAt-iff-piece B w i p o =
+    (λ e. is-piece-of-occurs o (piece-of-test B i p (length w) (occurs-fits o) e), λ c. test-of-piece B i p (length w) (occurs-fits o) (place-of-is-piece o c))
+
+-- the same of a segment
+pub pieceAt-iff-segment-piece : (B : List Word) (i p n : ℕ) → i < length B → p + n ≤ len B i → pieceAt B i p n ≡ true ↔ IsPiece B (take n (drop p (word B i)))
+pieceAt-iff-segment-piece B i p n h f =
+    subst (λ m. pieceAt B i p m ≡ true ↔ IsPiece B (take n (drop p (word B i)))) (length-segment (word B i) p n f)
+    (pieceAt-iff-piece B (take n (drop p (word B i))) i p (occurs-segment B i p n h f))
+
+-- whether a word is a piece is decided
+pub decPiece : (B : List Word) (w : Word) → Dec (IsPiece B w)
+decPiece B [] = yes (empty refl)
+decPiece B (x ∷ w) = found (anyBelow (length B) hit) refl
+  where
+    at : ℕ → ℕ → Bool
+    at i p = front (x ∷ w) (drop p (word B i))
+
+    hit : ℕ → Bool
+    hit i = anyBelow (len B i) (at i)
+
+    occurs : (i p : ℕ) → i < length B → at i p ≡ true → Occurs B (x ∷ w) i p
+    occurs i p h e = occurs-of-same B (x ∷ w) i p h (front-fits (x ∷ w) (word B i) p (omega arith) e) (front-same (x ∷ w) (word B i) p e)
+
+    missed : (i p : ℕ) → Occurs B (x ∷ w) i p → anyBelow (length B) hit ≡ true
+    missed i p o =
+        let f = occurs-fits o in
+        any-of (length B) hit i (o .there) (any-of (len B i) (at i) p (omega arith) (same-front (x ∷ w) (word B i) p f (occurs-same o)))
+
+    tested : (i p : ℕ) → Occurs B (x ∷ w) i p → (t : Bool) → pieceAt B i p (length (x ∷ w)) ≡ t → Dec (IsPiece B (x ∷ w))
+    tested i p o true e = yes (pieceAt-iff-piece B (x ∷ w) i p o .0 e)
+    tested i p o false e = no (λ c. true≢false (sym (pieceAt-iff-piece B (x ∷ w) i p o .1 c) ∙ e))
+
+    found : (t : Bool) → anyBelow (length B) hit ≡ t → Dec (IsPiece B (x ∷ w))
+    found true e =
+        let f = any-found (length B) hit e in
+        let g = any-found (len B (f .0)) (at (f .0)) (f .2) in
+        tested (f .0) (g .0) (occurs (f .0) (g .0) (f .1) (g .2)) (pieceAt B (f .0) (g .0) (length (x ∷ w))) refl
+    found false e = no (none e)
+      where
+        none : anyBelow (length B) hit ≡ false → IsPiece B (x ∷ w) → ⊥
+        none e (empty z) = let l = ap length z in absurd (omega arith)
+        none e (twice i p j q o b d) = true≢false (sym (missed i p o) ∙ e)
+
+-- what the search for three parts finds
+pub three-found : (piece : ℕ → ℕ → Bool) (n : ℕ) → three piece n ≡ true
+    → (a : ℕ) × (b : ℕ) × (a ≤ b) × (b ≤ n) × (piece 0 a ≡ true) × (piece a (b - a) ≡ true) × (piece b (n - b) ≡ true)
+unfolding three
+three-found piece n e =
+    let f = any-found (n + 1) (λ a. piece 0 a && anyBelow (n + 1) (λ b. leb a b && (piece a (b - a) && piece b (n - b)))) e in
+    let a = f .0 in
+    let r = simp and-eq-true-iff at (f .2) in
+    let g = any-found (n + 1) (λ b. leb a b && (piece a (b - a) && piece b (n - b))) (r .1) in
+    let b = g .0 in
+    let s = simp and-eq-true-iff at (g .2) in
+    (a, b, leb-true a b (s .0), let l = g .1 in omega arith, r .0, s .1 .0, s .1 .1)
+
+pub three-of : (piece : ℕ → ℕ → Bool) (n a b : ℕ) → a ≤ b → b ≤ n → piece 0 a ≡ true → piece a (b - a) ≡ true → piece b (n - b) ≡ true → three piece n ≡ true
+unfolding three
+three-of piece n a b h k x y z =
+    any-of (n + 1) (λ a. piece 0 a && anyBelow (n + 1) (λ b. leb a b && (piece a (b - a) && piece b (n - b)))) a (omega arith)
+    (simp and-eq-true-iff (x, any-of (n + 1) (λ b. leb a b && (piece a (b - a) && piece b (n - b))) b (omega arith) (simp and-eq-true-iff (le-leb a b h, (y, z)))))
+
+-- a product of n pieces is one of more, since the empty word is a piece
+pub product-of-more : (B : List Word) (n d : ℕ) (w : Word) → IsProduct B n w → IsProduct B (d + n) w
+unfolding IsProduct
+product-of-more B n zero w h = let e : n ≡ zero + n = omega arith in subst (λ m. IsProduct B m w) e h
+product-of-more B n (suc d) w h = let e : suc (d + n) ≡ suc d + n = omega arith in subst (λ m. IsProduct B m w) e ([], w, refl, empty refl, product-of-more B n d w h)
+
+-- a relation word that is a product of three pieces passes the test
+loose-of-three : (B : List Word) (i : ℕ) → i < length B → IsProduct B 3 (word B i) → loose B i ≡ true
+unfolding IsProduct loose
+loose-of-three B i h (a, r, e, pa, (b, s, f, pb, (c, t, g, pc, z))) =
+    let oa : Occurs B a i 0 = record { there = h; before = []; after = r; split = e; place = refl } in
+    let ob : Occurs B b i (length a) = record { there = h; before = a; after = s; split = cc (e, f); place = refl } in
+    let oc : Occurs B c i (length a + length b) =
+    record { there = h; before = a ++ b; after = t; split = cc (e, f, g, append-assoc a b (c ++ t)); place = length-append a b } in
+    let la = occurs-fits oc in
+    let l : len B i ≡ length a + length b + length c = let k = ap length z in
+    let x = simp length-append at (ap length e) in let y = simp length-append at (ap length f) in let w = simp length-append at (ap length g) in omega arith in
+    three-of (pieceAt B i) (len B i) (length a) (length a + length b) (omega arith) (omega arith)
+    (test-of-piece B i 0 (length a) (omega arith) (place-of-is-piece oa pa))
+    (test-of-piece B i (length a) (length a + length b - length a) (omega arith) (piece-part (place-of-is-piece ob pb) (omega arith)))
+    (test-of-piece B i (length a + length b) (len B i - (length a + length b)) (omega arith) (piece-part (place-of-is-piece oc pc) (omega arith)))
+
+-- the test `loose` says whether the relation word is a product of fewer than four pieces
+pub loose-iff-few-pieces : (B : List Word) (i : ℕ) → i < length B → loose B i ≡ true ↔ FewPieces 4 B i
+unfolding loose
+loose-iff-few-pieces B i h = (some, test)
+  where
+    some : loose B i ≡ true → FewPieces 4 B i
+    some e =
+        let (a, b, ab, bl, x, y, z) = three-found (pieceAt B i) (len B i) e in (
+          3,
+          omega arith,
+          product-of-three B i a b h ab bl
+              (piece-of-test B i 0 a (omega arith) x) (piece-of-test B i a (b - a) (omega arith) y) (piece-of-test B i b (len B i - b) (omega arith) z),
+        )
+
+    test : FewPieces 4 B i → loose B i ≡ true
+    test (n, l, c) = let e : 3 - n + n ≡ 3 = omega arith in loose-of-three B i h (subst (λ m. IsProduct B m (word B i)) e (product-of-more B n (3 - n) (word B i) c))
+
+-- a bounded search gives the lowest number with the property that its test decides
+pub least-iff-lowest : (n : ℕ) (test : ℕ → Bool) (P : ℕ → Type 0) → ((k : ℕ) → k < n → test k ≡ true ↔ P k) → (i : ℕ) → i < n → least n test ≡ i ↔ Lowest n P i
+least-iff-lowest n test P r i h = (there, back)
+  where
+    there : least n test ≡ i → Lowest n P i
+    there e =
+        record {
+          below = h;
+          holds = r i h .0 (subst (λ m. test m ≡ true) e (least-passes n test (omega arith)));
+          none = λ k l c. true≢false (sym (r k (omega arith) .1 c) ∙ least-first n test .none k (omega arith));
+        }
+
+    back : Lowest n P i → least n test ≡ i
+    back w = least-is n test i h (record { none = λ k l. go k l (test k) refl }) (r i h .1 (w .holds))
+      where
+        go : (k : ℕ) → k < i → (t : Bool) → test k ≡ t → t ≡ false
+        go k l true e = absurd (w .none k l (r k (omega arith) .0 e))
+        go k l false e = refl
+
+-- it gives the bound exactly when no number has the property
+pub least-iff-none : (n : ℕ) (test : ℕ → Bool) (P : ℕ → Type 0) → ((k : ℕ) → k < n → test k ≡ true ↔ P k) → least n test ≡ n ↔ ((k : ℕ) → k < n → ¬ P k)
+least-iff-none n test P r =
+    (λ e k h c. true≢false (sym (r k h .1 c) ∙ least-first n test .none k (omega arith)), λ f. least-none n test (record { none = λ k h. go k h f (test k) refl }))
+  where
+    go : (k : ℕ) → k < n → ((k : ℕ) → k < n → ¬ P k) → (t : Bool) → test k ≡ t → t ≡ false
+    go k h f true e = absurd (f k h (r k h .0 e))
+    go k h f false e = refl
+
+-- `firstLoose` is the lowest relation word that is a product of fewer than four pieces
+pub firstLoose-iff-lowest : (B : List Word) (i : ℕ) → i < length B → firstLoose B ≡ i ↔ Lowest (length B) (FewPieces 4 B) i
+unfolding firstLoose
+firstLoose-iff-lowest B i h = least-iff-lowest (length B) (loose B) (FewPieces 4 B) (loose-iff-few-pieces B) i h
+
+pub firstLoose-bound : (B : List Word) → firstLoose B ≤ length B
+unfolding firstLoose
+firstLoose-bound B = least-bound (length B) (loose B)
+
+-- there is none exactly when C(4) holds
+pub firstLoose-iff-c4 : (B : List Word) → firstLoose B ≡ length B ↔ C4 B
+unfolding firstLoose
+firstLoose-iff-c4 B =
+    let r = least-iff-none (length B) (loose B) (FewPieces 4 B) (loose-iff-few-pieces B) in
+    (λ e i n h l c. r .0 e i h (n, l, c), λ c. r .1 (λ i h f. c i (f .0) h (f .1) (f .2)))
+
+-- whether C(4) holds is decided
+pub decC4 : (B : List Word) → Dec (C4 B)
+decC4 B = by-cases (ℕ-discrete (firstLoose B) (length B)) (λ e. yes (firstLoose-iff-c4 B .0 e)) (λ e. no (λ c. e (firstLoose-iff-c4 B .1 c)))

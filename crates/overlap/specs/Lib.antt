@@ -1,0 +1,5 @@
+pub mod Pieces
+pub mod Cuts
+pub mod Maximal
+pub mod Verdict
+pub mod Theorems

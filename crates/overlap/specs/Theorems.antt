@@ -1,0 +1,45 @@
+-- What is shown of pieces, C(4) and cuts, each as one statement: the tests that compute agree with the definitions in words (document 003, section 1).
+use Prim.Native.Nat.{ℕ, _+_, _<_, _≤_}
+use mathlib.Core.Bool.{true}
+use mathlib.Core.List.{List, _++_}
+use mathlib.Core.Logic.{_↔_}
+use mathlib.Core.Path.{_≡_}
+use lib.ListN.{length, take, drop}
+use Rattle.words.specs.Words.{Word, front}
+use Rattle.overlap.specs.Pieces.{word, Occurs, IsPiece, C4}
+use Rattle.overlap.specs.Cuts.{len, pieceAt, xOf, xyOf, zOf}
+use Rattle.overlap.specs.Maximal.{MaximalPiecePrefix, MaximalPieceSuffix, yOf}
+use Rattle.overlap.specs.Verdict.{Verdict, judge, RightVerdict}
+
+-- the test for a piece is true exactly of pieces
+abbrev pub TestsPieces : Type 0
+TestsPieces = (B : List Word) (i p n : ℕ) → i < length B → p + n ≤ len B i → (pieceAt B i p n ≡ true) ↔ IsPiece B (take n (drop p (word B i)))
+
+-- the verdict that is computed is the right one, and no other is
+abbrev pub VerdictsRight : Type 0
+VerdictsRight = (B : List Word) (v : Verdict) → (judge B ≡ v) ↔ RightVerdict B v
+
+-- a presentation is accepted exactly when it meets C(4)
+abbrev pub AcceptsC4 : Type 0
+AcceptsC4 = (B : List Word) → (judge B ≡ Verdict.accepted) ↔ C4 B
+
+-- X is the maximal piece prefix of its relation word, and Z the maximal piece suffix
+abbrev pub CutsMaximal : Type 0
+CutsMaximal = (B : List Word) (i : ℕ) → i < length B → MaximalPiecePrefix B i (xOf B i) × MaximalPieceSuffix B i (zOf B i)
+
+-- what a cut is like under C(4)
+pub record GoodCut (B : List Word) (i : ℕ) : Type 0 where
+  pub whole : xOf B i ++ (yOf B i ++ zOf B i) ≡ word B i
+  pub some : 0 < length (yOf B i)
+  pub middle : ¬ IsPiece B (yOf B i)
+  pub once : (j p : ℕ) → Occurs B (xyOf B i) j p → (i ≡ j) × (p ≡ 0)
+  pub fronts : (a : Word) → front a (word B i) ≡ true → IsPiece B a → front a (xOf B i) ≡ true
+
+-- Y is not empty and no piece, XY occurs nowhere else, and a piece that is a front of a relation word is a front of its X
+abbrev pub CutsGood : Type 0
+CutsGood = (B : List Word) → C4 B → (i : ℕ) → i < length B → GoodCut B i
+
+-- a factor of a piece is a piece, and more relation words make no fewer pieces
+pub record PiecesClosed : Type 0 where
+  pub factors : (B : List Word) (a w b : Word) → IsPiece B (a ++ (w ++ b)) → IsPiece B w
+  pub more : (A B C : List Word) (w : Word) → IsPiece B w → IsPiece (A ++ (B ++ C)) w

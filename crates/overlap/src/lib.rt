@@ -1,0 +1,33 @@
+// Pieces, C(4) and cuts: definitions and laws, with no code under them (document 003, section 1).
+// What is shown of them is the contracts of functions that do nothing, so that it is found here and the check holds it fast.
+ghost use Rattle.overlap.specs.Theorems.{TestsPieces, VerdictsRight, AcceptsC4, CutsMaximal, CutsGood, PiecesClosed};
+
+// The test for a piece is true exactly of pieces.
+pub fn test_is_for_pieces()
+    ensures { λ _. ⌜ TestsPieces ⌝ }
+{}
+
+// The verdict that is computed is the right one.
+pub fn verdict_is_right()
+    ensures { λ _. ⌜ VerdictsRight ⌝ }
+{}
+
+// A presentation is accepted exactly when it meets C(4).
+pub fn accepted_is_c4()
+    ensures { λ _. ⌜ AcceptsC4 ⌝ }
+{}
+
+// X is the maximal piece prefix, and Z the maximal piece suffix.
+pub fn cuts_are_maximal()
+    ensures { λ _. ⌜ CutsMaximal ⌝ }
+{}
+
+// Under C(4), Y is not empty and no piece, XY occurs nowhere else, and a piece in front is in X.
+pub fn cuts_are_good()
+    ensures { λ _. ⌜ CutsGood ⌝ }
+{}
+
+// A factor of a piece is a piece, and more relation words make no fewer pieces.
+pub fn pieces_are_closed()
+    ensures { λ _. ⌜ PiecesClosed ⌝ }
+{}

@@ -1,0 +1,35 @@
+-- Words: lists of letters, a letter being a number (document 01: runs, of steps).
+use Prim.Native.Nat.{ℕ, suc, _-_, min}
+use mathlib.Core.Bool.{Bool, true, false, _&&_, cond}
+use mathlib.Core.List.{List, [], _∷_}
+use lib.Dec.{eqb}
+use lib.ListN.{length, drop}
+use Rattle.words.specs.Search.{greatest}
+
+abbrev pub Word : Type 0
+Word = List ℕ
+
+-- the word has no letter
+abbrev pub isEmpty : Word → Bool
+isEmpty [] = true
+isEmpty (x ∷ u) = false
+
+-- the first word is a prefix of the second (document 01: a front)
+unfoldable pub front : Word → Word → Bool
+front [] u = true
+front (x ∷ a) [] = false
+front (x ∷ a) (y ∷ u) = eqb x y && front a u
+
+-- the length of the longest common prefix
+unfoldable pub common : Word → Word → ℕ
+common [] u = 0
+common (x ∷ a) [] = 0
+common (x ∷ a) (y ∷ u) = cond (eqb x y) (suc (common a u)) 0
+
+-- the last n letters
+abbrev pub lastLetters : ℕ → Word → Word
+lastLetters n u = drop (length u - n) u
+
+-- the length of the longest common suffix (document 01: common end)
+unfoldable pub commonEnd : Word → Word → ℕ
+commonEnd a b = greatest (min (length a) (length b)) (λ n. front (lastLetters n a) (lastLetters n b))

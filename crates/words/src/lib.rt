@@ -1,0 +1,1 @@
+// Words over numbers: definitions and laws, with no code.
