@@ -1,0 +1,167 @@
+-- Reading the bytes of relations within the limits gives them back.
+use Prim.Native.Nat.{ℕ, zero, suc, _+_, _*_, _-_, _/_, _%_, _≤_, _<_}
+use mathlib.Core.Bool.{Bool, true, false, _||_, not, cond}
+use mathlib.Core.List.{List, [], _∷_, _++_, append-assoc, append-nil}
+use mathlib.Core.Path.{_≡_, refl, sym, ap, _∙_, subst}
+use native.Mathlib.Omega.{arith}
+use lib.Dec.{eqb, leb, ltb}
+use lib.ListN.{length, getD, take, drop, length-append}
+use lib.Seq.{getD-append-add, drop-append-add, take-append-seam, drop-append-seam, take-at, drop-at, take-all, drop-drop}
+use borrow.Author.Tests.{eq-eqb, lt-ltb, le-ltb, le-leb, lt-leb}
+use Rattle.words.specs.Words.{Word}
+use Rattle.words.specs.Relations.{Relation}
+use Rattle.format.specs.declared.Record.{Record}
+use Rattle.format.specs.declared.Record.the-variants.{Whole, CutOff}
+use Rattle.format.specs.declared.Reading.{Reading}
+use Rattle.format.specs.declared.Reading.the-variants.{Read, Refused}
+use Rattle.format.specs.Limits.{headKind, relationKind, lettersMost, relationsMost, sideMost, outside}
+use Rattle.format.specs.Book.{BookReading, read, refused, byte, field, between, recordAt, onWhole, differs, firstUnknown, unknownIn, headAt, fieldsAt, relationAt, relationIn, onRead, relationsFrom, readBook}
+use Rattle.format.specs.Bytes.{fieldBytes, recordBytes, headBytes, relationBytes, relationsBytes, bookBytes, WordWithin, RelationWithin, AllWithin, none, more, Within, ReadBytes}
+use Rattle.format.proofs.Readings.{of-known}
+
+-- a check that passes
+same-passes : (m n : ℕ) → m ≡ n → differs m n ≡ false
+same-passes m n e = rw (eq-eqb m n e)
+
+inside-passes : (least most x : ℕ) → least ≤ x → x ≤ most → outside least most x ≡ false
+inside-passes least most x h k = rw (le-ltb x least h, le-ltb most x k)
+
+-- the bytes of a record, behind others, are read back
+module _ (pre : List ℕ) (kind : ℕ) (payload rest book : List ℕ) (e : book ≡ pre ++ (recordBytes kind payload ++ rest)) where
+  byte-at : (i : ℕ) → byte book (length pre + i) ≡ byte (recordBytes kind payload ++ rest) i
+  byte-at i = rw e (getD-append-add pre (recordBytes kind payload ++ rest) i 0)
+
+  length-field : field book (length pre) ≡ length payload
+  length-field =
+      let z : length pre ≡ length pre + 0 = omega arith in
+      let a : byte book (length pre) ≡ length payload % 256 = ap (byte book) z ∙ byte-at 0 in
+      let b : byte book (length pre + 1) ≡ length payload / 256 = byte-at 1 in
+      omega arith
+
+  kind-field : field book (length pre + 2) ≡ kind
+  kind-field =
+      let z : length pre + 2 + 1 ≡ length pre + 3 = omega arith in
+      let a : byte book (length pre + 2) ≡ kind % 256 = byte-at 2 in
+      let b : byte book (length pre + 2 + 1) ≡ kind / 256 = ap (byte book) z ∙ byte-at 3 in
+      omega arith
+
+  record-length : length book ≡ length pre + 4 + length payload + length rest
+  record-length = rw (e, length-append pre (recordBytes kind payload ++ rest), length-append payload rest) (omega arith)
+
+  pub record-there : recordAt book (length pre) ≡ Whole kind (length pre + 4) (length pre + 4 + length payload)
+  unfolding recordAt
+  record-there =
+      let l = record-length in
+      rw (length-field, kind-field, le-ltb (length book) (length pre + 4) (omega arith), le-ltb (length book) (length pre + 4 + length payload) (omega arith))
+
+  pub payload-at : (i : ℕ) → byte book (length pre + 4 + i) ≡ byte (payload ++ rest) i
+  payload-at i = ap (byte book) (omega arith) ∙ byte-at (suc (suc (suc (suc i))))
+
+  -- a part of the payload
+  pub payload-part : (i n : ℕ) (a b : List ℕ) → n ≡ length a → drop i (payload ++ rest) ≡ a ++ b → between book (length pre + 4 + i) (length pre + 4 + i + n) ≡ a
+  payload-part i n a b l f =
+      let z : length pre + 4 + i + n - (length pre + 4 + i) ≡ n = omega arith in
+      let y : length pre + 4 + i ≡ length pre + suc (suc (suc (suc i))) = omega arith in
+      let d : drop (length pre + 4 + i) book ≡ a ++ b = rw (y, e) (drop-append-add pre (recordBytes kind payload ++ rest) (suc (suc (suc (suc i)))) ∙ f) in
+      rw (z, d) (take-at a b n (sym l))
+
+-- a word with no unknown letter before another
+unknown-append : (letters : ℕ) (u v : Word) → firstUnknown letters u ≡ length u → firstUnknown letters v ≡ length v → firstUnknown letters (u ++ v) ≡ length (u ++ v)
+unfolding firstUnknown
+unknown-append letters [] v e f = f
+unknown-append letters (x ∷ u) v e f = go (ltb x letters) refl e (λ g. unknown-append letters u v g f)
+  where
+    go : (b : Bool) → ltb x letters ≡ b → cond b (suc (firstUnknown letters u)) 0 ≡ suc (length u)
+        → (firstUnknown letters u ≡ length u → firstUnknown letters (u ++ v) ≡ length (u ++ v))
+        → cond (ltb x letters) (suc (firstUnknown letters (u ++ v))) 0 ≡ suc (length (u ++ v))
+    go true q e k = rw q (ap suc (k (omega arith)))
+    go false q e k = absurd (omega arith)
+
+-- a relation within the limits, behind other bytes, is read back
+module _ (letters count : ℕ) (r : Relation) (w : RelationWithin letters r) (pre rest book : List ℕ) (e : book ≡ pre ++ (relationBytes r ++ rest)) where
+  abbrev payload : List ℕ
+  payload = length (r .left) ∷ length (r .right) ∷ (r .left ++ r .right)
+
+  left-byte : byte book (length pre + 4) ≡ length (r .left)
+  left-byte = ap (byte book) (omega arith) ∙ payload-at pre 2 payload rest book e 0
+
+  right-byte : byte book (length pre + 4 + 1) ≡ length (r .right)
+  right-byte = payload-at pre 2 payload rest book e 1
+
+  letters-part : between book (length pre + 4 + 2) (length pre + 4 + length payload) ≡ r .left ++ r .right
+  letters-part =
+      let z : length pre + 4 + length payload ≡ length pre + 4 + 2 + length (r .left ++ r .right) = omega arith in
+      rw z (payload-part pre 2 payload rest book e 2 (length (r .left ++ r .right)) (r .left ++ r .right) rest refl refl)
+
+  letters-known : unknownIn letters (between book (length pre + 4 + 2) (length pre + 4 + length payload)) ≡ false
+  letters-known =
+      let k = unknown-append letters (r .left) (r .right) (of-known letters (r .left) (w .left .known)) (of-known letters (r .right) (w .right .known)) in
+      rw letters-part (le-ltb (firstUnknown letters (r .left ++ r .right)) (length (r .left ++ r .right)) (omega arith))
+
+  fields-there : fieldsAt letters book (length pre) (length pre + 4) (length pre + 4 + length payload) ≡ Read (length (r .left)) (length pre + 4 + length payload)
+  unfolding fieldsAt
+  fields-there =
+      let l = length-append (r .left) (r .right) in
+      let a : differs (length pre + 4 + length payload - (length pre + 4)) (2 + length (r .left) + length (r .right)) ≡ false
+      = same-passes (length pre + 4 + length payload - (length pre + 4)) (2 + length (r .left) + length (r .right)) (omega arith) in
+      rw (
+        left-byte,
+        right-byte,
+        a,
+        inside-passes 1 64 (length (r .left)) (omega (arith, w .left .some)) (omega (arith, w .left .short)),
+        inside-passes 1 64 (length (r .right)) (omega (arith, w .right .some)) (omega (arith, w .right .short)),
+        letters-known,
+      )
+
+  pub relation-there : count < relationsMost → relationAt letters count book (length pre) ≡ Read (length (r .left)) (length pre + 4 + length payload)
+  unfolding relationAt
+  relation-there h = rw (record-there pre 2 payload rest book e, lt-leb 32 count h) fields-there
+
+  pub relation-same : relationIn book (length pre) (length (r .left)) (length pre + 4 + length payload) ≡ r
+  relation-same =
+      let l = length-append (r .left) (r .right) in
+      let z : length pre + 4 + length payload ≡ length pre + 4 + suc (suc (length (r .left))) + length (r .right) = omega arith in
+      let x : length pre + 6 ≡ length pre + 4 + 2 = omega arith in
+      let y : length pre + 6 + length (r .left) ≡ length pre + 4 + suc (suc (length (r .left))) = omega arith in
+      let f : drop 2 (payload ++ rest) ≡ r .left ++ (r .right ++ rest) = append-assoc (r .left) (r .right) rest in
+      let g : drop (suc (suc (length (r .left)))) (payload ++ rest) ≡ r .right ++ rest
+      = rw (append-assoc (r .left) (r .right) rest) (drop-append-seam (r .left) (r .right ++ rest)) in
+      let a : between book (length pre + 6) (length pre + 6 + length (r .left)) ≡ r .left
+      = rw x (payload-part pre 2 payload rest book e 2 (length (r .left)) (r .left) (r .right ++ rest) refl f) in
+      let b : between book (length pre + 6 + length (r .left)) (length pre + 4 + length payload) ≡ r .right
+      = rw (y, z) (payload-part pre 2 payload rest book e (suc (suc (length (r .left)))) (length (r .right)) (r .right) rest refl g) in
+      rw (a, b)
+
+-- so are all relations, behind others
+from-bytes : (letters fuel : ℕ) (done rs : List Relation) (pre book : List ℕ) → AllWithin letters rs → length done + length rs ≤ relationsMost
+    → book ≡ pre ++ relationsBytes rs → length (relationsBytes rs) ≤ fuel → relationsFrom fuel letters done book (length pre) ≡ read letters (done ++ rs)
+unfolding relationsFrom relationsBytes
+from-bytes letters zero done [] pre book none h e f = rw append-nil
+from-bytes letters (suc fuel) done [] pre book none h e f =
+    let l : length book ≡ length pre = rw (e, append-nil) in
+    rw (le-leb (length book) (length pre) (omega arith), append-nil)
+from-bytes letters zero done (r ∷ rs) pre book (more w all) h e f = absurd (omega arith)
+from-bytes letters (suc fuel) done (r ∷ rs) pre book (more w all) h e f =
+    let a = relation-there letters (length done) r w pre (relationsBytes rs) book e (omega arith) in
+    let b = relation-same letters (length done) r w pre (relationsBytes rs) book e in
+    let l : length book ≡ length pre + (length (relationBytes r) + length (relationsBytes rs)) = rw (e, length-append pre (relationBytes r ++ relationsBytes rs), length-append (relationBytes r) (relationsBytes rs)) in
+    let q : length pre + 4 + suc (suc (length (r .left ++ r .right))) ≡ length (pre ++ relationBytes r) = rw (length-append pre (relationBytes r)) (omega arith) in
+    let g : length (relationBytes r ++ relationsBytes rs) ≡ length (relationBytes r) + length (relationsBytes rs) = length-append (relationBytes r) (relationsBytes rs) in
+    let c = from-bytes letters fuel (done ++ (r ∷ [])) rs (pre ++ relationBytes r) book all (simp length-append (omega arith)) (e ∙ sym (append-assoc pre (relationBytes r) (relationsBytes rs))) (omega arith) in
+    rw (lt-leb (length book) (length pre) (omega arith), a, b, q) (c ∙ ap (read letters) (append-assoc done (r ∷ []) rs))
+
+-- the head
+head-there : (letters : ℕ) (rest book : List ℕ) → 1 ≤ letters → letters ≤ lettersMost → book ≡ headBytes letters ++ rest → headAt lettersMost book 0 ≡ Read letters 5
+unfolding headAt
+head-there letters rest book h k e =
+    let a = record-there [] 1 (letters ∷ []) rest book e in
+    let b : byte book 4 ≡ letters = payload-at [] 1 (letters ∷ []) rest book e 0 in
+    rw (a, b, inside-passes 1 64 letters h k)
+
+pub read-bytes : ReadBytes
+unfolding readBook bookBytes
+read-bytes letters relations w =
+    let book = bookBytes letters relations in
+    let a = head-there letters (relationsBytes relations) book (w .some) (w .few) refl in
+    let b = from-bytes letters (length book) [] relations (headBytes letters) book (w .all) (omega arith) refl (omega arith) in
+    rw a b

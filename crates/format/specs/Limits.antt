@@ -1,0 +1,129 @@
+-- The limits (document 01, "Fixed amounts"), for the definitions: each is proved equal to the constant of the code that names it, and what the constructors answer.
+use Prim.Native.Nat.{ℕ, _<_}
+use mathlib.Core.Bool.{Bool, _||_, cond}
+use mathlib.Core.Path.{_≡_}
+use lib.Dec.{ltb}
+use Rattle.format.specs.declared.MadeHead.{MadeHead}
+use Rattle.format.specs.declared.MadeHead.the-variants as Heads
+use Rattle.format.specs.declared.MadeRelation.{MadeRelation}
+use Rattle.format.specs.declared.MadeRelation.the-variants as Relations
+use Rattle.format.specs.declared.MadeWord.{MadeWord}
+use Rattle.format.specs.declared.MadeWord.the-variants as Words
+use Rattle.format.specs.declared.MadeInput.{MadeInput}
+use Rattle.format.specs.declared.MadeInput.the-variants as Inputs
+
+-- the kinds of records: head, relation, comparison
+abbrev pub headKind : ℕ
+headKind = 1
+
+abbrev pub relationKind : ℕ
+relationKind = 2
+
+abbrev pub comparisonKind : ℕ
+comparisonKind = 3
+
+-- the bytes of a record's length and kind
+abbrev pub recordPrefix : ℕ
+recordPrefix = 4
+
+-- the bytes of a head's payload, and those before the letters of a relation and of a comparison
+abbrev pub headLength : ℕ
+headLength = 1
+
+abbrev pub relationLength : ℕ
+relationLength = 2
+
+abbrev pub comparisonLength : ℕ
+comparisonLength = 8
+
+-- A, the number of letters, is at most
+abbrev pub lettersMost : ℕ
+lettersMost = 64
+
+-- relations (document 01: rules) are at most
+abbrev pub relationsMost : ℕ
+relationsMost = 32
+
+-- the letters of a relation word (document 01: steps of a side) are at most
+abbrev pub sideMost : ℕ
+sideMost = 64
+
+-- the letters of a compared word are at most
+abbrev pub comparedMost : ℕ
+comparedMost = 4096
+
+-- the letters of a word given to a single round are at most
+abbrev pub roundMost : ℕ
+roundMost = 4160
+
+-- the room of a round's next word
+abbrev pub nextRoom : ℕ
+nextRoom = 4224
+
+-- the letters of a front mark, and the room of the next one
+abbrev pub markMost : ℕ
+markMost = 64
+
+-- the step of the places of refusals 9 and 10
+abbrev pub placeStep : ℕ
+placeStep = 5000
+
+-- the bytes of the program's input are at most
+abbrev pub inputMost : ℕ
+inputMost = 60000
+
+-- the number is below the least or above the most
+abbrev pub outside : ℕ → ℕ → ℕ → Bool
+outside least most x = ltb x least || ltb most x
+
+-- what the constructors of the code answer
+unfoldable pub headOf : ℕ → MadeHead
+headOf letters = cond (outside 1 lettersMost letters) Heads.Range (Heads.Good (record { letters = letters }))
+
+unfoldable pub relationOf : ℕ → ℕ → MadeRelation
+relationOf left right =
+    cond (outside 1 sideMost left || outside 1 sideMost right) Relations.Range (Relations.Good (record { left = left; right = right }))
+
+unfoldable pub wordOf : ℕ → ℕ → MadeWord
+wordOf most length = cond (ltb most length) Words.Long (Words.Good (record { length = length }))
+
+unfoldable pub inputOf : ℕ → MadeInput
+inputOf length = cond (ltb inputMost length) Inputs.Heavy (Inputs.Good (record { length = length }))
+
+-- r is the byte x
+pub record Widened (x r : ℕ) : Type 0 where
+  pub same : r ≡ x
+  pub small : r < 256
+
+-- the constants of a head are the numbers above
+pub record HeadTied (kind length letters : ℕ) : Type 0 where
+  pub kinds : kind ≡ headKind
+  pub payload : length ≡ headLength
+  pub most : letters ≡ lettersMost
+
+-- those of a relation
+pub record RelationTied (kind length most letters : ℕ) : Type 0 where
+  pub kinds : kind ≡ relationKind
+  pub payload : length ≡ relationLength
+  pub relations : most ≡ relationsMost
+  pub sides : letters ≡ sideMost
+
+-- the arrays that hold the relation words have the lengths that their layout writes again: 64 words in a text of 4,160, 257 positions in a table of 450
+pub record LayoutTied (words text positions table : ℕ) : Type 0 where
+  pub words64 : words ≡ 64
+  pub text4160 : text ≡ 4160
+  pub positions257 : positions ≡ 257
+  pub table450 : table ≡ 450
+
+-- those of a comparison
+pub record ComparisonTied (kind length compared step : ℕ) : Type 0 where
+  pub kinds : kind ≡ comparisonKind
+  pub payload : length ≡ comparisonLength
+  pub most : compared ≡ comparedMost
+  pub places : step ≡ placeStep
+
+-- those of a round
+pub record RoundTied (round next mark : ℕ) : Type 0 where
+  pub words : round ≡ roundMost
+  pub room : next ≡ nextRoom
+  pub marks : mark ≡ markMost

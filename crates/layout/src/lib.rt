@@ -1,0 +1,1 @@
+// How relation words lie in arrays: definitions, with no code.

@@ -1,0 +1,270 @@
+-- One relation word more: what a word and its fence in the text, and two numbers in the table, make of the words laid before.
+use Prim.Native.Nat.{ℕ, zero, suc, _+_, _*_, _-_, _≤_, _<_, min}
+use mathlib.Core.List.{List, [], _∷_, _++_, append-assoc}
+use mathlib.Core.Path.{_≡_, refl, sym, ap, _∙_, subst, subst₂}
+use mathlib.Core.Logic.{by-cases}
+use native.Mathlib.Omega.{arith}
+use native.Mathlib.Numerals.{add-one}
+use native.Mathlib.Decide.{decLt, ℕ-discrete}
+use borrow.Author.Needs.{needs}
+use lib.ListN.{length, getD, take, drop, set, length-append, length-take, length-drop, length-set, List·getD-append}
+use lib.Seq.{length-take-le, getD-take, getD-drop, getD-append-add, getD-set-same, getD-set-other, ext-getD, drop-cons, set-at, take-at, drop-at, paste, paste-zero, paste-suc, length-paste, length-paste-head, take-length}
+use mir.Syntax.{w8, w16}
+use mir.Val.{Fits}
+use Rattle.words.specs.Words.{Word}
+use Rattle.layout.specs.Layout.{startOf, endOf, part, wordsIn, Laid}
+use Rattle.reader.specs.Laying.{written, Arrays, Room, Appended}
+
+-- words laid one after the other take at most 65 places each
+pub start-bound : (text table : List ℕ) (n : ℕ) → Laid text table n → (i : ℕ) → i ≤ n → startOf table i ≤ 65 * i
+start-bound text table n l zero h = omega (arith, l .first)
+start-bound text table n l (suc i) h =
+    let a = start-bound text table n l i (omega arith) in
+    let b : startOf table (suc i) ≡ endOf table i + 1 = ap (startOf table) (sym (add-one i)) ∙ l .next i (omega arith) in
+    let c = l .short i (omega arith) in
+    omega arith
+
+-- each ends before a later one starts
+pub end-before : (text table : List ℕ) (n : ℕ) → Laid text table n → (i d : ℕ) → i + suc d ≤ n → endOf table i < startOf table (i + suc d)
+end-before text table n l i zero h = omega (arith, l .next i (omega arith))
+end-before text table n l i (suc d) h =
+    let a = end-before text table n l i d (omega arith) in
+    let e : startOf table (i + suc (suc d)) ≡ endOf table (i + suc d) + 1 = ap (startOf table) (omega arith) ∙ l .next (i + suc d) (omega arith) in
+    let b = l .some (i + suc d) (omega arith) in
+    omega arith
+
+-- a word and its fence, by position
+module _ (word : Word) (fence at : ℕ) (text : List ℕ) (h : at + length word < length text) where
+  head-long : length (take at text) ≡ at
+  head-long = length-take-le at text (omega arith)
+
+  pub written-length : length (written word fence at text) ≡ length text
+  written-length =
+      let a = head-long in
+      let b = length-append (take at text) (word ++ (fence ∷ drop (at + length word + 1) text)) in
+      let c = length-append word (fence ∷ drop (at + length word + 1) text) in
+      let d = length-drop (at + length word + 1) text in
+      omega arith
+
+  pub written-before : (q : ℕ) → q < at → getD (written word fence at text) q 0 ≡ getD text q 0
+  written-before q l =
+      let a = head-long in
+      List·getD-append (take at text) (word ++ (fence ∷ drop (at + length word + 1) text)) 0 q (omega arith) ∙ getD-take at text q 0 l
+
+  written-from : (k : ℕ) → getD (written word fence at text) (at + k) 0 ≡ getD (word ++ (fence ∷ drop (at + length word + 1) text)) k 0
+  written-from k =
+      ap (λ (n : ℕ). getD (written word fence at text) (n + k) 0) (sym head-long)
+      ∙ getD-append-add (take at text) (word ++ (fence ∷ drop (at + length word + 1) text)) k 0
+
+  pub written-in : (k : ℕ) → k < length word → getD (written word fence at text) (at + k) 0 ≡ getD word k 0
+  written-in k l = written-from k ∙ List·getD-append word (fence ∷ drop (at + length word + 1) text) 0 k l
+
+  pub written-fence : getD (written word fence at text) (at + length word) 0 ≡ fence
+  written-fence =
+      let z : length word ≡ length word + 0 = omega arith in
+      written-from (length word)
+      ∙ ap (λ (n : ℕ). getD (word ++ (fence ∷ drop (at + length word + 1) text)) n 0) z
+      ∙ getD-append-add word (fence ∷ drop (at + length word + 1) text) 0 0
+
+-- parts of two texts that agree are the same
+same-part : (text text′ : List ℕ) (a b : ℕ) → length text′ ≡ length text → ((q : ℕ) → a ≤ q → q < b → getD text′ q 0 ≡ getD text q 0) → part text′ a b ≡ part text a b
+same-part text text′ a b e f =
+    let l : length (part text′ a b) ≡ length (part text a b) = simp (length-take, length-drop) (rw e) in
+    ext-getD 0 (part text′ a b) (part text a b) l
+    (λ k h.
+    let g : k < b - a = omega (arith, length-take (b - a) (drop a text′), length-drop a text′) in
+    getD-take (b - a) (drop a text′) k 0 g ∙ getD-drop a text′ k 0 ∙ f (a + k) (omega arith) (omega arith)
+    ∙ sym (getD-take (b - a) (drop a text) k 0 g ∙ getD-drop a text k 0))
+
+-- the same starts, ends and letters give the same words
+same-words : (text table text′ table′ : List ℕ) (n : ℕ) → length text′ ≡ length text
+    → ((j : ℕ) → j < n → (startOf table′ j ≡ startOf table j) × (endOf table′ j ≡ endOf table j))
+    → ((j q : ℕ) → j < n → startOf table j ≤ q → q < endOf table j → getD text′ q 0 ≡ getD text q 0) → wordsIn text′ table′ n ≡ wordsIn text table n
+unfolding wordsIn
+same-words text table text′ table′ zero e p f = refl
+same-words text table text′ table′ (suc n) e p f =
+    let r = same-words text table text′ table′ n e (λ j h. p j (omega arith)) (λ j q h. f j q (omega arith)) in
+    let t = p n (omega arith) in
+    let s = same-part text text′ (startOf table n) (endOf table n) e (λ q. f n q (omega arith)) in
+    rw (r, t .0, t .1, s)
+
+-- the word's end and the next start in the table
+abbrev pub tabled : ℕ → ℕ → List ℕ → List ℕ
+tabled i end table = set (set table (4 * i + 3) end) (4 * i + 4) (end + 1)
+
+module _ (i end : ℕ) (table : List ℕ) (h : 4 * i + 4 < length table) where
+  pub tabled-before : (q : ℕ) → q < 4 * i + 3 → getD (tabled i end table) q 0 ≡ getD table q 0
+  tabled-before q l =
+      getD-set-other (set table (4 * i + 3) end) (4 * i + 4) q (end + 1) 0 (λ e. omega arith)
+      ∙ getD-set-other table (4 * i + 3) q end 0 (λ e. omega arith)
+
+  pub tabled-end : endOf (tabled i end table) i ≡ end
+  tabled-end =
+      getD-set-other (set table (4 * i + 3) end) (4 * i + 4) (4 * i + 3) (end + 1) 0 (λ e. omega arith)
+      ∙ getD-set-same table (4 * i + 3) end 0 (omega arith)
+
+  pub tabled-next : startOf (tabled i end table) (i + 1) ≡ end + 1
+  tabled-next =
+      let z : 4 * (i + 1) ≡ 4 * i + 4 = omega arith in
+      rw z (getD-set-same (set table (4 * i + 3) end) (4 * i + 4) (end + 1) 0 (simp length-set (omega arith)))
+
+  pub tabled-length : length (tabled i end table) ≡ length table
+  tabled-length = simp length-set
+
+-- one word more
+module _ (word text table : List ℕ) (i : ℕ) (r : Room word text table i) where
+  abbrev start : ℕ
+  start = startOf table i
+
+  abbrev end : ℕ
+  end = startOf table i + length word
+
+  abbrev text′ : List ℕ
+  text′ = written word (64 + i) start text
+
+  abbrev table′ : List ℕ
+  table′ = tabled i end table
+
+  pub start-low : start ≤ 4095
+  start-low = let b = start-bound text table i (r .laid) i (omega arith) in omega (arith, r .more)
+
+  fits : start + length word < length text
+  fits = omega (arith, start-low, r .short, r .arrays .text4160)
+
+  inside : 4 * i + 4 < length table
+  inside = omega (arith, r .more, r .arrays .table450)
+
+  -- the words before keep their starts, ends and letters
+  start-kept : (j : ℕ) → j ≤ i → startOf table′ j ≡ startOf table j
+  start-kept j h = tabled-before i end table inside (4 * j) (omega arith)
+
+  end-kept : (j : ℕ) → j < i → endOf table′ j ≡ endOf table j
+  end-kept j h = tabled-before i end table inside (4 * j + 3) (omega arith)
+
+  end-low : (j : ℕ) → j < i → endOf table j < start
+  end-low j h =
+      let z : j + suc (i - suc j) ≡ i = omega arith in
+      subst (λ (n : ℕ). endOf table j < startOf table n) z (end-before text table i (r .laid) j (i - suc j) (omega arith))
+
+  letter-kept : (q : ℕ) → q < start → getD text′ q 0 ≡ getD text q 0
+  letter-kept q h = written-before word (64 + i) start text fits q h
+
+  -- what holds of the words before and of the new one
+  upto : (P : ℕ → Type 0) → ((j : ℕ) → j < i → P j) → P i → (j : ℕ) → j < i + 1 → P j
+  upto P f p j h = by-cases (decLt j i) (λ a. f j a) (λ a. subst P (omega arith) p)
+
+  word-there : part text′ start end ≡ word
+  word-there =
+      let z : end - start ≡ length word = omega arith in
+      rw (z, drop-at (take start text) (word ++ ((64 + i) ∷ drop (end + 1) text)) start (head-long word (64 + i) start text fits))
+      (take-at word ((64 + i) ∷ drop (end + 1) text) (length word) refl)
+
+  pub words-appended : wordsIn text′ table′ (i + 1) ≡ wordsIn text table i ++ (word ∷ [])
+  unfolding wordsIn
+  words-appended =
+      let a = same-words text table text′ table′ i (written-length word (64 + i) start text fits) (λ j h. (start-kept j (omega arith), end-kept j h))
+      (λ j q h lo hi. letter-kept q (omega (arith, end-low j h))) in
+      rw (add-one i, a, start-kept i (omega arith), tabled-end i end table inside, word-there)
+
+  pub laid-appended : Laid text′ table′ (i + 1)
+  laid-appended =
+      record {
+        few = omega (arith, r .more);
+        room = omega (arith, tabled-length i end table inside, r .more, r .arrays .table450);
+        inside = rw (tabled-next i end table inside, written-length word (64 + i) start text fits) (omega (arith, fits));
+        first = start-kept 0 (omega arith) ∙ r .laid .first;
+        next = upto (λ j. startOf table′ (j + 1) ≡ endOf table′ j + 1)
+            (λ j h. start-kept (j + 1) (omega arith) ∙ r .laid .next j h ∙ ap (λ n. n + 1) (sym (end-kept j h)))
+            (tabled-next i end table inside ∙ ap (λ n. n + 1) (sym (tabled-end i end table inside)));
+        some = upto (λ j. startOf table′ j < endOf table′ j)
+            (λ j h. rw (start-kept j (omega arith), end-kept j h) (r .laid .some j h))
+            (rw (start-kept i (omega arith), tabled-end i end table inside) (omega (arith, r .some)));
+        short = upto (λ j. endOf table′ j ≤ startOf table′ j + 64)
+            (λ j h. rw (start-kept j (omega arith), end-kept j h) (r .laid .short j h))
+            (rw (start-kept i (omega arith), tabled-end i end table inside) (omega (arith, r .short)));
+        letters = λ j q h. upto (λ j. startOf table′ j ≤ q → q < endOf table′ j → getD text′ q 0 < 64)
+            (λ j h. rw (start-kept j (omega arith), end-kept j h) (λ lo hi. rw (letter-kept q (omega (arith, end-low j h))) (r .laid .letters j q h lo hi)))
+            (rw (start-kept i (omega arith), tabled-end i end table inside) (λ lo hi.
+            let z : q ≡ start + (q - start) = omega arith in
+            let e : getD text′ q 0 ≡ getD word (q - start) 0
+            = ap (λ n. getD text′ n 0) z ∙ written-in word (64 + i) start text fits (q - start) (omega arith) in
+            rw e (r .known (q - start) (omega arith))))
+            j h;
+        fence = upto (λ j. getD text′ (endOf table′ j) 0 ≡ 64 + j)
+            (λ j h. rw (end-kept j h) (letter-kept (endOf table j) (end-low j h) ∙ r .laid .fence j h))
+            (rw (tabled-end i end table inside) (written-fence word (64 + i) start text fits));
+      }
+
+  pub appended : Appended word text table i text′ table′
+  appended =
+      record {
+        laid = laid-appended;
+        words = words-appended;
+        textLong = written-length word (64 + i) start text fits;
+        tableLong = tabled-length i end table inside;
+      }
+
+-- i letters of the word are written
+pub record Copied (word text : List ℕ) (at i : ℕ) (b : List ℕ) : Type 0 where
+  pub within : i ≤ length word
+  pub room : at + length word < length text
+  pub same : b ≡ paste text at word i
+  pub long : length b ≡ length text
+
+module _ (word text : List ℕ) (at : ℕ) where
+  pub copied-start : at + length word < length text → Copied word text at 0 text
+  copied-start h = record { within = omega arith; room = h; same = paste-zero text at word; long = refl }
+
+  module _ (i : ℕ) (b : List ℕ) (c : Copied word text at i b) where
+    pub copied-more : i < length word → Copied word text at (i + 1) (set b (at + i) (getD word i 0))
+    copied-more h =
+        record {
+          within = omega arith;
+          room = c .room;
+          same = rw (c .same, add-one i) (paste-suc text at word i 0 (omega (arith, c .room)) h);
+          long = rw length-set (c .long);
+        }
+
+    pub copied-end : (fence : ℕ) → length word ≤ i → set b (at + i) fence ≡ written word fence at text
+    copied-end fence h =
+        let r = c .room in
+        let z : i ≡ length word = omega arith in
+        let l = length-paste-head text at word (length word) (omega arith) (omega arith) in
+        let s : at + length word + 1 ≡ suc (at + length word) = omega arith in
+        rw (c .same, z, drop-cons text (at + length word) 0 r, take-length, s)
+        (set-at (take at text ++ word) (getD text (at + length word) 0) (drop (suc (at + length word)) text) fence (at + length word) (rw take-length at l)
+        ∙ append-assoc (take at text) word (fence ∷ drop (suc (at + length word)) text))
+
+pub ruleset copies = (copied-start, copied-more, copied-end, needs)
+
+-- what the code asks before it lays a word
+module _ (word text table : List ℕ) (i : ℕ) (r : Room word text table i) (s : ℕ) (e : s ≡ getD table (4 * i) 0) where
+  pub room-text : s + length word < length text
+  room-text = omega (arith, start-low word text table i r, r .short, r .arrays .text4160)
+
+  pub room-start : Fits w16 s
+  room-start = omega (arith, start-low word text table i r)
+
+  pub room-end : Fits w16 (s + length word)
+  room-end = omega (arith, start-low word text table i r, r .short)
+
+  pub room-next : Fits w16 (s + length word + 1)
+  room-next = omega (arith, start-low word text table i r, r .short)
+
+  pub room-appended : (b : List ℕ) → b ≡ written word (64 + i) s text
+      → Appended word text table i b (set (set table (4 * i + 3) (s + length word)) (4 * i + 4) (s + length word + 1))
+  room-appended b f = rw (f, e) (appended word text table i r)
+
+pub room-fence : (word text table : List ℕ) (i : ℕ) → Room word text table i → Fits w8 (64 + i)
+room-fence word text table i r = omega (arith, r .more)
+
+pub room-read : (word text table : List ℕ) (i : ℕ) → Room word text table i → 4 * i < length table
+room-read word text table i r = omega (arith, r .more, r .arrays .table450)
+
+pub room-write : (word text table : List ℕ) (i : ℕ) → Room word text table i → 4 * i + 3 < length table
+room-write word text table i r = omega (arith, r .more, r .arrays .table450)
+
+pub room-write-next : (word text table : List ℕ) (i v : ℕ) → Room word text table i → 4 * i + 4 < length (set table (4 * i + 3) v)
+room-write-next word text table i v r = simp length-set (omega (arith, r .more, r .arrays .table450))
+
+pub ruleset rooms = (room-text, room-start, room-end, room-next, room-appended, room-fence, room-read, room-write, room-write-next, needs)

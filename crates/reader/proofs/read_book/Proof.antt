@@ -1,0 +1,39 @@
+use borrow.Author.Needs.{needs}
+use Prim.Native.Nat.{_-_, _+_}
+use lib.ListN.{length}
+use Rattle.reader.proofs.Books.{Going, going-end, goings}
+use Rattle.reader.proofs.read_book.Statement.{statement}
+use Rattle.reader.proofs.read_book.Tie as tie
+
+abbrev Inv-loop : tie.InvT-loop
+Inv-loop book text₀ table₀ letters first at₀ count₀ text table at count = Going book text₀ letters at count text table
+
+abbrev μ-loop : tie.MeasureT-loop
+μ-loop book text₀ table₀ letters first at₀ count₀ text table at count = length book - at
+
+pub read-book-spec : {M : Type 1} → statement M
+read-book-spec =
+    tie.close
+    (tie.spec
+    Inv-loop
+    μ-loop
+    (λ c κs. search goings)
+    (λ c. search goings)
+    (λ c. search goings)
+    (λ c. search goings)
+    (λ c. search goings)
+    (λ c. search goings)
+    (λ c κs. search goings)
+    (λ c. search goings)
+    (λ c. search goings)
+    (λ c. search goings)
+    (λ c. search goings)
+    (λ c. search goings)
+    (λ c κs. search goings)
+    (λ c κs. search goings)
+    (λ c. search goings)
+    (λ c. search goings)
+    (λ c. search goings)
+    (λ c. search goings)
+    (λ c. search goings)
+    (λ c. going-end _ _ _ _ _ _ _ (c .before .loop .inv) _ (search needs) (search needs)))
