@@ -1,0 +1,37 @@
+-- The relation word whose X and Y stand at a place: there is one just where the rows say that some stand there.
+use Prim.Native.Nat.{ℕ, _+_, _-_, _≤_, _<_}
+use mathlib.Core.Bool.{Bool, true, false}
+use mathlib.Core.List.{List}
+use mathlib.Core.Path.{_≡_, refl, sym, ap, _∙_}
+use mathlib.Core.Logic.{by-cases}
+use native.Mathlib.Omega.{arith}
+use native.Mathlib.Decide.{decLt}
+use lib.Dec.{ltb}
+use borrow.Author.Tests.{lt-ltb, le-ltb, ltb-true}
+use lib.ListN.{length, drop}
+use Rattle.words.specs.Search.{anyBelow, least}
+use Rattle.words.specs.Words.{Word, front}
+use Rattle.words.proofs.Searching.{any-of, any-none, least-bound, least-passes, least-first}
+use Rattle.overlap.specs.Cuts.{xyOf}
+use Rattle.congruence.specs.Rows.{standsAt}
+use Rattle.index.specs.Index.{frontAt}
+
+pub any-least : (n : ℕ) (p : ℕ → Bool) → anyBelow n p ≡ ltb (least n p) n
+any-least n p =
+    let b = least-bound n p in
+    by-cases (decLt (least n p) n)
+    (λ h. any-of n p (least n p) h (least-passes n p h) ∙ sym (lt-ltb (least n p) n h))
+    (λ h. any-none n p (λ k l. least-first n p .none k (omega arith)) ∙ sym (le-ltb (least n p) n (omega arith)))
+
+pub stands-front : (B : List Word) (w : Word) (q : ℕ) → standsAt B w q ≡ ltb (frontAt B w q) (length B)
+unfolding standsAt frontAt
+stands-front B w q = any-least (length B) (λ j. front (xyOf B j) (drop q w))
+
+-- what is found stands there
+pub front-stands : (B : List Word) (w : Word) (q : ℕ) → frontAt B w q < length B → front (xyOf B (frontAt B w q)) (drop q w) ≡ true
+unfolding frontAt
+front-stands B w q h = least-passes (length B) (λ j. front (xyOf B j) (drop q w)) h
+
+pub front-bound : (B : List Word) (w : Word) (q : ℕ) → frontAt B w q ≤ length B
+unfolding frontAt
+front-bound B w q = least-bound (length B) (λ j. front (xyOf B j) (drop q w))

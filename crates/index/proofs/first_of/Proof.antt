@@ -1,0 +1,14 @@
+use Rattle.index.proofs.Seeking.{firsts}
+use Rattle.index.proofs.first_of.Statement.{statement}
+use Rattle.index.proofs.first_of.Tie as tie
+
+pub first-of-spec : {M : Type 1} → statement M
+first-of-spec =
+    tie.close
+    (tie.spec
+    (λ c κs. search firsts)
+    (λ c. search firsts)
+    (λ c. search firsts)
+    (λ c. search firsts)
+    (λ c κs. search firsts)
+    (λ c. search firsts))

@@ -1,0 +1,148 @@
+-- The lowest relation word that equals an earlier one (document 01, refusal 7): the loops, and a law for each way on.
+use Prim.Native.Nat.{ℕ, _+_, _<_, _≤_}
+use mathlib.Core.Bool.{Bool, true, false}
+use mathlib.Core.List.{List}
+use mathlib.Core.Logic.{by-cases}
+use mathlib.Core.Path.{_≡_, sym, _∙_, subst}
+use native.Mathlib.Omega.{arith}
+use native.Mathlib.Decide.{decLt}
+use borrow.Author.Needs.{needs}
+use borrow.Author.Tests.{eq-eqb, ne-eqb}
+use lib.ListN.{length, getD}
+use Rattle.words.specs.Search.{least}
+use Rattle.words.specs.Words.{Word, front}
+use Rattle.words.proofs.Fronts.{front-at, at-front}
+use Rattle.words.proofs.Searching.{NoneBelow, none-start, none-more, none-all, any-of, least-is, least-none}
+use Rattle.overlap.specs.Pieces.{word}
+use Rattle.overlap.specs.Verdict.{sameWord, repeated, firstRepeated}
+use Rattle.layout.specs.Layout.{Laid, wordsIn, part, startOf, endOf}
+use Rattle.pieces.specs.Judging.{Lying, BothLying, AllLying, sameParts, repeatedIn}
+use Rattle.pieces.proofs.Fences.{false-of, words-length, word-there, end-inside}
+use Rattle.pieces.proofs.Lowest.{any-same, least-same}
+
+-- the letters of two words
+
+pub record Agreeing (u v : Word) (k : ℕ) : Type 0 where
+  pub long : length u ≡ length v
+  pub upto : k ≤ length u
+  pub same : (j : ℕ) → j < k → getD u j 0 ≡ getD v j 0
+
+pub agree-start : (u v : Word) → length u ≡ length v → Agreeing u v 0
+agree-start u v e = record { long = e; upto = omega arith; same = λ j h. absurd (omega (arith, h)) }
+
+module _ (u v : Word) (k : ℕ) (s : Agreeing u v k) where
+  pub agree-more : k < length u → getD u k 0 ≡ getD v k 0 → Agreeing u v (k + 1)
+  agree-more h e =
+      record {
+        long = s .long;
+        upto = omega (arith, h);
+        same = λ j l. by-cases (decLt j k) (λ a. s .same j a) (λ a. subst (λ (i : ℕ). getD u i 0 ≡ getD v i 0) (omega (arith, a, l)) e);
+      }
+
+  pub agree-differ : k < length u → (getD u k 0 ≡ getD v k 0 → ⊥) → false ≡ front u v
+  agree-differ h e = sym (false-of (front u v) (λ t. e (front-at u v t k h)))
+
+  pub agree-end : length u ≤ k → true ≡ front u v
+  agree-end h = let l = s .long in sym (at-front u v (omega (arith, l)) (λ j i. s .same j (omega (arith, h, i))))
+
+pub ruleset agreeing = (agree-start, agree-more, agree-differ, agree-end, needs)
+
+module _ (u v : Word) where
+  pub equal-letters : (r : Bool) → length u ≡ length v → r ≡ front u v → r ≡ sameWord u v
+  unfolding sameWord
+  equal-letters r e d = rw (eq-eqb (length u) (length v) e) d
+
+  pub unequal-lengths : (length u ≡ length v → ⊥) → false ≡ sameWord u v
+  unfolding sameWord
+  unequal-lengths e = rw (ne-eqb (length u) (length v) e)
+
+pub ruleset equals = (equal-letters, unequal-lengths, needs)
+
+-- two words of the text
+module _ (text table : List ℕ) (i : ℕ) (f : Lying text table i) (s e : ℕ) (d : s ≡ startOf table i) (g : e ≡ endOf table i) where
+  pub lying-up : s ≤ e
+  lying-up = let u = f .upwards in omega (arith, d, g, u)
+
+  pub lying-inside : e ≤ length text
+  lying-inside = let u = f .inside in omega (arith, g, u)
+
+pub parts-equal : (text table : List ℕ) (i j a b c d : ℕ) (r : Bool) → a ≡ startOf table j → b ≡ endOf table j → c ≡ startOf table i → d ≡ endOf table i
+    → r ≡ sameWord (part text a b) (part text c d) → r ≡ sameParts text table i j
+parts-equal text table i j a b c d r e₁ e₂ e₃ e₄ h = h ∙ rw (e₁, e₂, e₃, e₄)
+
+pub ruleset equalities = (lying-up, lying-inside, parts-equal, needs)
+
+-- the loop over the earlier words
+
+pub record Comparing (text table : List ℕ) (i j : ℕ) : Type 0 where
+  pub lying : AllLying text table (i + 1)
+  pub upto : j ≤ i
+  pub none : NoneBelow (sameParts text table i) j
+
+pub compare-start : (text table : List ℕ) (i : ℕ) → AllLying text table (i + 1) → Comparing text table i 0
+compare-start text table i f = record { lying = f; upto = omega arith; none = none-start _ }
+
+module _ (text table : List ℕ) (i j : ℕ) (s : Comparing text table i j) where
+  pub compare-lying : j < i → BothLying text table j i
+  compare-lying h = record { one = s .lying .each j (omega (arith, h)); other = s .lying .each i (omega arith) }
+
+  module _ (h : j < i) (r : Bool) (e : r ≡ sameParts text table i j) where
+    pub compare-more : r ≡ false → Comparing text table i (j + 1)
+    compare-more t = record { lying = s .lying; upto = omega (arith, h); none = none-more _ j (s .none) (sym e ∙ t) }
+
+    pub compare-found : r ≡ true → true ≡ repeatedIn text table i
+    unfolding repeatedIn
+    compare-found t = sym (any-of i (sameParts text table i) j h (sym e ∙ t))
+
+  pub compare-end : i ≤ j → false ≡ repeatedIn text table i
+  unfolding repeatedIn
+  compare-end h =
+      let e : j ≡ i = omega (arith, h, s .upto) in
+      sym (none-all (sameParts text table i) i (subst (λ (k : ℕ). NoneBelow (sameParts text table i) k) e (s .none)))
+
+pub ruleset comparing = (compare-start, compare-lying, compare-more, compare-found, compare-end, needs)
+
+-- the loop over the words
+
+pub repeated-there : (text table : List ℕ) (n i : ℕ) → i < n → repeatedIn text table i ≡ repeated (wordsIn text table n) i
+unfolding repeatedIn repeated
+repeated-there text table n i h =
+    any-same i _ _ (λ j l. rw (word-there text table n i h, word-there text table n j (omega (arith, l, h))))
+
+pub record Recalling (text table : List ℕ) (n i : ℕ) : Type 0 where
+  pub laid : Laid text table n
+  pub upto : i ≤ n
+  pub none : NoneBelow (repeatedIn text table) i
+
+pub recall-start : (text table : List ℕ) (n : ℕ) → Laid text table n → Recalling text table n 0
+recall-start text table n f = record { laid = f; upto = omega arith; none = none-start _ }
+
+module _ (text table : List ℕ) (n i : ℕ) (s : Recalling text table n i) where
+  lowest-there : least n (repeatedIn text table) ≡ firstRepeated (wordsIn text table n)
+  unfolding firstRepeated
+  lowest-there = rw (words-length text table n) (least-same n (repeatedIn text table) (repeated (wordsIn text table n)) (repeated-there text table n))
+
+  pub recall-lying : i < n → AllLying text table (i + 1)
+  recall-lying h = record {
+    each = λ k l.
+        let f = s .laid in
+        let e = end-inside text table n f k (omega (arith, h, l)) in
+        let u = f .some k (omega (arith, h, l)) in
+        let r = f .room in
+        let t = f .inside in
+        record { room = omega (arith, l, h, r); upwards = omega (arith, u); inside = omega (arith, e, t) };
+  }
+
+  module _ (h : i < n) (r : Bool) (e : r ≡ repeatedIn text table i) where
+    pub recall-more : r ≡ false → Recalling text table n (i + 1)
+    recall-more t = record { laid = s .laid; upto = omega (arith, h); none = none-more _ i (s .none) (sym e ∙ t) }
+
+    pub recall-found : r ≡ true → i ≡ firstRepeated (wordsIn text table n)
+    recall-found t = sym (least-is n (repeatedIn text table) i h (s .none) (sym e ∙ t)) ∙ lowest-there
+
+  pub recall-end : n ≤ i → i ≡ firstRepeated (wordsIn text table n)
+  recall-end h =
+      let e : i ≡ n = omega (arith, h, s .upto) in
+      e ∙ sym (least-none n (repeatedIn text table) (subst (λ (k : ℕ). NoneBelow (repeatedIn text table) k) e (s .none))) ∙ lowest-there
+
+pub ruleset recalling = (recall-start, recall-lying, recall-more, recall-found, recall-end, needs)

@@ -1,0 +1,188 @@
+-- The verdict on the relation words of a text: refusal 7, refusal 8, or the cuts.
+use Prim.Native.Nat.{ℕ, zero, suc, _-_, _<_, _≤_}
+use mathlib.Core.List.{List, [], _∷_}
+use mathlib.Core.Path.{_≡_, refl, sym, ap, _∙_, subst}
+use native.Mathlib.Omega.{arith}
+use native.Mathlib.Nat.{sub-zero, zero-sub, suc-sub-suc}
+use borrow.Author.Needs.{needs}
+use borrow.Author.Tests.{lt-ltb, le-ltb}
+use lib.ListN.{length, take, drop, replicate, length-replicate}
+use lib.Seq.{getD-take, take-take, take-nil, length-take-le}
+use Rattle.overlap.specs.Pieces.{C4}
+use Rattle.overlap.specs.Cuts.{firstLoose}
+use Rattle.overlap.specs.Verdict.{judge, firstRepeated}
+use Rattle.overlap.specs.Verdict.Verdict.{twice, loose}
+use Rattle.overlap.proofs.Verdicts.{judge-accepts-iff-c4}
+use Rattle.layout.specs.Layout.{Laid, Cut, wordsIn, part, startOf, endOf}
+use Rattle.pieces.specs.declared.Judged.{Judged}
+use Rattle.pieces.specs.declared.Judged.the-variants.{Accepted, Repeated, Loose}
+use Rattle.pieces.specs.Judging.{Fenced, AllPlaced, Measurable, Measured, CutBy, Recut, Judging, verdictOf, looseVerdict}
+use Rattle.pieces.proofs.Fences.{words-length, end-inside}
+use Rattle.pieces.proofs.Lowest.{all-placed}
+use Rattle.pieces.proofs.Cutting.{cut-true, words-kept, laid-kept}
+
+-- the answers have different names
+said : Judged → ℕ
+said Accepted = 0
+said (Repeated i) = 1
+said (Loose i) = 2
+
+accepted-not-repeated : {A : Type 0} {i : ℕ} → Accepted ≡ Repeated i → A
+unfolding said
+accepted-not-repeated e = let d = ap said e in absurd (omega (arith, d))
+
+accepted-not-loose : {A : Type 0} {i : ℕ} → Accepted ≡ Loose i → A
+unfolding said
+accepted-not-loose e = let d = ap said e in absurd (omega (arith, d))
+
+-- a text that ends with its last fence
+module _ (text table : List ℕ) (n : ℕ) (f : Fenced text table n) where
+  pub whole-measurable : Measurable text table n (replicate 4160 0)
+  whole-measurable = let l = length-replicate {A = ℕ} 4160 0 in record { fenced = f; room = omega (arith, l) }
+
+  module _ (longest : List ℕ) (r : ℕ) (m : Measured text table n longest r) where
+    pub whole-placed : AllPlaced longest table n
+    whole-placed = all-placed text table longest n f (m .tabled)
+
+    pub whole-loose : r < n → Judging (looseVerdict (wordsIn text table n)) text table n table (Loose r)
+    unfolding looseVerdict verdictOf
+    whole-loose h =
+        let e = m .lowest in
+        let l = words-length text table n in
+        let t = lt-ltb (firstLoose (wordsIn text table n)) (length (wordsIn text table n)) (omega (arith, e, l, h)) in
+        record {
+          verdict = rw t (ap loose e);
+          cuts = λ d. accepted-not-loose (sym d);
+          repeats = λ i d. refl;
+          looses = λ i d. refl;
+        }
+
+    pub whole-cut : n ≤ r → (after : List ℕ) → CutBy longest table n after → Judging (looseVerdict (wordsIn text table n)) text table n after Accepted
+    unfolding looseVerdict verdictOf
+    whole-cut h after c =
+        let e = m .lowest in
+        let l = words-length text table n in
+        let t = le-ltb (firstLoose (wordsIn text table n)) (length (wordsIn text table n)) (omega (arith, e, l, h)) in
+        record {
+          verdict = rw t refl;
+          cuts = λ d. record { kept = c .kept; cut = cut-true text table longest after n f (m .tabled) c };
+          repeats = λ i d. accepted-not-repeated d;
+          looses = λ i d. accepted-not-loose d;
+        }
+
+pub ruleset wholes = (whole-measurable, whole-placed, whole-loose, whole-cut, needs)
+
+-- the text as far as the last fence
+
+drop-take : (a t : ℕ) (l : List ℕ) → drop a (take t l) ≡ take (t - a) (drop a l)
+drop-take zero t l = rw (sub-zero t)
+drop-take (suc a) zero l = rw (zero-sub (suc a))
+drop-take (suc a) (suc t) [] = sym (take-nil (suc t - suc a))
+drop-take (suc a) (suc t) (x ∷ l) = rw (suc-sub-suc t a) (drop-take a t l)
+
+part-take : (text : List ℕ) (t a b : ℕ) → b ≤ t → part (take t text) a b ≡ part text a b
+part-take text t a b h = rw (drop-take a t text) (take-take (b - a) (t - a) (drop a text) (omega (arith, h)))
+
+words-take : (text table : List ℕ) (t m : ℕ) → ((i : ℕ) → i < m → endOf table i ≤ t) → wordsIn (take t text) table m ≡ wordsIn text table m
+unfolding wordsIn
+words-take text table t zero h = refl
+words-take text table t (suc m) h =
+    rw (words-take text table t m (λ i l. h i (omega (arith, l))), part-take text t (startOf table m) (endOf table m) (h m (omega arith)))
+
+module _ (text table : List ℕ) (n : ℕ) (f : Laid text table n) (t : ℕ) (e : t ≡ startOf table n) where
+  pub front-inside : t ≤ length text
+  front-inside = let k = f .inside in omega (arith, e, k)
+
+  pub front-long : t ≡ length (take t text)
+  front-long = sym (length-take-le t text front-inside)
+
+  pub front-fenced : Fenced (take t text) table n
+  front-fenced =
+      record {
+        laid = record {
+          few = f .few;
+          room = f .room;
+          inside = let l = front-long in omega (arith, e, l);
+          first = f .first;
+          next = f .next;
+          some = f .some;
+          short = f .short;
+          letters = λ i q h l u. let k = end-inside text table n f i h in rw (getD-take t text q 0 (omega (arith, u, k, e))) (f .letters i q h l u);
+          fence = λ i h. let k = end-inside text table n f i h in getD-take t text (endOf table i) 0 (omega (arith, k, e)) ∙ f .fence i h;
+        };
+        whole = sym front-long ∙ e;
+      }
+
+  ends-before : (i : ℕ) → i < n → endOf table i ≤ t
+  ends-before i h = let k = end-inside text table n f i h in omega (arith, k, e)
+
+  front-words : wordsIn (take t text) table n ≡ wordsIn text table n
+  front-words = words-take text table t n ends-before
+
+  front-recut : (after : List ℕ) → Recut (take t text) table n after → Recut text table n after
+  front-recut after r =
+      let k = r .kept in
+      let w = words-take text after t n (λ i h. let a = ends-before i h in let b = k .ends i in omega (arith, a, b)) in
+      let c = r .cut in
+      record { kept = k; cut = record { xEnd = λ i h. rw w at (c .xEnd i h); zStart = λ i h. rw w at (c .zStart i h) } }
+
+  pub front-judged : (after : List ℕ) (r : Judged) → Judging (looseVerdict (wordsIn (take t text) table n)) (take t text) table n after r
+      → Judging (looseVerdict (wordsIn text table n)) text table n after r
+  front-judged after r j =
+      record {
+        verdict = rw (← front-words) (j .verdict);
+        cuts = λ d. front-recut after (j .cuts d);
+        repeats = j .repeats;
+        looses = j .looses;
+      }
+
+pub ruleset fronts = (front-inside, front-long, front-fenced, front-judged, needs)
+
+-- refusal 7 comes first
+module _ (text table : List ℕ) (n r : ℕ) (e : r ≡ firstRepeated (wordsIn text table n)) where
+  pub judge-repeated : r < n → Judging (judge (wordsIn text table n)) text table n table (Repeated r)
+  unfolding judge verdictOf
+  judge-repeated h =
+      let l = words-length text table n in
+      let t = lt-ltb (firstRepeated (wordsIn text table n)) (length (wordsIn text table n)) (omega (arith, e, l, h)) in
+      record {
+        verdict = rw t (ap twice e);
+        cuts = λ d. accepted-not-repeated (sym d);
+        repeats = λ i d. refl;
+        looses = λ i d. refl;
+      }
+
+  pub judge-distinct : n ≤ r → (after : List ℕ) (a : Judged) → Judging (looseVerdict (wordsIn text table n)) text table n after a
+      → Judging (judge (wordsIn text table n)) text table n after a
+  unfolding judge looseVerdict
+  judge-distinct h after a j =
+      let l = words-length text table n in
+      let t = le-ltb (firstRepeated (wordsIn text table n)) (length (wordsIn text table n)) (omega (arith, e, l, h)) in
+      record { verdict = rw t (j .verdict); cuts = j .cuts; repeats = j .repeats; looses = j .looses }
+
+pub ruleset judging = (judge-repeated, judge-distinct, needs)
+
+-- what each answer says of the relation words, and of the table that it leaves
+module _ (text table : List ℕ) (n : ℕ) (after : List ℕ) (r : Judged) (j : Judging (judge (wordsIn text table n)) text table n after r) where
+  pub answer-verdict : (a : Judged) → r ≡ a → judge (wordsIn text table n) ≡ verdictOf a
+  answer-verdict a e = sym (j .verdict) ∙ ap verdictOf e
+
+  pub repeated-kept : (i : ℕ) → r ≡ Repeated i → after ≡ table
+  repeated-kept i e = j .repeats i e
+
+  pub loose-kept : (i : ℕ) → r ≡ Loose i → after ≡ table
+  loose-kept i e = j .looses i e
+
+  module _ (e : r ≡ Accepted) where
+    pub accepted-laid : Laid text table n → Laid text after n
+    accepted-laid f = laid-kept text table after n (j .cuts e .kept) f
+
+    pub accepted-words : wordsIn text after n ≡ wordsIn text table n
+    accepted-words = words-kept text table after n n (j .cuts e .kept)
+
+    pub accepted-cut : Cut text after n
+    accepted-cut = j .cuts e .cut
+
+    pub accepted-c4 : C4 (wordsIn text after n)
+    unfolding verdictOf
+    accepted-c4 = subst C4 (sym accepted-words) (judge-accepts-iff-c4 (wordsIn text table n) .0 (answer-verdict Accepted e))

@@ -1,0 +1,16 @@
+use Rattle.pieces.proofs.Verdicts.{fronts}
+use Rattle.pieces.proofs.judge_pieces.Statement.{statement}
+use Rattle.pieces.proofs.judge_pieces.Tie as tie
+
+pub judge-pieces-spec : {M : Type 1} → statement M
+judge-pieces-spec =
+    tie.close
+    (tie.spec
+    (λ c. search fronts)
+    (λ c. search fronts)
+    (λ c. search fronts)
+    (λ c κs. search fronts)
+    (λ c. search fronts)
+    (λ c κs. search fronts)
+    (λ c. search fronts)
+    (λ c. search fronts))

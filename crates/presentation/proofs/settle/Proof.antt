@@ -1,0 +1,19 @@
+use Rattle.presentation.proofs.Laws.{settles, settled-accepted}
+use Rattle.presentation.proofs.settle.Statement.{statement}
+use Rattle.presentation.proofs.settle.Tie as tie
+
+pub settle-spec : {M : Type 1} → statement M
+settle-spec =
+    tie.close
+    (tie.spec
+    (λ c κs. search settles)
+    (λ c. search settles)
+    (λ c. search settles)
+    (λ c. search settles)
+    (λ c κs. search settles)
+    (λ c. search settles)
+    (λ c. search settles)
+    (λ c. search settles)
+    (λ c. search settles)
+    (λ c. search settles)
+    (λ c. search settled-accepted))

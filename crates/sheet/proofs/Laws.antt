@@ -1,0 +1,110 @@
+-- The table's positions give the cuts of the relation words, and a law for each way that writing the sheet can go.
+use Prim.Native.Nat.{ℕ, zero, suc, _+_, _*_, _-_, _≤_, _<_}
+use mathlib.Core.List.{List, [], _∷_, _++_, append-assoc}
+use mathlib.Core.Path.{_≡_, refl, sym, ap, _∙_}
+use native.Mathlib.Omega.{arith}
+use native.Mathlib.Numerals.{add-one}
+use borrow.Author.Needs.{needs}
+use lib.ListN.{length, take, drop, length-append}
+use lib.Seq.{take-at, drop-append-add, drop-drop, drop-at}
+use Rattle.words.specs.Words.{Word}
+use Rattle.overlap.specs.Pieces.{C4}
+use Rattle.overlap.specs.Cuts.{xlen, ylen, zlen}
+use Rattle.overlap.proofs.Facts.{rigid-of-c4}
+use Rattle.layout.specs.Layout.{startOf, xEndOf, zStartOf, endOf, wordsIn, Checked}
+use Rattle.index.proofs.Laying.{words-length, word-length, cuts-inside}
+use Rattle.lines.specs.Lines.{Put}
+use Rattle.sheet.specs.Sheet.{cutBytes, cutSheet, xAt, yAt, zAt, lengthsAt, sheetBytes, CutsIn, Room, SheetRoom}
+
+module _ (text table : List ℕ) (n : ℕ) (c : Checked text table n) where
+  words : List Word
+  words = wordsIn text table n
+
+  -- the positions are in order: Y is not empty
+  pub cuts-in : (i : ℕ) → i < n → CutsIn table i
+  cuts-in i h =
+      let l = c .laid in
+      let k = cuts-inside text table n l (c .cut) i h in
+      let r = rigid-of-c4 (wordsIn text table n) (c .accepted) .some i (omega (arith, words-length text table n)) in
+      let x = c .cut .xEnd i h in
+      record {
+        room = omega (arith, l .room);
+        x = k .0;
+        y = omega (arith, k .4, k .2);
+        z = k .3;
+        short = omega (arith, l .short i h, l .some i h);
+      }
+
+  lengths-cut : (i : ℕ) → i < n → lengthsAt table i ≡ xlen (wordsIn text table n) i ∷ ylen (wordsIn text table n) i ∷ zlen (wordsIn text table n) i ∷ []
+  lengths-cut i h =
+      let k = cuts-in i h in
+      let w = word-length text table n (c .laid) i h in
+      let ex = c .cut .xEnd i h in
+      let ez = c .cut .zStart i h in
+      let x : xAt table i ≡ xlen (wordsIn text table n) i = omega arith in
+      let z : zAt table i ≡ zlen (wordsIn text table n) i = omega arith in
+      let y : yAt table i ≡ ylen (wordsIn text table n) i = omega (arith, k .x, k .y, k .z) in
+      rw (x, y, z)
+
+  bytes-cut : (m : ℕ) → m ≤ n → sheetBytes table m ≡ cutBytes (wordsIn text table n) m
+  unfolding sheetBytes cutBytes
+  bytes-cut zero h = refl
+  bytes-cut (suc m) h = rw (bytes-cut m (omega arith), lengths-cut m (omega arith))
+
+  -- the sheet by the table is the cut sheet of the relation words
+  pub sheet-cut : sheetBytes table n ≡ cutSheet (wordsIn text table n)
+  sheet-cut = bytes-cut n (omega arith) ∙ sym (rw (words-length text table n))
+
+  pub sheet-room : (sheet : List ℕ) → 3 * n ≤ length sheet → SheetRoom table n sheet
+  sheet-room sheet h = record { cuts = cuts-in; place = h; few = c .laid .few }
+
+pub length-sheet : (table : List ℕ) (n : ℕ) → length (sheetBytes table n) ≡ 3 * n
+unfolding sheetBytes
+length-sheet table zero = refl
+length-sheet table (suc n) = simp length-append (omega (arith, length-sheet table n))
+
+-- the lengths are written
+pub lengths-put : (table : List ℕ) (i : ℕ) (sheet : List ℕ) (x y z : ℕ) (after : List ℕ) (r : ℕ) → x ≡ xAt table i → y ≡ yAt table i → z ≡ zAt table i
+    → Put sheet (3 * i) (x ∷ y ∷ z ∷ []) after r → Put sheet (3 * i) (lengthsAt table i) after (3 * i + 3)
+lengths-put table i sheet x y z after r ex ey ez p = rw (← ex, ← ey, ← ez) (rw (p .behind) at p)
+
+pub ruleset lengths = (lengths-put, needs)
+
+-- i relation words are on the sheet
+pub record Sheeted (table : List ℕ) (n : ℕ) (sheet : List ℕ) (i : ℕ) (b : List ℕ) : Type 0 where
+  pub room : SheetRoom table n sheet
+  pub within : i ≤ n
+  pub same : b ≡ sheetBytes table i ++ drop (3 * i) sheet
+  pub kept : length b ≡ length sheet
+
+pub sheeted-start : (table : List ℕ) (n : ℕ) (sheet : List ℕ) → SheetRoom table n sheet → Sheeted table n sheet 0 sheet
+unfolding sheetBytes
+sheeted-start table n sheet r = record { room = r; within = omega arith; same = refl; kept = refl }
+
+module _ (table : List ℕ) (n : ℕ) (sheet : List ℕ) (i : ℕ) (b : List ℕ) (s : Sheeted table n sheet i b) where
+  pub sheeted-room : i < n → Room table i b
+  sheeted-room h =
+      let p = s .room .place in
+      record { cuts = s .room .cuts i h; place = omega (arith, s .kept); early = omega (arith, s .room .few) }
+
+  pub sheeted-more : (a : List ℕ) → i < n → Put b (3 * i) (lengthsAt table i) a (3 * i + 3) → Sheeted table n sheet (i + 1) a
+  unfolding sheetBytes
+  sheeted-more a h p =
+      let l = length-sheet table i in
+      let front : take (3 * i) b ≡ sheetBytes table i = rw (s .same) (take-at (sheetBytes table i) (drop (3 * i) sheet) (3 * i) l) in
+      let e : sheetBytes table (i + 1) ≡ sheetBytes table i ++ lengthsAt table i = ap (sheetBytes table) (add-one i) in
+      let k : 3 * i + 3 ≡ length (sheetBytes table i) + 3 = omega arith in
+      let m : 3 * i + 3 ≡ 3 * (i + 1) = omega arith in
+      let back : drop (3 * i + 3) b ≡ drop (3 * (i + 1)) sheet =
+      rw (s .same) (ap (λ (x : ℕ). drop x (sheetBytes table i ++ drop (3 * i) sheet)) k ∙ drop-append-add (sheetBytes table i) (drop (3 * i) sheet) 3 ∙ drop-drop 3 (3 * i) sheet ∙ rw m) in
+      record {
+        room = s .room;
+        within = omega arith;
+        same = p .same ∙ rw (front, back, e) (sym (append-assoc (sheetBytes table i) (lengthsAt table i) (drop (3 * (i + 1)) sheet)));
+        kept = p .kept ∙ s .kept;
+      }
+
+  pub sheeted-end : n ≤ i → b ≡ sheetBytes table n ++ drop (3 * n) sheet
+  sheeted-end h = let w = s .within in let e : i ≡ n = omega arith in rw (← e) (s .same)
+
+pub ruleset sheets = (sheeted-start, sheeted-room, sheeted-more, sheeted-end, needs)

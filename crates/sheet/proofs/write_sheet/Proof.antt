@@ -1,0 +1,25 @@
+use Prim.Native.Nat.{_-_, _+_}
+use lib.ListN.{length}
+use Rattle.sheet.proofs.Laws.{Sheeted, sheets}
+use Rattle.sheet.proofs.write_sheet.Statement.{statement}
+use Rattle.sheet.proofs.write_sheet.Tie as tie
+
+abbrev Inv-loop : tie.InvT-loop
+Inv-loop table n sheet₀ i₀ sheet i = Sheeted table n sheet₀ i sheet
+
+abbrev μ-loop : tie.MeasureT-loop
+μ-loop table n sheet₀ i₀ sheet i = n - i
+
+pub write-sheet-spec : {M : Type 1} → statement M
+write-sheet-spec =
+    tie.close
+    (tie.spec
+    Inv-loop
+    μ-loop
+    (λ c. search sheets)
+    (λ c κs. search sheets)
+    (λ c. search sheets)
+    (λ c. search sheets)
+    (λ c. search sheets)
+    (λ c. search sheets)
+    (λ c. search sheets))

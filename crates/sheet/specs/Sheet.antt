@@ -1,0 +1,53 @@
+-- The cut sheet (document 01, "Pieces, C(4) and cuts"): by the cuts of the relation words, and by the positions of a table.
+use Prim.Native.Nat.{ℕ, zero, suc, _+_, _*_, _-_, _≤_, _<_}
+use mathlib.Core.List.{List, [], _∷_, _++_}
+use lib.ListN.{length}
+use Rattle.words.specs.Words.{Word}
+use Rattle.overlap.specs.Cuts.{xlen, ylen, zlen}
+use Rattle.layout.specs.Layout.{startOf, xEndOf, zStartOf, endOf}
+
+-- for each of the first n relation words in order the lengths of X, Y, Z
+unfoldable pub cutBytes : List Word → ℕ → List ℕ
+cutBytes B zero = []
+cutBytes B (suc n) = cutBytes B n ++ (xlen B n ∷ ylen B n ∷ zlen B n ∷ [])
+
+-- the sheet of all relation words
+abbrev pub cutSheet : List Word → List ℕ
+cutSheet B = cutBytes B (length B)
+
+-- the lengths by the table's positions
+abbrev pub xAt : List ℕ → ℕ → ℕ
+xAt table i = xEndOf table i - startOf table i
+
+abbrev pub yAt : List ℕ → ℕ → ℕ
+yAt table i = zStartOf table i - xEndOf table i
+
+abbrev pub zAt : List ℕ → ℕ → ℕ
+zAt table i = endOf table i - zStartOf table i
+
+abbrev pub lengthsAt : List ℕ → ℕ → List ℕ
+lengthsAt table i = xAt table i ∷ yAt table i ∷ zAt table i ∷ []
+
+unfoldable pub sheetBytes : List ℕ → ℕ → List ℕ
+sheetBytes table zero = []
+sheetBytes table (suc n) = sheetBytes table n ++ lengthsAt table n
+
+-- the positions of relation word i are there and in order, and it is short
+pub record CutsIn (table : List ℕ) (i : ℕ) : Type 0 where
+  pub room : 4 * i + 3 < length table
+  pub x : startOf table i ≤ xEndOf table i
+  pub y : xEndOf table i ≤ zStartOf table i
+  pub z : zStartOf table i ≤ endOf table i
+  pub short : endOf table i - startOf table i ≤ 64
+
+-- relation word i and its place in the sheet
+pub record Room (table : List ℕ) (i : ℕ) (sheet : List ℕ) : Type 0 where
+  pub cuts : CutsIn table i
+  pub place : 3 * i + 3 ≤ length sheet
+  pub early : i < 64
+
+-- n relation words and their places
+pub record SheetRoom (table : List ℕ) (n : ℕ) (sheet : List ℕ) : Type 0 where
+  pub cuts : (i : ℕ) → i < n → CutsIn table i
+  pub place : 3 * n ≤ length sheet
+  pub few : n ≤ 64
