@@ -1,0 +1,33 @@
+-- What comparing two given words under relation words gives: refusals 9 and 10, then the answer of the rows, 'spent' being refusal 11 (document 01,
+-- "Exchanges and rounds" and "Refusals by number").
+use Prim.Native.Nat.{ℕ}
+use mathlib.Core.List.{List}
+use Rattle.words.specs.Words.{Word}
+use Rattle.congruence.specs.Rounds.{Answer, compareUnder}
+use Rattle.congruence.specs.Rounds.Answer.{same, different, spent}
+use Rattle.format.specs.declared.Refusal.{Refusal}
+use Rattle.format.specs.declared.Refusal.the-variants.{Spent}
+use Rattle.given.specs.declared.Given.{Given}
+use Rattle.given.specs.declared.Given.the-variants as Words
+use Rattle.given.specs.Given.{pairOf}
+use Rattle.comparison.specs.declared.Comparison.{Comparison}
+use Rattle.comparison.specs.declared.Comparison.the-variants.{Same, Different, Refused}
+
+-- the rows' answer as a comparison's
+abbrev pub byAnswer : Answer → Comparison
+byAnswer (same n) = Same n
+byAnswer (different n) = Different n
+byAnswer (spent n) = Refused (Spent n)
+
+-- where both words are fine, their answer
+abbrev pub byGiven : Given → Comparison → Comparison
+byGiven Words.Fine next = next
+byGiven (Words.Refused r) next = Refused r
+
+-- the rows' answer for two words under relation words B
+unfoldable pub answerOf : List Word → Word → Word → ℕ → Comparison
+answerOf B u v allowance = byAnswer (compareUnder B allowance u v)
+
+-- two given words under relation words B of so many letters, with an allowance of rounds
+unfoldable pub comparisonOf : ℕ → List Word → Word → Word → ℕ → Comparison
+comparisonOf letters B u v allowance = byGiven (pairOf letters u v) (answerOf B u v allowance)

@@ -1,0 +1,49 @@
+-- A comparison that makes at most a given number of rounds and gives its words back where it is not at its end.
+use Prim.Native.Nat.{ℕ, zero, suc, _+_}
+use mathlib.Core.Bool.{Bool}
+use mathlib.Core.List.{List}
+use mathlib.Core.Path.{_≡_}
+use Rattle.words.specs.Words.{Word}
+use Rattle.congruence.specs.Rows.{Next, round}
+use Rattle.congruence.specs.Rows.Next.{end, go}
+use Rattle.congruence.specs.Rounds.{Answer, ending, answerFrom}
+use Rattle.congruence.specs.Rounds.Answer.{spent}
+use Rattle.layout.specs.Layout.{wordsIn}
+use Rattle.comparison.specs.declared.State.{State}
+use Rattle.comparison.specs.declared.Progress.{Progress}
+use Rattle.comparison.specs.declared.Progress.the-variants.{Ended, Paused}
+use Rattle.comparison.specs.State.{heldWord, markWord, Standing}
+
+-- the end after some rounds, or the words from which another round is due
+pub data Ran : Type 0 where
+  ended : Bool → ℕ → Ran
+  paused : Word → Word → Word → ℕ → Ran
+
+abbrev pub onRound : Next → ℕ → (Word → Word → Word → Ran) → Ran
+onRound (end b) n next = ended b n
+onRound (go u v p) n next = next u v p
+
+-- from u, v and p, where n rounds are done and `left` more are to be made
+unfoldable pub runFrom : List Word → ℕ → ℕ → Word → Word → Word → Ran
+runFrom B zero n u v p = onRound (round B u v p) n (λ _ _ _. paused u v p n)
+runFrom B (suc left) n u v p = onRound (round B u v p) n (runFrom B left (n + 1))
+
+-- a comparison that is paused for want of rounds is spent
+abbrev pub answered : Ran → Answer
+answered (ended b n) = ending b n
+answered (paused u v p n) = spent n
+
+-- rounds made by the code, in the words of the rows
+abbrev pub ranOf : List ℕ → Word → Word → Progress → Ran
+ranOf text first second (Ended b n) = ended b n
+ranOf text first second (Paused s n) = paused (heldWord text first (s .u)) (heldWord text second (s .v)) (markWord text (s .mark)) n
+
+-- a state that comes back stands
+abbrev pub ProgressStands : List ℕ → List Word → Word → Word → Progress → Type 0
+ProgressStands text B first second (Ended b n) = Unit {0}
+ProgressStands text B first second (Paused s n) = Standing text B first second s
+
+-- the rounds made are those of the rows from the words that the state stands for, at most so many
+pub record Progressed (text table : List ℕ) (n : ℕ) (first second : Word) (s : State) (budget : ℕ) (r : Progress) : Type 0 where
+  pub same : ranOf text first second r ≡ runFrom (wordsIn text table n) budget 0 (heldWord text first (s .u)) (heldWord text second (s .v)) (markWord text (s .mark))
+  pub stands : ProgressStands text (wordsIn text table n) first second r

@@ -1,0 +1,118 @@
+-- The words that a comparison's state stands for, and what one change makes of it.
+use Prim.Native.Nat.{ℕ, _+_, _-_, _<_, _≤_}
+use mathlib.Core.Bool.{Bool, cond}
+use mathlib.Core.List.{List, _++_}
+use mathlib.Core.Path.{_≡_}
+use lib.Dec.{ltb}
+use lib.ListN.{length, drop}
+use Rattle.words.specs.Words.{Word}
+use Rattle.congruence.proofs.ShapeQuiet.{Quiet}
+use Rattle.congruence.specs.Rows.{Next, round}
+use Rattle.congruence.specs.Rows.Next.{end, go}
+use Rattle.layout.specs.Layout.{part, wordsIn}
+use Rattle.rounds.specs.declared.Change.{Change}
+use Rattle.rounds.specs.declared.Plan.{Plan}
+use Rattle.rounds.specs.declared.Plan.the-variants as Plans
+use Rattle.rounds.specs.Plans.{Paired}
+use Rattle.comparison.specs.declared.Held.{Held}
+use Rattle.comparison.specs.declared.Mark.{Mark}
+use Rattle.comparison.specs.declared.State.{State}
+use Rattle.comparison.specs.declared.Step.{Step}
+use Rattle.comparison.specs.declared.Step.the-variants as Steps
+
+-- the word that is held
+abbrev pub heldWord : List ℕ → Word → Held → Word
+heldWord text run h = part text (h .at) (h .to) ++ drop (h .from) run
+
+-- the front mark
+abbrev pub markWord : List ℕ → Mark → Word
+markWord text m = part text (m .at) (m .to)
+
+-- a held word lies in the text and in the given word, and no X and Y stands in its part of the text
+pub record HeldFit (text : List ℕ) (B : List Word) (run : Word) (h : Held) : Type 0 where
+  pub up : h .at ≤ h .to
+  pub inside : h .to ≤ length text
+  pub short : h .to ≤ h .at + 64
+  pub within : h .from ≤ length run
+  pub quiet : Quiet B (part text (h .at) (h .to))
+
+pub record MarkHeld (text : List ℕ) (m : Mark) : Type 0 where
+  pub up : m .at ≤ m .to
+  pub inside : m .to ≤ length text
+  pub short : m .to ≤ m .at + 64
+
+-- a state whose words and mark are held
+pub record Standing (text : List ℕ) (B : List Word) (first second : Word) (s : State) : Type 0 where
+  pub u : HeldFit text B first (s .u)
+  pub v : HeldFit text B second (s .v)
+  pub mark : MarkHeld text (s .mark)
+
+-- how far a cut goes beyond a part of some length
+abbrev pub beyondOf : ℕ → ℕ → ℕ
+beyondOf cut length = cut - length
+
+-- what a change asks of the word that it is made to: no difference and no sum of the code leaves its range
+pub record Movable (h : Held) (c : Change) : Type 0 where
+  pub up : h .at ≤ h .to
+  pub low : h .to ≤ 65536
+  pub early : h .from ≤ 65536
+  pub small : c .cut ≤ 131072
+
+-- the word after a change: a new part of the text takes the place of the old one, or the cut leaves some of the old one, or none
+unfoldable pub advancedOf : Held → Change → Held
+advancedOf h c =
+    cond (ltb (c .from) (c .to)) (record { at = c .from; to = c .to; from = h .from + (c .cut - (h .to - h .at)) })
+    (cond (ltb (c .cut) (h .to - h .at)) (record { at = h .at + c .cut; to = h .to; from = h .from })
+    (record { at = h .to; to = h .to; from = h .from + (c .cut - (h .to - h .at)) }))
+
+pub record MarkMovable (m : Mark) (c : Change) : Type 0 where
+  pub low : m .at ≤ 65536
+  pub small : c .cut ≤ 131072
+
+unfoldable pub advancedMark : Mark → Change → Mark
+advancedMark m c = cond (ltb (c .from) (c .to)) (record { at = c .from; to = c .to }) (record { at = m .at + c .cut; to = m .to })
+
+-- the state after three changes
+abbrev pub advancedState : State → Change → Change → Change → State
+advancedState s cu cv cp = record { u = advancedOf (s .u) cu; v = advancedOf (s .v) cv; mark = advancedMark (s .mark) cp }
+
+-- what carrying a plan out gives
+abbrev pub steppedOf : State → Plan → Step
+steppedOf s (Plans.End b) = Steps.End b
+steppedOf s (Plans.Go cu cv cp) = Steps.Next (advancedState s cu cv cp)
+
+-- a plan whose changes can be made
+abbrev pub Applicable : State → Plan → Type 0
+Applicable s (Plans.End b) = Unit {0}
+Applicable s (Plans.Go cu cv cp) = Movable (s .u) cu × Movable (s .v) cv × MarkMovable (s .mark) cp
+
+-- a checked presentation in arrays: words in pairs, in a text whose places are small
+pub record Ready (text table : List ℕ) (n : ℕ) : Type 0 where
+  pub paired : Paired text table n
+  pub text-short : length text ≤ 65536
+
+-- two given words that are short enough for the code, under a checked presentation
+pub record Fitting (text table : List ℕ) (n : ℕ) (first second : Word) : Type 0 where
+  pub ready : Ready text table n
+  pub first-short : length first ≤ 65536
+  pub second-short : length second ≤ 65536
+
+-- a state from which a round can be made
+pub record Poised (text table : List ℕ) (n : ℕ) (first second : Word) (s : State) : Type 0 where
+  pub fitting : Fitting text table n first second
+  pub standing : Standing text (wordsIn text table n) first second s
+
+-- a step in the words of the rows
+abbrev pub stepNext : List ℕ → Word → Word → Step → Next
+stepNext text first second (Steps.End b) = end b
+stepNext text first second (Steps.Next s) = go (heldWord text first (s .u)) (heldWord text second (s .v)) (markWord text (s .mark))
+
+-- the next state, if there is one, stands
+abbrev pub StepStands : List ℕ → List Word → Word → Word → Step → Type 0
+StepStands text B first second (Steps.End b) = Unit {0}
+StepStands text B first second (Steps.Next s) = Standing text B first second s
+
+-- one step of a state is one round of the rows from the words that it stands for
+pub record Stepping (text table : List ℕ) (n : ℕ) (first second : Word) (s : State) (step : Step) : Type 0 where
+  pub same : stepNext text first second step ≡ round (wordsIn text table n) (heldWord text first (s .u)) (heldWord text second (s .v)) (markWord text (s .mark))
+  pub stands : StepStands text (wordsIn text table n) first second step

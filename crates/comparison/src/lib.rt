@@ -1,0 +1,251 @@
+// A comparison's state and its rounds. Both words are held as a part of the presentation's text followed by the rest of the given word, so that no word
+// is ever copied (document 01, "Exchanges and rounds").
+ghost use mathlib.Core.Path.{_≡_};
+ghost use Prim.Native.Nat.{_+_, _-_, _<_, _≤_};
+ghost use mathlib.Core.List.{[]};
+ghost use Rattle.rounds.specs.Plans.{Decided};
+ghost use Rattle.layout.specs.Layout.{wordsIn};
+ghost use Rattle.comparison.specs.State.{beyondOf, Movable, advancedOf, MarkMovable, advancedMark, heldWord, markWord, Ready, Fitting, Poised, Applicable, steppedOf, Stepping};
+ghost use Rattle.comparison.specs.Runs.{Progressed};
+ghost use Rattle.comparison.specs.Comparing.{comparisonOf, answerOf};
+use format::Refusal;
+use given::Given;
+use rounds::Change;
+use rounds::Plan;
+
+// A word: text[at..to], then the given word from `from` on.
+pub struct Held {
+    pub at: usize,
+    pub to: usize,
+    pub from: usize,
+}
+
+// The front mark: text[at..to].
+pub struct Mark {
+    pub at: usize,
+    pub to: usize,
+}
+
+// What a comparison goes on from: u, v and the front mark p.
+pub struct State {
+    pub u: Held,
+    pub v: Held,
+    pub mark: Mark,
+}
+
+// One round of a comparison: its end, with 'same' for true, or the next state.
+pub enum Step {
+    End(bool),
+    Next(State),
+}
+
+// Some rounds of a comparison: the end and the rounds done, or the state from which another round is due and the rounds done.
+pub enum Progress {
+    Ended(bool, u32),
+    Paused(State, u32),
+}
+
+// A comparison's answer: the words are congruent ('same') or not ('different'), with the count of rounds, or it is refused.
+pub enum Comparison {
+    Same(u32),
+    Different(u32),
+    Refused(Refusal),
+}
+
+// How far a cut goes beyond a part of some length.
+fn beyond(cut: usize, length: usize) -> usize
+    ensures { λ r. ⌜ r ≡ beyondOf cut length ⌝ }
+{
+    if length < cut {
+        return cut - length;
+    }
+    0
+}
+
+// The word after a change.
+fn advance(h: Held, c: Change) -> Held
+    requires { ⌜ Movable h c ⌝ }
+    ensures { λ r. ⌜ r ≡ advancedOf h c ⌝ }
+{
+    let tail = h.to - h.at;
+    let next = h.from + beyond(c.cut, tail);
+    if c.from < c.to {
+        return Held {
+            at: c.from,
+            to: c.to,
+            from: next,
+        };
+    }
+    if c.cut < tail {
+        return Held {
+            at: h.at + c.cut,
+            to: h.to,
+            from: h.from,
+        };
+    }
+    Held {
+        at: h.to,
+        to: h.to,
+        from: next,
+    }
+}
+
+// The front mark after a change.
+fn advance_mark(m: Mark, c: Change) -> Mark
+    requires { ⌜ MarkMovable m c ⌝ }
+    ensures { λ r. ⌜ r ≡ advancedMark m c ⌝ }
+{
+    if c.from < c.to {
+        return Mark {
+            at: c.from,
+            to: c.to,
+        };
+    }
+    Mark {
+        at: m.at + c.cut,
+        to: m.to,
+    }
+}
+
+// What the round of a state does, over its words as they are held.
+fn plan_of(text: &[u8], table: &[u16], n: usize, first: &[u8], second: &[u8], s: State) -> Plan
+    requires { ⌜ Poised (now text) (now table) n (now first) (now second) s ⌝ }
+    ensures { λ r. ⌜ Decided (now (text .entry)) (now (table .entry)) n (heldWord (now (text .entry)) (now (first .entry)) (s .u)) (heldWord (now (text .entry)) (now (second .entry)) (s .v)) (markWord (now (text .entry)) (s .mark)) r ⌝ }
+{
+    let u = s.u;
+    let v = s.v;
+    let mark = s.mark;
+    let u_at = u.at;
+    let u_to = u.to;
+    let u_from = u.from;
+    let v_at = v.at;
+    let v_to = v.to;
+    let v_from = v.from;
+    let mark_at = mark.at;
+    let mark_to = mark.to;
+    rounds::decide(
+        text,
+        table,
+        n,
+        &text[u_at..u_to],
+        &first[u_from..],
+        &text[v_at..v_to],
+        &second[v_from..],
+        &text[mark_at..mark_to],
+    )
+}
+
+// The state after a plan, or its end.
+fn carry_out(s: State, plan: Plan) -> Step
+    requires { ⌜ Applicable s plan ⌝ }
+    ensures { λ r. ⌜ r ≡ steppedOf s plan ⌝ }
+{
+    match plan {
+        Plan::End(same) => Step::End(same),
+        Plan::Go(of_u, of_v, of_mark) => Step::Next(State {
+            u: advance(s.u, of_u),
+            v: advance(s.v, of_v),
+            mark: advance_mark(s.mark, of_mark),
+        }),
+    }
+}
+
+// One round.
+pub fn take_step(
+    text: &[u8],
+    table: &[u16],
+    n: usize,
+    first: &[u8],
+    second: &[u8],
+    s: State,
+) -> Step
+    requires { ⌜ Poised (now text) (now table) n (now first) (now second) s ⌝ }
+    ensures { λ r. ⌜ Stepping (now (text .entry)) (now (table .entry)) n (now (first .entry)) (now (second .entry)) s r ⌝ }
+{
+    let plan = plan_of(text, table, n, first, second, s);
+    carry_out(s, plan)
+}
+
+// At most `budget` rounds from a state; where another one is due then, the state comes back.
+pub fn make_rounds(
+    text: &[u8],
+    table: &[u16],
+    n: usize,
+    first: &[u8],
+    second: &[u8],
+    start: State,
+    budget: u32,
+) -> Progress
+    requires { ⌜ Poised (now text) (now table) n (now first) (now second) start ⌝ }
+    ensures { λ r. ⌜ Progressed (now (text .entry)) (now (table .entry)) n (now (first .entry)) (now (second .entry)) start budget r ⌝ }
+{
+    let mut s = start;
+    let mut done: u32 = 0;
+    loop {
+        let step = take_step(text, table, n, first, second, s);
+        match step {
+            Step::End(same) => return Progress::Ended(same, done),
+            Step::Next(next) => {
+                if budget <= done {
+                    return Progress::Paused(s, done);
+                }
+                s = next;
+                done += 1;
+            }
+        }
+    }
+}
+
+// The rows' answer for two words that are fine.
+fn compare_words(
+    text: &[u8],
+    table: &[u16],
+    n: usize,
+    u: &[u8],
+    v: &[u8],
+    allowance: u32,
+) -> Comparison
+    requires { ⌜ Fitting (now text) (now table) n (now u) (now v) ⌝ }
+    ensures { λ r. ⌜ r ≡ answerOf (wordsIn (now (text .entry)) (now (table .entry)) n) (now (u .entry)) (now (v .entry)) allowance ⌝ }
+{
+    let whole = Held {
+        at: 0,
+        to: 0,
+        from: 0,
+    };
+    let start = State {
+        u: whole,
+        v: whole,
+        mark: Mark { at: 0, to: 0 },
+    };
+    let progress = make_rounds(text, table, n, u, v, start, allowance);
+    match progress {
+        Progress::Ended(same, rounds) => {
+            if same {
+                return Comparison::Same(rounds);
+            }
+            Comparison::Different(rounds)
+        }
+        Progress::Paused(_, rounds) => Comparison::Refused(Refusal::Spent(rounds)),
+    }
+}
+
+// Two given words under a checked presentation, with an allowance of rounds.
+pub fn compare_given(
+    text: &[u8],
+    table: &[u16],
+    n: usize,
+    letters: u8,
+    u: &[u8],
+    v: &[u8],
+    allowance: u32,
+) -> Comparison
+    requires { ⌜ Ready (now text) (now table) n ⌝ }
+    ensures { λ r. ⌜ r ≡ comparisonOf letters (wordsIn (now (text .entry)) (now (table .entry)) n) (now (u .entry)) (now (v .entry)) allowance ⌝ }
+{
+    let given = given::check_pair(letters, u, v);
+    match given {
+        Given::Refused(refusal) => Comparison::Refused(refusal),
+        Given::Fine => compare_words(text, table, n, u, v, allowance),
+    }
+}

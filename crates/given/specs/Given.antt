@@ -1,0 +1,32 @@
+-- Refusals 9 and 10 of given words (document 01, "Refusals by number"): word by word, the length before the letters.
+use Prim.Native.Nat.{ℕ}
+use mathlib.Core.Bool.{cond}
+use lib.Dec.{ltb}
+use lib.ListN.{length}
+use Rattle.words.specs.Words.{Word}
+use Rattle.format.specs.declared.Refusal.{Refusal}
+use Rattle.format.specs.declared.Refusal.the-variants.{Long, Stranger}
+use Rattle.format.specs.Limits.{comparedMost, roundMost, markMost}
+use Rattle.format.specs.Book.{firstUnknown}
+use Rattle.given.specs.declared.Given.{Given}
+use Rattle.given.specs.declared.Given.the-variants.{Fine, Refused}
+
+-- 9: the word with this number has over `most` letters; 10: it has a letter that the head does not have
+unfoldable pub givenOf : ℕ → ℕ → ℕ → Word → Given
+givenOf number most letters w =
+    cond (ltb most (length w)) (Refused (Long number))
+    (cond (ltb (firstUnknown letters w) (length w)) (Refused (Stranger number (firstUnknown letters w)))
+    Fine)
+
+-- where a word is fine, the next one
+abbrev pub andThen : Given → Given → Given
+andThen Fine next = next
+andThen (Refused r) next = Refused r
+
+-- the two words of a comparison
+unfoldable pub pairOf : ℕ → Word → Word → Given
+pairOf letters u v = andThen (givenOf 0 comparedMost letters u) (givenOf 1 comparedMost letters v)
+
+-- the two words of a round and its front mark
+unfoldable pub tripleOf : ℕ → Word → Word → Word → Given
+tripleOf letters u v p = andThen (givenOf 0 roundMost letters u) (andThen (givenOf 1 roundMost letters v) (givenOf 2 markMost letters p))

@@ -1,0 +1,53 @@
+// The words that an entry is given: refusals 9 and 10 (document 01, "Refusals by number").
+ghost use mathlib.Core.Path.{_≡_};
+ghost use Prim.Native.Nat.{_≤_};
+ghost use Rattle.given.specs.Given.{givenOf, pairOf, tripleOf};
+use format::Refusal;
+use format::Word;
+
+// A given word is fine, or refused.
+pub enum Given {
+    Fine,
+    Refused(Refusal),
+}
+
+// One given word, by its number and the most letters that it may have.
+fn check_word(number: u8, most: usize, letters: u8, word: &[u8]) -> Given
+    requires { ⌜ most ≤ 65535 ⌝ }
+    ensures { λ r. ⌜ r ≡ givenOf number most letters (now (word .entry)) ⌝ }
+{
+    if most < word.len() {
+        return Given::Refused(Refusal::Long(number));
+    }
+    let at = format::first_unknown(word, letters);
+    if at < word.len() {
+        return Given::Refused(Refusal::Stranger(number, at as u16));
+    }
+    Given::Fine
+}
+
+// The two words of a comparison, in turn.
+pub fn check_pair(letters: u8, u: &[u8], v: &[u8]) -> Given
+    ensures { λ r. ⌜ r ≡ pairOf letters (now (u .entry)) (now (v .entry)) ⌝ }
+{
+    let first = check_word(0, Word::COMPARED, letters, u);
+    let Given::Fine = first else {
+        return first;
+    };
+    check_word(1, Word::COMPARED, letters, v)
+}
+
+// The two words of a round and its front mark, in turn.
+pub fn check_triple(letters: u8, u: &[u8], v: &[u8], p: &[u8]) -> Given
+    ensures { λ r. ⌜ r ≡ tripleOf letters (now (u .entry)) (now (v .entry)) (now (p .entry)) ⌝ }
+{
+    let first = check_word(0, Word::ROUND, letters, u);
+    let Given::Fine = first else {
+        return first;
+    };
+    let second = check_word(1, Word::ROUND, letters, v);
+    let Given::Fine = second else {
+        return second;
+    };
+    check_word(2, Word::MARK, letters, p)
+}

@@ -1,0 +1,382 @@
+-- The plan of each row, by positions, makes the next words of that row, and fits.
+use Prim.Native.Nat.{ℕ, zero, suc, _+_, _-_, _≤_, _<_, min}
+use mathlib.Core.Bool.{Bool, true, false, cond, _&&_, _||_, not, true≢false, and-eq-true-iff}
+use mathlib.Core.Logic.{by-cases}
+use mathlib.Core.List.{List, [], _∷_, _++_, append-nil}
+use mathlib.Core.Path.{_≡_, refl, sym, ap, _∙_, subst}
+use native.Mathlib.Omega.{arith}
+use lib.Dec.{eqb, leb, ltb}
+use lib.ListN.{length, getD, take, drop, length-append, length-take, length-drop}
+use lib.Seq.{length-take-le, drop-length, drop-drop, drop-append-le}
+use Rattle.words.specs.Words.{Word, isEmpty, front, commonEnd}
+use Rattle.words.specs.Search.{greatest}
+use Rattle.words.specs.Relations.{other}
+use Rattle.words.proofs.Fronts.{front-length, front-split}
+use Rattle.words.proofs.Searching.{greatest-bound}
+use Rattle.overlap.specs.Pieces.{word}
+use Rattle.overlap.specs.Cuts.{len, xlen, xylen, xOf, xyOf, zOf}
+use Rattle.congruence.specs.Rows.{Next, choose, crowded, active, alike, dropFirst, row3, row4, row5, row6, row7, row8}
+use Rattle.congruence.specs.Rows.Next.{end, go}
+use Rattle.layout.specs.Layout.{part}
+use Rattle.rounds.specs.declared.Change.{Change}
+use Rattle.rounds.specs.declared.Plan.{Plan}
+use Rattle.rounds.specs.declared.Plan.the-variants.{End, Go}
+use Rattle.rounds.specs.declared.Site.{Site}
+use Rattle.rounds.specs.Plans.{applied, planned, Tailed, Fit, MarkFit, PlanFit, Carries}
+use Rattle.rounds.specs.Plans.PlanFit.{ends, goes}
+use Rattle.rounds.specs.Numbers.{number3, number4, number5, number6, number7, cutBy, tailBy, plan1, plan2, stays, wholeCut, putBoth, plan4, markAfter, plan5, plan6, plan7, plan8, restAt, plan8Of, sharedEnd, planBy}
+use Rattle.rounds.proofs.Sites.{Lies, part-take, part-drop, part-length}
+use Rattle.rounds.proofs.RowNumbers.{front-whole}
+use Rattle.rounds.proofs.Cleans.{crowded-drop}
+
+-- changes that fit
+pub cut-fits : (text : List ℕ) (B : List Word) (w : Word) (m : ℕ) → m ≤ length w → Fit text B w (cutBy m)
+unfolding cutBy
+cut-fits text B w m h = record { up = omega arith; inside = omega arith; short = omega arith; within = h; tailed = λ l. absurd (omega arith) }
+
+pub cut-mark : (text : List ℕ) (B : List Word) (p : Word) (m : ℕ) → m ≤ length p → MarkFit text B p (cutBy m)
+unfolding cutBy
+cut-mark text B p m h = record { up = omega arith; inside = omega arith; short = omega arith; within = h; whole = λ l. absurd (omega arith) }
+
+pub cut-applied : (text : List ℕ) (m : ℕ) (w : Word) → applied text (cutBy m) w ≡ drop m w
+unfolding cutBy
+cut-applied text m w = refl
+
+-- the lengths of the parts of a relation word
+module _ (text : List ℕ) (B : List Word) (i : ℕ) (s : Site) (l : Lies text B i s) where
+  xy-length : length (xyOf B i) ≡ xylen B i
+  xy-length =
+      let b = l .long in
+      let d = l .longXY in
+      let t = l .third in
+      length-take-le (xylen B i) (word B i) (omega arith)
+
+  z-length : length (zOf B i) ≡ s .stop - s .tail
+  z-length = ap length (l .z) ∙ part-length text (s .tail) (s .stop) (l .inside)
+
+  -- a word that begins with XY, or with all of the relation word, is as long
+  xy-within : (w : Word) → front (xyOf B i) w ≡ true → s .tail - s .start ≤ length w
+  xy-within w e = let f = front-length (xyOf B i) w e in let g = xy-length in let d = l .longXY in omega arith
+
+  whole-within : (w : Word) → front (word B i) w ≡ true → s .stop - s .start ≤ length w
+  whole-within w e = let f = front-length (word B i) w e in let d = l .long in omega arith
+
+  -- all of a relation word in front: its X and Y too
+  xy-of-whole : (w : Word) → front (word B i) w ≡ true → front (xyOf B i) w ≡ true
+  xy-of-whole w e =
+      let r : (front (xyOf B i) w && front (zOf B i) (drop (xylen B i) w)) ≡ true = sym (front-whole text B i s l w) ∙ e in
+      (simp and-eq-true-iff at r) .0
+
+  -- behind X and Y stand Z and the rest
+  rest-of-whole : (w : Word) → front (word B i) w ≡ true → zOf B i ++ drop (len B i) w ≡ drop (xylen B i) w
+  rest-of-whole w e =
+      let b = l .long in
+      let d = l .longXY in
+      let t = l .third in
+      sym (drop-append-le (xylen B i) (word B i) (drop (len B i) w) (omega arith)) ∙ ap (drop (xylen B i)) (front-split (word B i) w e)
+
+  tail-mark : (p : Word) → MarkFit text B p (tailBy s (length p))
+  unfolding tailBy
+  tail-mark p = record { up = l .third; inside = l .inside; short = let f = l .first in let g = l .second in let h = l .short in omega arith; within = omega arith; whole = λ h. refl }
+
+  tail-applied : (m : ℕ) (w : Word) → applied text (tailBy s m) w ≡ zOf B i ++ drop m w
+  unfolding tailBy
+  tail-applied m w = rw (l .z)
+
+  -- the Z of i in the place of letters that begin with the X and Y of k
+  tail-fits : (k : ℕ) (t : Site) → Lies text B k t → (w : Word) (m : ℕ) → front (xyOf B k) w ≡ true → t .tail - t .start ≤ m → m ≤ length w
+      → Fit text B w (tailBy s m)
+  unfolding tailBy
+  tail-fits k t lk w m e h q =
+      let f = l .first in
+      let g = l .second in
+      let b = l .short in
+      record {
+        up = l .third;
+        inside = l .inside;
+        short = omega arith;
+        within = q;
+        tailed = λ _. record { of = i; known = l .known; tail = sym (l .z); by = k; there = lk .known; front = e; taken = let d = lk .longXY in omega arith };
+      }
+
+pub go-same : {u v p u′ v′ p′ : Word} → u ≡ u′ → v ≡ v′ → p ≡ p′ → go u v p ≡ go u′ v′ p′
+go-same a b c = cc
+
+module _ (text : List ℕ) (B : List Word) (i j : ℕ) (s t : Site) (li : Lies text B i s) (lj : Lies text B j t) (u v p : Word) where
+  -- what is cut, by the words and by positions
+  cut-xy : (w : Word) → applied text (cutBy (s .tail - s .start)) w ≡ drop (xylen B i) w
+  cut-xy w = cut-applied text _ w ∙ ap (λ m. drop m w) (sym (li .longXY))
+
+  cut-mark-all : applied text (cutBy (length p)) p ≡ []
+  cut-mark-all = cut-applied text _ p ∙ drop-length p
+
+  tail-mark-all : applied text (tailBy s (length p)) p ≡ zOf B i
+  tail-mark-all = tail-applied text B i s li (length p) p ∙ ap (zOf B i ++_) (drop-length p) ∙ append-nil (zOf B i)
+
+  tail-whole : (w : Word) → applied text (tailBy s (t .stop - t .start)) w ≡ zOf B i ++ drop (len B j) w
+  tail-whole w = tail-applied text B i s li _ w ∙ ap (λ m. zOf B i ++ drop m w) (sym (lj .long))
+
+module _ (text : List ℕ) (B : List Word) (i j : ℕ) (s t : Site) (li : Lies text B i s) (lj : Lies text B j t) (u v p : Word) where
+  -- row 5
+  carried5 : front (xyOf B i) u ≡ true → front (xyOf B i) v ≡ true
+      → Carries text B u v p (plan5 text s p) (go (drop (xylen B i) u) (drop (xylen B i) v) (choose (front p (xOf B i)) (λ _. []) (λ _. zOf B i)))
+  unfolding plan5 markAfter planned
+  carried5 e f = mark (front p (part text (s .start) (s .middle))) refl
+    where
+      mark : (m : Bool) → front p (part text (s .start) (s .middle)) ≡ m
+          → Carries text B u v p (plan5 text s p) (go (drop (xylen B i) u) (drop (xylen B i) v) (choose (front p (xOf B i)) (λ _. []) (λ _. zOf B i)))
+      mark true q =
+          rw (li .x, q)
+          (record {
+            same = go-same (cut-xy text B i j s t li lj u v p u) (cut-xy text B i j s t li lj u v p v) (cut-mark-all text B i j s t li lj u v p);
+            fits = goes (cut-fits text B u _ (xy-within text B i s li u e)) (cut-fits text B v _ (xy-within text B i s li v f)) (cut-mark text B p (length p) (omega arith));
+          })
+      mark false q =
+          rw (li .x, q)
+          (record {
+            same = go-same (cut-xy text B i j s t li lj u v p u) (cut-xy text B i j s t li lj u v p v) (tail-mark-all text B i j s t li lj u v p);
+            fits = goes (cut-fits text B u _ (xy-within text B i s li u e)) (cut-fits text B v _ (xy-within text B i s li v f)) (tail-mark text B i s li p);
+          })
+
+  -- row 6
+  carried6 : front (xyOf B i) u ≡ true → front (word B j) v ≡ true
+      → Carries text B u v p (plan6 s t (length p)) (go (drop (xylen B i) u) (zOf B i ++ drop (len B j) v) [])
+  unfolding plan6 planned
+  carried6 e f =
+      record {
+        same = go-same (cut-xy text B i j s t li lj u v p u) (tail-whole text B i j s t li lj u v p v) (cut-mark-all text B i j s t li lj u v p);
+        fits =
+            goes (cut-fits text B u _ (xy-within text B i s li u e))
+            (tail-fits text B i s li j t lj v _ (xy-of-whole text B j t lj v f) (let a = lj .third in omega arith) (whole-within text B j t lj v f))
+            (cut-mark text B p (length p) (omega arith));
+      }
+
+  -- row 7
+  carried7 : front (word B i) u ≡ true → front (xyOf B j) v ≡ true
+      → Carries text B u v p (plan7 s t (length p)) (go (zOf B j ++ drop (len B i) u) (drop (xylen B j) v) [])
+  unfolding plan7 planned
+  carried7 e f =
+      record {
+        same = go-same (tail-whole text B j i t s lj li u v p u) (cut-xy text B j i t s lj li u v p v) (cut-mark-all text B i j s t li lj u v p);
+        fits =
+            goes
+            (tail-fits text B j t lj i s li u _ (xy-of-whole text B i s li u e) (let a = li .third in omega arith) (whole-within text B i s li u e))
+            (cut-fits text B v _ (xy-within text B j t lj v f))
+            (cut-mark text B p (length p) (omega arith));
+      }
+
+  -- row 4, by the tail that stays and by how v begins
+  abbrev tailWord : Bool → Word
+  tailWord a = choose a (λ _. zOf B i) (λ _. zOf B j)
+
+  tail-serves : (a : Bool) (k : ℕ) (r : Site) → Lies text B k r → (w : Word) → front (word B k) w ≡ true
+      → (applied text (tailBy (cond a s t) (r .stop - r .start)) w ≡ tailWord a ++ drop (len B k) w) × Fit text B w (tailBy (cond a s t) (r .stop - r .start))
+  tail-serves true k r lk w e = (
+    tail-whole text B i k s r li lk u v p w,
+    tail-fits text B i s li k r lk w _ (xy-of-whole text B k r lk w e) (let a = lk .third in omega arith) (whole-within text B k r lk w e),
+  )
+  tail-serves false k r lk w e = (
+    tail-whole text B j k t r lj lk u v p w,
+    tail-fits text B j t lj k r lk w _ (xy-of-whole text B k r lk w e) (let a = lk .third in omega arith) (whole-within text B k r lk w e),
+  )
+
+  -- the remainder of u is active for the Z of i where an X and Y stand in u behind X and Y and before the end of the relation word
+  pub active-crowded : front (word B i) u ≡ true → active B (zOf B i) (drop (len B i) u) ≡ crowded B u (s .tail - s .start) (s .stop - s .start)
+  unfolding active
+  active-crowded e =
+      let a = li .first in
+      let b = li .second in
+      let c = li .third in
+      let d = li .longXY in
+      let z = z-length text B i s li in
+      let m : xylen B i + length (zOf B i) ≡ s .stop - s .start = omega arith in
+      ap (λ w. crowded B w 0 (length (zOf B i))) (rest-of-whole text B i s li u e) ∙ crowded-drop B u (xylen B i) (length (zOf B i)) ∙ ap (λ k. crowded B u k (xylen B i + length (zOf B i))) d ∙ ap (crowded B u (s .tail - s .start)) m
+
+  carried4 : front (word B i) u ≡ true → (front (word B i) v || front (word B j) v) ≡ true
+      → Carries text B u v p (plan4 s (stays B s t u) (wholeCut text s t v) (length p))
+      (go (tailWord (active B (zOf B i) (drop (len B i) u)) ++ drop (len B i) u)
+      (tailWord (active B (zOf B i) (drop (len B i) u)) ++ choose (front (word B i) v) (λ _. drop (len B i) v) (λ _. drop (len B j) v)) [])
+  unfolding plan4 putBoth planned stays wholeCut
+  carried4 e f = rw (active-crowded e) (by-v (crowded B u (s .tail - s .start) (s .stop - s .start)) (front (word B i) v) refl)
+    where
+      by-v : (a q : Bool) → front (word B i) v ≡ q → Carries text B u v p
+          (plan4 s (cond a s t) (wholeCut text s t v) (length p))
+          (go (tailWord a ++ drop (len B i) u) (tailWord a ++ choose (front (word B i) v) (λ _. drop (len B i) v) (λ _. drop (len B j) v)) [])
+      by-v a true q =
+          let x = tail-serves a i s li u e in
+          let y = tail-serves a i s li v q in
+          let w : front (part text (s .start) (s .stop)) v ≡ true = ap (λ k. front k v) (sym (li .whole)) ∙ q in
+          rw (w, q)
+          (record {
+            same = go-same (x .0) (y .0) (cut-mark-all text B i j s t li lj u v p);
+            fits = goes (x .1) (y .1) (cut-mark text B p (length p) (omega arith));
+          })
+      by-v a false q =
+          let f′ : front (word B j) v ≡ true = rw q at f in
+          let x = tail-serves a i s li u e in
+          let y = tail-serves a j t lj v f′ in
+          let w : front (part text (s .start) (s .stop)) v ≡ false = ap (λ k. front k v) (sym (li .whole)) ∙ q in
+          rw (w, q)
+          (record {
+            same = go-same (x .0) (y .0) (cut-mark-all text B i j s t li lj u v p);
+            fits = goes (x .1) (y .1) (cut-mark text B p (length p) (omega arith));
+          })
+
+-- the longest common end lies in both words
+pub end-within : (a b : Word) → (commonEnd a b ≤ length a) × (commonEnd a b ≤ length b)
+unfolding commonEnd
+end-within a b = let g = greatest-bound (min (length a) (length b)) (λ n. front (drop (length a - n) a) (drop (length b - n) b)) in omega arith
+
+sum-within : (a b c w : ℕ) → a ≤ w → b ≤ w - a → c ≡ a + b → c ≤ w
+sum-within a b c w h k e = omega arith
+
+-- Z without its last l letters
+module _ (text : List ℕ) (B : List Word) (i : ℕ) (s : Site) (li : Lies text B i s) (l : ℕ) (h : l ≤ length (zOf B i)) where
+  abbrev head : Word
+  head = take (length (zOf B i) - l) (zOf B i)
+
+  head-length : length head ≡ s .stop - l - s .tail
+  head-length =
+      let z = z-length text B i s li in
+      let a = length-take-le (length (zOf B i) - l) (zOf B i) (omega arith) in
+      omega arith
+
+  head-part : head ≡ part text (s .tail) (s .stop - l)
+  head-part =
+      let z = z-length text B i s li in
+      let c = li .third in
+      let m : s .tail + (s .stop - s .tail - l) ≡ s .stop - l = omega arith in
+      ap (λ k. take (k - l) (zOf B i)) z ∙ ap (take (s .stop - s .tail - l)) (li .z) ∙ part-take text (s .tail) (s .stop) (s .stop - s .tail - l) (omega arith) ∙ ap (part text (s .tail)) m
+
+  head-rest : drop (length head) (zOf B i) ≡ part text (s .stop - l) (s .stop)
+  head-rest =
+      let z = z-length text B i s li in
+      let c = li .third in
+      let b = head-length in
+      let m : s .tail + (s .stop - l - s .tail) ≡ s .stop - l = omega arith in
+      ap (λ k. drop k (zOf B i)) b ∙ ap (drop (s .stop - l - s .tail)) (li .z) ∙ part-drop text (s .tail) (s .stop) (s .stop - l - s .tail) (omega arith) ∙ ap (λ k. part text k (s .stop)) m
+
+  head-test : (w : Word) → restAt text s l w ≡ front head (drop (xylen B i) w)
+  unfolding restAt
+  head-test w = ap (λ k. front (part text (s .tail) (s .stop - l)) (drop k w)) (sym (li .longXY)) ∙ ap (λ k. front k (drop (xylen B i) w)) (sym head-part)
+
+  head-end : s .stop - l - s .start ≡ xylen B i + length head
+  head-end =
+      let z = z-length text B i s li in
+      let a = li .first in
+      let b = li .second in
+      let c = li .third in
+      let d = li .longXY in
+      let e = head-length in
+      omega arith
+
+  head-cut : (w : Word) → applied text (cutBy (s .stop - l - s .start)) w ≡ drop (length head) (drop (xylen B i) w)
+  head-cut w = cut-applied text _ w ∙ ap (λ k. drop k w) head-end ∙ sym (drop-drop (length head) (xylen B i) w)
+
+  head-fits : (w : Word) → front (xyOf B i) w ≡ true → front head (drop (xylen B i) w) ≡ true → Fit text B w (cutBy (s .stop - l - s .start))
+  head-fits w e f =
+      cut-fits text B w _
+      (sum-within (xylen B i) (length head) (s .stop - l - s .start) (length w) (rw (li .longXY) (xy-within text B i s li w e))
+      (rw (← length-drop (xylen B i) w) (front-length head (drop (xylen B i) w) f)) head-end)
+
+  head-mark : (p : Word) → MarkFit text B p (record { from = s .stop - l; to = s .stop; cut = length p })
+  head-mark p =
+      let z = z-length text B i s li in
+      let a = li .first in
+      let b = li .second in
+      let c = li .third in
+      let d = li .short in
+      record { up = omega arith; inside = li .inside; short = omega arith; within = omega arith; whole = λ _. refl }
+
+module _ (text : List ℕ) (B : List Word) (i j : ℕ) (s t : Site) (li : Lies text B i s) (lj : Lies text B j t) (u v p : Word) where
+  pub shared-end : sharedEnd text s t ≡ commonEnd (zOf B i) (zOf B j)
+  unfolding sharedEnd
+  shared-end = rw (li .z, lj .z)
+
+  abbrev both8 : Bool
+  both8 =
+      front (head text B i s li (commonEnd (zOf B i) (zOf B j)) (end-within (zOf B i) (zOf B j) .0)) (drop (xylen B i) u)
+      && front (head text B j t lj (commonEnd (zOf B i) (zOf B j)) (end-within (zOf B i) (zOf B j) .1)) (drop (xylen B j) v)
+
+  carried8 : front (xyOf B i) u ≡ true → front (xyOf B j) v ≡ true → Carries text B u v p (plan8Of text s t (sharedEnd text s t) u v p) (row8 B i j u v p)
+  unfolding plan8Of plan8 planned row8
+  carried8 e f =
+      rw (shared-end, head-test text B i s li l hi u, head-test text B j t lj l hj v) (by-test both8 refl)
+    where
+      l : ℕ
+      l = commonEnd (zOf B i) (zOf B j)
+
+      hi : commonEnd (zOf B i) (zOf B j) ≤ length (zOf B i)
+      hi = end-within (zOf B i) (zOf B j) .0
+
+      hj : commonEnd (zOf B i) (zOf B j) ≤ length (zOf B j)
+      hj = end-within (zOf B i) (zOf B j) .1
+
+      by-test : (q : Bool) → both8 ≡ q → Carries text B u v p (cond q (plan8 s t (commonEnd (zOf B i) (zOf B j)) (length p)) (End false))
+          (choose q (λ _. go (drop (length (take (length (zOf B i) - commonEnd (zOf B i) (zOf B j)) (zOf B i))) (drop (xylen B i) u))
+          (drop (length (take (length (zOf B j) - commonEnd (zOf B i) (zOf B j)) (zOf B j))) (drop (xylen B j) v))
+          (drop (length (take (length (zOf B i) - commonEnd (zOf B i) (zOf B j)) (zOf B i))) (zOf B i))) (λ _. end false))
+      by-test true q =
+          let r = simp and-eq-true-iff at q in
+          record {
+            same =
+                go-same (head-cut text B i s li (commonEnd (zOf B i) (zOf B j)) hi u) (head-cut text B j t lj (commonEnd (zOf B i) (zOf B j)) hj v)
+                (ap (part text (s .stop - commonEnd (zOf B i) (zOf B j)) (s .stop) ++_) (drop-length p) ∙ append-nil _ ∙ sym (head-rest text B i s li (commonEnd (zOf B i) (zOf B j)) hi));
+            fits =
+                goes (head-fits text B i s li (commonEnd (zOf B i) (zOf B j)) hi u e (r .0)) (head-fits text B j t lj (commonEnd (zOf B i) (zOf B j)) hj v f (r .1))
+                (head-mark text B i s li (commonEnd (zOf B i) (zOf B j)) hi p);
+          }
+      by-test false q = record { same = refl; fits = ends }
+
+-- a plan by a number that a test chooses carries what the test chooses
+pub by-cond : (text : List ℕ) (B : List Word) (u v p : Word) (f : ℕ → Plan) (b : Bool) (x y : ℕ) (X Y : Unit {0} → Next)
+    → (b ≡ true → Carries text B u v p (f x) (X tt)) → (b ≡ false → Carries text B u v p (f y) (Y tt)) → Carries text B u v p (f (cond b x y)) (choose b X Y)
+by-cond text B u v p f true x y X Y g h = g refl
+by-cond text B u v p f false x y X Y g h = h refl
+
+or-right : (a b : Bool) → (a || b) ≡ true → a ≡ false → b ≡ true
+or-right true b e f = absurd (true≢false f)
+or-right false b e f = e
+
+module _ (text : List ℕ) (B : List Word) (i j : ℕ) (s t : Site) (li : Lies text B i s) (lj : Lies text B j t) (u v p : Word) (e : front (xyOf B i) u ≡ true) where
+  from7 : front (xyOf B j) v ≡ true → Carries text B u v p (planBy text B s t u v p (number7 B i j u v p)) (row7 B i j u v p)
+  unfolding planBy number7 row7
+  from7 f =
+      by-cond text B u v p (planBy text B s t u v p) (front (word B i) u && not (front (zOf B j) (drop (xylen B j) v))) 7 8
+      (λ _. go (zOf B j ++ drop (len B i) u) (drop (xylen B j) v) []) (λ _. row8 B i j u v p)
+      (λ q. carried7 text B i j s t li lj u v p ((simp and-eq-true-iff at q) .0) f)
+      (λ q. carried8 text B i j s t li lj u v p e f)
+
+  from6 : front (xyOf B j) v ≡ true → Carries text B u v p (planBy text B s t u v p (number6 B i j u v p)) (row6 B i j u v p)
+  unfolding planBy number6 row6
+  from6 f =
+      by-cond text B u v p (planBy text B s t u v p) (not (front (zOf B i) (drop (xylen B i) u)) && front (word B j) v) 6 (number7 B i j u v p)
+      (λ _. go (drop (xylen B i) u) (zOf B i ++ drop (len B j) v) []) (λ _. row7 B i j u v p)
+      (λ q. carried6 text B i j s t li lj u v p e ((simp and-eq-true-iff at q) .1))
+      (λ q. from7 f)
+
+  from5 : (front (xyOf B i) v || front (xyOf B j) v) ≡ true → Carries text B u v p (planBy text B s t u v p (number5 B i j u v p)) (row5 B i j u v p)
+  unfolding planBy number5 row5
+  from5 f =
+      by-cond text B u v p (planBy text B s t u v p) (front (xyOf B i) v) 5 (number6 B i j u v p)
+      (λ _. go (drop (xylen B i) u) (drop (xylen B i) v) (choose (front p (xOf B i)) (λ _. []) (λ _. zOf B i))) (λ _. row6 B i j u v p)
+      (λ q. carried5 text B i j s t li lj u v p e q)
+      (λ q. from6 (or-right (front (xyOf B i) v) (front (xyOf B j) v) f q))
+
+  from4 : (front (xyOf B i) v || front (xyOf B j) v) ≡ true → Carries text B u v p (planBy text B s t u v p (number4 B i j u v p)) (row4 B i j u v p)
+  unfolding planBy number4 row4
+  from4 f =
+      by-cond text B u v p (planBy text B s t u v p) (front (word B i) u && (front (word B i) v || front (word B j) v)) 4 (number5 B i j u v p)
+      (λ _. go (choose (active B (zOf B i) (drop (len B i) u)) (λ _. zOf B i) (λ _. zOf B j) ++ drop (len B i) u)
+      (choose (active B (zOf B i) (drop (len B i) u)) (λ _. zOf B i) (λ _. zOf B j) ++ choose (front (word B i) v) (λ _. drop (len B i) v) (λ _. drop (len B j) v)) [])
+      (λ _. row5 B i j u v p)
+      (λ q. let r = simp and-eq-true-iff at q in carried4 text B i j s t li lj u v p (r .0) (r .1))
+      (λ q. from5 f)
+
+  pub from3 : Carries text B u v p (planBy text B s t u v p (number3 B i j u v p)) (row3 B i j u v p)
+  unfolding planBy number3 row3 planned
+  from3 =
+      by-cond text B u v p (planBy text B s t u v p) ((front p (xOf B i) || front p (xOf B j)) && (front (xyOf B i) v || front (xyOf B j) v)) (number4 B i j u v p) 3
+      (λ _. row4 B i j u v p) (λ _. end false)
+      (λ q. from4 ((simp and-eq-true-iff at q) .1))
+      (λ q. record { same = refl; fits = ends })

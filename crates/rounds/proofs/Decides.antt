@@ -1,0 +1,100 @@
+-- The plan by the number of the first row that fits carries the round.
+use Prim.Native.Nat.{ℕ, zero, suc, _+_, _-_, _*_, _%_, _≤_, _<_, min}
+use mathlib.Core.Bool.{Bool, true, false, cond, _&&_, _||_, true≢false}
+use mathlib.Core.List.{List, [], _∷_, _++_}
+use mathlib.Core.Path.{_≡_, refl, sym, ap, _∙_, subst}
+use native.Mathlib.Omega.{arith}
+use lib.Dec.{eqb, ltb}
+use borrow.Author.Tests.{ltb-true}
+use lib.ListN.{length, getD, drop}
+use Rattle.words.specs.Words.{Word, isEmpty, front}
+use Rattle.words.specs.Relations.{other}
+use Rattle.overlap.specs.Cuts.{xyOf}
+use Rattle.congruence.specs.Rows.{Next, choose, alike, dropFirst, row3, fromFront, cleanFront, round}
+use Rattle.congruence.specs.Rows.Next.{end, go}
+use Rattle.layout.specs.Layout.{wordsIn, Checked}
+use Rattle.rounds.specs.declared.Plan.{Plan}
+use Rattle.rounds.specs.declared.Plan.the-variants.{End, Go}
+use Rattle.rounds.specs.declared.Site.{Site}
+use Rattle.rounds.specs.Plans.{applied, planned, PlanFit, Carries, Decided, Paired}
+use Rattle.rounds.specs.Plans.PlanFit.{ends, goes}
+use Rattle.rounds.specs.Numbers.{number3, numberOf, siteOf, cutBy, plan1, dropOne, markDrop, plan2, planBy}
+use Rattle.rounds.proofs.Sites.{Lies, lies, length-words}
+use Rattle.rounds.proofs.Cleans.{clean-front}
+use Rattle.rounds.proofs.Carried.{go-same, cut-fits, cut-mark, cut-applied, by-cond, from3}
+
+-- a word that is not empty has a letter
+pub some-letter : (u : Word) → isEmpty u ≡ false → 1 ≤ length u
+some-letter [] e = absurd (true≢false e)
+some-letter (x ∷ u) e = omega arith
+
+-- the mark without its first letter, if it has one
+mark-drop : (p : Word) → drop (min 1 (length p)) p ≡ drop 1 p
+mark-drop [] = refl
+mark-drop (x ∷ p) = let e : min 1 (suc (length p)) ≡ 1 = omega arith in ap (λ k. drop k (x ∷ p)) e
+
+pub none-empty : (a b : Bool) → (a || b) ≡ false → (a ≡ false) × (b ≡ false)
+none-empty true b e = absurd (true≢false e)
+none-empty false b e = (refl, e)
+
+cond-both : (a b : Bool) (x y : Plan) → cond a (cond b x y) y ≡ cond (a && b) x y
+cond-both true b x y = refl
+cond-both false b x y = refl
+
+-- row 2
+carried2 : (text : List ℕ) (B : List Word) (u v p : Word) → 1 ≤ length u → 1 ≤ length v → Carries text B u v p (plan2 u v p) (dropFirst u v p)
+unfolding plan2 markDrop dropOne dropFirst planned
+carried2 text B u v p a b =
+    rw (cond-both (alike u v) (isEmpty p || alike p u) (dropOne (min 1 (length p))) (End false)) (by-test (alike u v && (isEmpty p || alike p u)))
+  where
+    by-test : (q : Bool) → Carries text B u v p (cond q (dropOne (min 1 (length p))) (End false)) (choose q (λ _. go (drop 1 u) (drop 1 v) (drop 1 p)) (λ _. end false))
+    by-test true =
+        record {
+          same = go-same (cut-applied text 1 u) (cut-applied text 1 v) (cut-applied text _ p ∙ mark-drop p);
+          fits = goes (cut-fits text B u 1 a) (cut-fits text B v 1 b) (cut-mark text B p (min 1 (length p)) (omega arith));
+        }
+    by-test false = record { same = refl; fits = ends }
+
+-- the other word of the same relation is there
+pub other-there : (n i : ℕ) → n % 2 ≡ 0 → i < n → other i < n
+other-there n i e h = omega arith
+
+module _ (text table : List ℕ) (n : ℕ) (c : Paired text table n) (u v p : Word) (i : ℕ) (f : i ≡ cleanFront (wordsIn text table n) u) where
+  from-front : 1 ≤ length u → 1 ≤ length v
+      → Carries text (wordsIn text table n) u v p
+      (planBy text (wordsIn text table n) (siteOf table i) (siteOf table (other i)) u v p (cond (ltb i (length (wordsIn text table n))) (number3 (wordsIn text table n) i (other i) u v p) 2))
+      (fromFront (wordsIn text table n) u v p i)
+  unfolding planBy fromFront
+  from-front a b =
+      by-cond text (wordsIn text table n) u v p (planBy text (wordsIn text table n) (siteOf table i) (siteOf table (other i)) u v p)
+      (ltb i (length (wordsIn text table n))) (number3 (wordsIn text table n) i (other i) u v p) 2
+      (λ _. row3 (wordsIn text table n) i (other i) u v p) (λ _. dropFirst u v p)
+      (λ q.
+      let k = ltb-true i (length (wordsIn text table n)) q in
+      let l = length-words text table n in
+      let h : i < n = omega arith in
+      from3 text (wordsIn text table n) i (other i) (siteOf table i) (siteOf table (other i))
+      (lies text table n (c .checked) i h) (lies text table n (c .checked) (other i) (other-there n i (c .even) h)) u v p
+      (clean-front (wordsIn text table n) u i f k))
+      (λ q. carried2 text (wordsIn text table n) u v p a b)
+
+  carried : Carries text (wordsIn text table n) u v p
+      (planBy text (wordsIn text table n) (siteOf table i) (siteOf table (other i)) u v p (numberOf (wordsIn text table n) u v p i))
+      (round (wordsIn text table n) u v p)
+  unfolding planBy numberOf round plan1 planned
+  carried =
+      by-cond text (wordsIn text table n) u v p (planBy text (wordsIn text table n) (siteOf table i) (siteOf table (other i)) u v p)
+      (isEmpty u || isEmpty v) 1 (cond (ltb i (length (wordsIn text table n))) (number3 (wordsIn text table n) i (other i) u v p) 2)
+      (λ _. end (isEmpty u && (isEmpty v && isEmpty p))) (λ _. fromFront (wordsIn text table n) u v p (cleanFront (wordsIn text table n) u))
+      (λ q. record { same = refl; fits = ends })
+      (λ q.
+      let r = none-empty (isEmpty u) (isEmpty v) q in
+      rw (← f) (from-front (some-letter u (r .0)) (some-letter v (r .1))))
+
+  -- the plan that is made for the row that fits
+  pub decided-by : (row : ℕ) (r : Plan) → row ≡ numberOf (wordsIn text table n) u v p i
+      → r ≡ planBy text (wordsIn text table n) (siteOf table i) (siteOf table (other i)) u v p row → Decided text table n u v p r
+  decided-by row r e q =
+      let k = carried in
+      let m : r ≡ planBy text (wordsIn text table n) (siteOf table i) (siteOf table (other i)) u v p (numberOf (wordsIn text table n) u v p i) = q ∙ rw e in
+      rw m (record { same = k .same; fits = k .fits })

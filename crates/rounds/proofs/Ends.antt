@@ -1,0 +1,171 @@
+-- The longest common end of two parts of the text, counted letter by letter from their ends.
+use Prim.Native.Nat.{ℕ, zero, suc, _+_, _-_, _≤_, _<_, min}
+use mathlib.Core.Bool.{Bool, true, false, true≢false}
+use mathlib.Core.Logic.{by-cases}
+use mathlib.Core.List.{List}
+use mathlib.Core.Path.{_≡_, refl, sym, ap, _∙_, subst}
+use native.Mathlib.Omega.{arith}
+use native.Mathlib.Decide.{decLt}
+use borrow.Author.Needs.{needs}
+use lib.ListN.{length, getD, take, drop}
+use lib.Seq.{getD-take, getD-drop}
+use Rattle.words.specs.Search.{greatest}
+use Rattle.words.specs.Words.{Word, front, lastLetters, commonEnd}
+use Rattle.words.proofs.Searching.{greatest-bound, greatest-passes, greatest-last}
+use Rattle.words.proofs.Fronts.{front-at, at-front}
+use Rattle.layout.specs.Layout.{part}
+use Rattle.rounds.specs.declared.Site.{Site}
+use Rattle.rounds.specs.Plans.{Placed, Mates, BackRoom, AgreeBack}
+use Rattle.rounds.specs.Numbers.{sharedEnd}
+use Rattle.rounds.proofs.Sites.{part-drop, part-length}
+
+-- the greatest number that passes, by what holds of it
+pub greatest-is : (n : ℕ) (p : ℕ → Bool) (m : ℕ) → m ≤ n → (0 < m → p m ≡ true) → ((k : ℕ) → m < k → k ≤ n → p k ≡ false) → greatest n p ≡ m
+greatest-is n p m h t f =
+    let b = greatest-bound n p in
+    by-cases (decLt (greatest n p) m)
+    (λ a. absurd (true≢false (sym (t (omega arith)) ∙ greatest-last n p m a h)))
+    (λ a. by-cases (decLt m (greatest n p))
+    (λ d. absurd (true≢false (sym (greatest-passes n p (omega arith)) ∙ f (greatest n p) d b)))
+    (λ d. omega arith))
+
+-- the last m letters of a part are a part
+last-part : (text : List ℕ) (from to m : ℕ) → from ≤ to → to ≤ length text → m ≤ to - from → lastLetters m (part text from to) ≡ part text (to - m) to
+last-part text from to m u h l =
+    let e : from + (to - from - m) ≡ to - m = omega arith in
+    ap (λ k. drop (k - m) (part text from to)) (part-length text from to h) ∙ part-drop text from to (to - from - m) (omega arith) ∙ ap (λ k. part text k to) e
+
+part-letter : (text : List ℕ) (to m k : ℕ) → m ≤ to → k < m → getD (part text (to - m) to) k 0 ≡ getD text (to - m + k) 0
+part-letter text to m k h l = getD-take (to - (to - m)) (drop (to - m) text) k 0 (omega arith) ∙ getD-drop (to - m) text k 0
+
+-- the same place from both ends
+back : (x m k : ℕ) → m ≤ x → k < m → x - m + k ≡ x - 1 - (m - 1 - k)
+back x m k h l = omega arith
+
+less : (m k : ℕ) → k < m → m - 1 - k < m
+less m k l = omega arith
+
+forth : (x m k : ℕ) → m ≤ x → k < m → x - 1 - k ≡ x - m + (m - 1 - k)
+forth x m k h l = omega arith
+
+-- the first m letters before x and before y agree
+pub record Backwards (text : List ℕ) (x y m : ℕ) : Type 0 where
+  pub at : (k : ℕ) → k < m → getD text (x - 1 - k) 0 ≡ getD text (y - 1 - k) 0
+
+module _ (text : List ℕ) (x y m : ℕ) (hx : x ≤ length text) (hy : y ≤ length text) (mx : m ≤ x) (my : m ≤ y) where
+  letter : {i j : ℕ} → i ≡ j → getD text i 0 ≡ getD text j 0
+  letter e = ap (λ n. getD text n 0) e
+
+  backwards-front : Backwards text x y m → front (part text (x - m) x) (part text (y - m) y) ≡ true
+  backwards-front b =
+      let lx : length (part text (x - m) x) ≡ m = part-length text (x - m) x hx ∙ omega arith in
+      let ly : length (part text (y - m) y) ≡ m = part-length text (y - m) y hy ∙ omega arith in
+      at-front (part text (x - m) x) (part text (y - m) y) (omega arith)
+      (λ k h.
+      let q : k < m = omega arith in
+      part-letter text x m k mx q ∙ letter (back x m k mx q) ∙ b .at (m - 1 - k) (less m k q) ∙ letter (sym (back y m k my q)) ∙ sym (part-letter text y m k my q))
+
+  front-backwards : front (part text (x - m) x) (part text (y - m) y) ≡ true → Backwards text x y m
+  front-backwards f =
+      let lx : length (part text (x - m) x) ≡ m = part-length text (x - m) x hx ∙ omega arith in
+      record {
+        at = λ k h.
+            letter (forth x m k mx h) ∙ sym (part-letter text x m (m - 1 - k) mx (less m k h)) ∙ front-at (part text (x - m) x) (part text (y - m) y) f (m - 1 - k) (rw lx (less m k h))
+            ∙ part-letter text y m (m - 1 - k) my (less m k h) ∙ letter (sym (forth y m k my h));
+      }
+
+-- the test of `commonEnd`
+abbrev test : List ℕ → Site → Site → ℕ → Bool
+test text s t n = front (lastLetters n (part text (s .tail) (s .stop))) (lastLetters n (part text (t .tail) (t .stop)))
+
+module _ (text : List ℕ) (s t : Site) (h : Mates text s t) (m : ℕ) (l : m ≤ min (s .stop - s .tail) (t .stop - t .tail)) where
+  test-parts : test text s t m ≡ front (part text (s .stop - m) (s .stop)) (part text (t .stop - m) (t .stop))
+  test-parts =
+      rw (last-part text (s .tail) (s .stop) m (h .own .third) (h .own .inside) (omega arith), last-part text (t .tail) (t .stop) m (h .turned .third) (h .turned .inside) (omega arith))
+
+  test-front : front (part text (s .stop - m) (s .stop)) (part text (t .stop - m) (t .stop)) ≡ true → test text s t m ≡ true
+  test-front e = test-parts ∙ e
+
+  front-test : test text s t m ≡ true → front (part text (s .stop - m) (s .stop)) (part text (t .stop - m) (t .stop)) ≡ true
+  front-test e = sym test-parts ∙ e
+
+-- l letters agree, and no more
+counted-at : (text : List ℕ) (s t : Site) → Mates text s t → (l : ℕ) → l ≤ min (s .stop - s .tail) (t .stop - t .tail) → Backwards text (s .stop) (t .stop) l
+    → (l < min (s .stop - s .tail) (t .stop - t .tail) → getD text (s .stop - 1 - l) 0 ≡ getD text (t .stop - 1 - l) 0 → ⊥) → l ≡ sharedEnd text s t
+unfolding sharedEnd commonEnd
+counted-at text s t h l w b d =
+    let is = h .own .inside in
+    let it = h .turned .inside in
+    let ns = part-length text (s .tail) (s .stop) is in
+    let nt = part-length text (t .tail) (t .stop) it in
+    sym (greatest-is (min (length (part text (s .tail) (s .stop))) (length (part text (t .tail) (t .stop)))) (test text s t) l (omega arith)
+    (λ _. test-front text s t h l w (backwards-front text (s .stop) (t .stop) l is it (omega arith) (omega arith) b))
+    (λ k a q. fails k a (omega arith)))
+  where
+    fails : (k : ℕ) → l < k → k ≤ min (s .stop - s .tail) (t .stop - t .tail) → test text s t k ≡ false
+    fails k a q = go (test text s t k) refl
+      where
+        go : (r : Bool) → test text s t k ≡ r → r ≡ false
+        go true e =
+            absurd (d (omega arith)
+            (front-backwards text (s .stop) (t .stop) k (h .own .inside) (h .turned .inside) (omega arith) (omega arith) (front-test text s t h k q e) .at l a))
+        go false e = refl
+
+-- l letters before x and before y are compared, of at most `room`
+pub record Ending (text : List ℕ) (x y room l : ℕ) : Type 0 where
+  pub rooms : BackRoom text x y room
+  pub within : l ≤ room
+  pub agreed : Backwards text x y l
+
+pub ending-start : (text : List ℕ) (x y room : ℕ) → BackRoom text x y room → Ending text x y room 0
+ending-start text x y room h = record { rooms = h; within = omega arith; agreed = record { at = λ k l. absurd (omega arith) } }
+
+-- the place of the next letter
+module _ (z room l : ℕ) (far : room ≤ z) (h : l < room) where
+  pub back-some : 1 ≤ z
+  back-some = omega arith
+
+  pub back-far : l ≤ z - 1
+  back-far = omega arith
+
+  pub back-at : (text : List ℕ) → z ≤ length text → z - 1 - l < length text
+  back-at text i = omega arith
+
+module _ (text : List ℕ) (x y room l : ℕ) (v : Ending text x y room l) where
+  module _ (h : l < room) where
+    pub ending-more : getD text (x - 1 - l) 0 ≡ getD text (y - 1 - l) 0 → Ending text x y room (l + 1)
+    ending-more e =
+        record {
+          rooms = v .rooms;
+          within = omega arith;
+          agreed = record { at = λ k b. by-cases (decLt k l) (λ a. v .agreed .at k a) (λ a. let q : l ≡ k = omega arith in subst (λ (m : ℕ). getD text (x - 1 - m) 0 ≡ getD text (y - 1 - m) 0) q e) };
+        }
+
+    pub ending-stop : (getD text (x - 1 - l) 0 ≡ getD text (y - 1 - l) 0 → ⊥) → AgreeBack text x y room l
+    ending-stop d = record { within = v .within; at = v .agreed .at; apart = λ _. d }
+
+  pub ending-end : room ≤ l → AgreeBack text x y room l
+  ending-end h = record { within = v .within; at = v .agreed .at; apart = λ k. absurd (omega arith) }
+
+pub ruleset endings = (ending-start, ending-more, ending-stop, back-some, back-far, back-at, ending-end, needs)
+
+-- the common end of two Z
+module _ (text : List ℕ) (s t : Site) (h : Mates text s t) where
+  pub mates-left : s .tail ≤ s .stop
+  mates-left = h .own .third
+
+  pub mates-right : t .tail ≤ t .stop
+  mates-right = h .turned .third
+
+  module _ (room : ℕ) (e : room ≡ min (s .stop - s .tail) (t .stop - t .tail)) where
+    pub back-room : BackRoom text (s .stop) (t .stop) room
+    back-room =
+        let a = h .own .inside in
+        let b = h .turned .inside in
+        record { insideX = a; insideY = b; farX = omega arith; farY = omega arith }
+
+    pub back-shared : (l : ℕ) → AgreeBack text (s .stop) (t .stop) room l → l ≡ sharedEnd text s t
+    back-shared l v =
+        counted-at text s t h l (let w = v .within in omega arith) (record { at = v .at }) (λ q. v .apart (omega arith))
+
+pub ruleset sharedEnds = (mates-left, mates-right, back-room, back-shared, needs)

@@ -1,0 +1,292 @@
+-- A law for each way that the code of a round can go.
+use Prim.Native.Nat.{ℕ, zero, suc, _+_, _-_, _*_, _%_, _≤_, _<_, min}
+use mathlib.Core.Bool.{Bool, true, false, cond, _&&_, _||_, not, true≢false}
+use mathlib.Core.List.{List, [], _∷_, _++_}
+use mathlib.Core.Path.{_≡_, refl, sym, ap, _∙_, subst}
+use native.Mathlib.Omega.{arith}
+use borrow.Author.Needs.{needs}
+use mir.Syntax.{w64}
+use mir.Val.{Fits}
+use lib.Dec.{eqb, leb, ltb}
+use lib.ListN.{length, getD, take, drop}
+use borrow.Author.Tests.{eqb-true, eq-eqb, ne-eqb, lt-ltb, le-ltb, le-leb, lt-leb}
+use Rattle.words.specs.Words.{Word, isEmpty, front}
+use Rattle.words.proofs.Fronts.{front-length}
+use Rattle.layout.specs.Layout.{startOf, xEndOf, zStartOf, endOf, part, wordsIn, Checked}
+use Rattle.words.specs.Search.{anyBelow, greatest}
+use Rattle.words.proofs.Searching.{NoneBelow, none-start, none-more, none-all, any-of, any-none, greatest-bound}
+use Rattle.overlap.specs.Cuts.{xlen, xylen, xyOf}
+use Rattle.overlap.proofs.Facts.{rigid-of-c4}
+use Rattle.congruence.specs.Rows.{standsAt, crowded, cleanFront}
+use Rattle.index.specs.Index.{Span, frontAt}
+use Rattle.index.proofs.FrontAt.{stands-front}
+use Rattle.rounds.specs.declared.Site.{Site}
+use Rattle.rounds.specs.Plans.{Placed, Known, Mates, Sited}
+use Rattle.rounds.specs.Numbers.{siteOf, shapeOf, rowBy, shapedRow, markedBy, lateRow, firstRow, crowdedFront, sharedEnd}
+use Rattle.rounds.proofs.Sites.{part-take, part-length, length-words, lies}
+use Rattle.rounds.proofs.Cleans.{clean-none, clean-crowded, clean-here}
+
+-- the parts of a relation word lie in the text
+module _ (text : List ℕ) (s : Site) (h : Placed text s) where
+  pub span-xy : Span text (s .start) (s .tail)
+  span-xy = record { upwards = let a = h .first in let b = h .second in omega arith; inside = let a = h .third in let b = h .inside in omega arith }
+
+  pub span-z : Span text (s .tail) (s .stop)
+  span-z = record { upwards = h .third; inside = h .inside }
+
+  pub span-whole : Span text (s .start) (s .stop)
+  span-whole = record { upwards = let a = h .first in let b = h .second in let c = h .third in omega arith; inside = h .inside }
+
+  pub tail-after : s .start ≤ s .tail
+  tail-after = let a = h .first in let b = h .second in omega arith
+
+  pub stop-after : s .start ≤ s .stop
+  stop-after = let a = h .first in let b = h .second in let c = h .third in omega arith
+
+pub ruleset spans = (span-xy, span-z, span-whole, tail-after, stop-after)
+
+-- how a word begins
+module _ (text : List ℕ) (s : Site) (w : Word) (x : Bool) (e : x ≡ front (part text (s .start) (s .tail)) w) where
+  pub shape-none : x ≡ false → 0 ≡ shapeOf text s w
+  unfolding shapeOf
+  shape-none h = rw (← e, h)
+
+  module _ (h : x ≡ true) (y : Bool) (f : y ≡ front (part text (s .tail) (s .stop)) (drop (s .tail - s .start) w)) where
+    pub shape-part : y ≡ false → 1 ≡ shapeOf text s w
+    unfolding shapeOf
+    shape-part k = rw (← e, h, ← f, k)
+
+    pub shape-whole : y ≡ true → 2 ≡ shapeOf text s w
+    unfolding shapeOf
+    shape-whole k = rw (← e, h, ← f, k)
+
+pub ruleset shapes = (shape-none, shape-part, shape-whole, spans, needs)
+
+pub row-whole : (w : Bool) (a b r : ℕ) → w ≡ true → r ≡ rowBy true a b → r ≡ rowBy w a b
+row-whole w a b r h e = rw h e
+
+pub row-part : (w : Bool) (a b r : ℕ) → w ≡ false → r ≡ rowBy false a b → r ≡ rowBy w a b
+row-part w a b r h e = rw h e
+
+pub ruleset rows = (row-whole, row-part, needs)
+
+-- the row by three tests
+pub row-shaped : (text : List ℕ) (s t : Site) (u v : Word) (w : Bool) (a b r : ℕ) → w ≡ front (part text (s .tail) (s .stop)) (drop (s .tail - s .start) u)
+    → a ≡ shapeOf text s v → b ≡ shapeOf text t v → r ≡ rowBy w a b → r ≡ shapedRow text s t u v
+unfolding shapedRow
+row-shaped text s t u v w a b r e f g h = rw (← e, ← f, ← g) h
+
+pub ruleset shapedRows = (row-shaped, spans, needs)
+
+-- four positions
+pub site-read : (table : List ℕ) (i a b c d : ℕ) → a ≡ startOf table i → b ≡ xEndOf table i → c ≡ zStartOf table i → d ≡ endOf table i
+    → record { start = a; middle = b; tail = c; stop = d } ≡ siteOf table i
+unfolding siteOf
+site-read table i a b c d e f g h = rw (e, f, g, h)
+
+pub ruleset siteReads = (site-read, needs)
+
+-- two words of one length are fronts of each other alike
+eqb-swap : (x y : ℕ) → eqb x y ≡ eqb y x
+eqb-swap x y = go (eqb x y) refl (eqb y x) refl
+  where
+    go : (a : Bool) → eqb x y ≡ a → (b : Bool) → eqb y x ≡ b → a ≡ b
+    go true e true f = refl
+    go true e false f = absurd (true≢false (sym (eq-eqb y x (sym (eqb-true x y e))) ∙ f))
+    go false e true f = absurd (true≢false (sym (eq-eqb x y (sym (eqb-true y x f))) ∙ e))
+    go false e false f = refl
+
+front-swap : (a b : Word) → length a ≡ length b → front a b ≡ front b a
+unfolding front
+front-swap [] [] h = refl
+front-swap [] (y ∷ b) h = absurd (omega arith)
+front-swap (x ∷ a) [] h = absurd (omega arith)
+front-swap (x ∷ a) (y ∷ b) h = rw (eqb-swap x y) (ap (eqb y x &&_) (front-swap a b (omega arith)))
+
+-- only the first letters of the longer word are asked
+front-take : (a b : Word) → front a b ≡ front a (take (length a) b)
+unfolding front
+front-take [] b = refl
+front-take (x ∷ a) [] = refl
+front-take (x ∷ a) (y ∷ b) = ap (eqb x y &&_) (front-take a b)
+
+-- the mark and X
+module _ (text : List ℕ) (s : Site) (p : Word) (h : Placed text s) where
+  pub marks-long : s .middle - s .start < length p → false ≡ front p (part text (s .start) (s .middle))
+  marks-long l = go (front p (part text (s .start) (s .middle))) refl
+    where
+      go : (t : Bool) → front p (part text (s .start) (s .middle)) ≡ t → false ≡ t
+      go true e =
+          let f = front-length p (part text (s .start) (s .middle)) e in
+          let a = h .second in
+          let b = h .third in
+          let c = h .inside in
+          let g = part-length text (s .start) (s .middle) (omega arith) in
+          absurd (omega arith)
+      go false e = refl
+
+  module _ (l : length p ≤ s .middle - s .start) where
+    pub marks-span : Span text (s .start) (s .start + length p)
+    marks-span =
+        let a = h .first in
+        let b = h .second in
+        let c = h .third in
+        let d = h .inside in
+        record { upwards = omega arith; inside = omega arith }
+
+    pub marks-all : (r : Bool) → r ≡ front (part text (s .start) (s .start + length p)) p → r ≡ front p (part text (s .start) (s .middle))
+    marks-all r e =
+        let a = h .first in
+        let b = h .second in
+        let c = h .third in
+        let d = h .inside in
+        let g : s .start + length p - s .start ≡ length p = omega arith in
+        let k = part-length text (s .start) (s .start + length p) (omega arith) ∙ g in
+        e ∙ front-swap (part text (s .start) (s .start + length p)) p k ∙ ap (front p) (sym (part-take text (s .start) (s .middle) (length p) l))
+        ∙ sym (front-take p (part text (s .start) (s .middle)))
+
+pub ruleset marks = (marks-long, marks-span, marks-all, spans, needs)
+
+-- p and two X
+pub marked-left : (text : List ℕ) (s t : Site) (p : Word) (x : Bool) → x ≡ front p (part text (s .start) (s .middle)) → x ≡ true → true ≡ markedBy text s t p
+unfolding markedBy
+marked-left text s t p x e h = rw (← e, h)
+
+pub marked-right : (text : List ℕ) (s t : Site) (p : Word) (x y : Bool) → x ≡ front p (part text (s .start) (s .middle)) → x ≡ false
+    → y ≡ front p (part text (t .start) (t .middle)) → y ≡ markedBy text s t p
+unfolding markedBy
+marked-right text s t p x y e h f = rw (← e, h) f
+
+pub ruleset markeds = (marked-left, marked-right, needs)
+
+-- the row from row 3 on
+pub late-other : (text : List ℕ) (s t : Site) (u v p : Word) (m : Bool) → m ≡ markedBy text s t p → m ≡ false → 3 ≡ lateRow text s t u v p
+unfolding lateRow
+late-other text s t u v p m e h = rw (← e, h)
+
+pub late-shaped : (text : List ℕ) (s t : Site) (u v p : Word) (m : Bool) (r : ℕ) → m ≡ markedBy text s t p → m ≡ true → r ≡ shapedRow text s t u v → r ≡ lateRow text s t u v p
+unfolding lateRow
+late-shaped text s t u v p m r e h f = rw (← e, h) f
+
+pub ruleset lates = (late-other, late-shaped, needs)
+
+-- empty words
+pub empty-left : (a b : Word) → 0 < length a → false ≡ isEmpty (a ++ b)
+empty-left [] b h = absurd (omega arith)
+empty-left (x ∷ a) b h = refl
+
+empty-length : (b : Word) → eqb (length b) 0 ≡ isEmpty b
+empty-length [] = refl
+empty-length (x ∷ b) = ne-eqb (suc (length b)) 0 (λ e. absurd (omega arith))
+
+pub empty-right : (a b : Word) → length a ≤ 0 → eqb (length b) 0 ≡ isEmpty (a ++ b)
+empty-right [] b h = empty-length b
+empty-right (x ∷ a) b h = absurd (omega arith)
+
+pub ruleset empties = (empty-left, empty-right, needs)
+
+-- the first row that fits
+module _ (text : List ℕ) (n i : ℕ) (s t : Site) (u v p : Word) (x : Bool) (e : x ≡ isEmpty u) where
+  pub first-u : x ≡ true → 1 ≡ firstRow text n i s t u v p
+  unfolding firstRow
+  first-u h = rw (← e, h)
+
+  module _ (h : x ≡ false) (y : Bool) (f : y ≡ isEmpty v) where
+    pub first-v : y ≡ true → 1 ≡ firstRow text n i s t u v p
+    unfolding firstRow
+    first-v k = rw (← e, h, ← f, k)
+
+    pub first-none : y ≡ false → n ≤ i → 2 ≡ firstRow text n i s t u v p
+    unfolding firstRow
+    first-none k l = rw (← e, h, ← f, k, le-ltb i n l)
+
+    pub first-late : y ≡ false → i < n → (r : ℕ) → r ≡ lateRow text s t u v p → r ≡ firstRow text n i s t u v p
+    unfolding firstRow
+    first-late k l r g = rw (← e, h, ← f, k, lt-ltb i n l) g
+
+pub sited-mates : (text : List ℕ) (n i : ℕ) (s t : Site) → Sited text n i s t → i < n → Mates text s t
+sited-mates text n i s t h l = h .mates l
+
+pub ruleset firsts = (first-u, first-v, first-none, first-late, sited-mates, needs)
+
+-- X and Y at a place
+pub stands-below : (text table : List ℕ) (n : ℕ) (w : Word) (q k : ℕ) → k ≡ frontAt (wordsIn text table n) w q → ltb k n ≡ standsAt (wordsIn text table n) w q
+stands-below text table n w q k e = rw (stands-front (wordsIn text table n) w q, ← e, length-words text table n)
+
+pub ruleset standing = (stands-below, needs)
+
+-- the search over places: none is found from lo on and below q
+pub record Vacant (B : List Word) (w : Word) (lo q : ℕ) : Type 0 where
+  pub low : lo ≤ q
+  pub none : NoneBelow (λ k. leb lo k && standsAt B w k) q
+
+pub vacant-start : (B : List Word) (w : Word) (lo : ℕ) → Vacant B w lo lo
+vacant-start B w lo = record { low = omega arith; none = record { none = λ k h. rw (lt-leb lo k h) } }
+
+module _ (B : List Word) (w : Word) (lo hi q : ℕ) (v : Vacant B w lo q) where
+  pub vacant-more : (x : Bool) → x ≡ standsAt B w q → x ≡ false → Vacant B w lo (q + 1)
+  vacant-more x e h = record { low = let l = v .low in omega arith; none = none-more (λ k. leb lo k && standsAt B w k) q (v .none) (rw (le-leb lo q (v .low), ← e) h) }
+
+  pub vacant-found : q < hi → (x : Bool) → x ≡ standsAt B w q → x ≡ true → true ≡ crowded B w lo hi
+  unfolding crowded
+  vacant-found l x e h = sym (any-of hi (λ k. leb lo k && standsAt B w k) q l (rw (le-leb lo q (v .low), ← e) h))
+
+  pub vacant-end : hi ≤ q → false ≡ crowded B w lo hi
+  unfolding crowded
+  vacant-end l = sym (any-none hi (λ k. leb lo k && standsAt B w k) (λ k h. v .none .none k (omega arith)))
+
+pub ruleset vacants = (vacant-start, vacant-more, vacant-found, vacant-end, needs)
+
+-- the test for a clean front
+module _ (text table : List ℕ) (n i : ℕ) (h : Known text table n i) where
+  pub known-room : 4 * i + 3 < length table
+  known-room = let a = h .checked .laid .few in let b = h .checked .indexed .room in let c = h .there in omega arith
+
+  pub known-checked : Checked text table n
+  known-checked = h .checked
+
+  pub known-placed : (s : Site) → s ≡ siteOf table i → Placed text s
+  known-placed s e = let l = lies text table n (h .checked) i (h .there) in rw e (record { first = l .first; second = l .second; third = l .third; inside = l .inside })
+
+  module _ (s : Site) (e : s ≡ siteOf table i) where
+    pub known-first : s .start ≤ s .middle
+    known-first = known-placed s e .first
+
+    pub known-second : s .start ≤ s .tail
+    known-second = tail-after text s (known-placed s e)
+
+    pub known-fits : Fits w64 (s .middle - s .start + 1)
+    known-fits = let l = lies text table n (h .checked) i (h .there) in rw e (let a = l .second in let b = l .third in let c = l .short in omega arith)
+
+  pub unclean-crowded : (s : Site) → s ≡ siteOf table i → (w : Word) (r : Bool) → r ≡ crowded (wordsIn text table n) w (s .middle - s .start + 1) (s .tail - s .start)
+      → r ≡ crowdedFront (wordsIn text table n) i w
+  unfolding crowdedFront
+  unclean-crowded s e w r f = let l = lies text table n (h .checked) i (h .there) in rw (l .longX, l .longXY) (rw e at f)
+
+pub ruleset uncleans = (known-room, known-checked, known-first, known-second, known-fits, unclean-crowded, needs)
+
+-- the clean front
+module _ (text table : List ℕ) (n : ℕ) (c : Checked text table n) (w : Word) (k : ℕ) (e : k ≡ frontAt (wordsIn text table n) w 0) where
+  pub clean-no-front : n ≤ k → n ≡ cleanFront (wordsIn text table n) w
+  unfolding frontAt
+  clean-no-front h =
+      let l = length-words text table n in
+      sym l ∙ clean-none (wordsIn text table n) (rigid-of-c4 (wordsIn text table n) (c .accepted)) w k e (omega arith)
+
+  module _ (h : k < n) where
+    pub clean-known : Known text table n k
+    clean-known = record { checked = c; there = h }
+
+    pub clean-not : (x : Bool) → x ≡ crowdedFront (wordsIn text table n) k w → x ≡ true → n ≡ cleanFront (wordsIn text table n) w
+    unfolding crowdedFront frontAt
+    clean-not x f q =
+        let l = length-words text table n in
+        sym l ∙ clean-crowded (wordsIn text table n) (rigid-of-c4 (wordsIn text table n) (c .accepted)) w k e (omega arith) (sym f ∙ q)
+
+    pub clean-one : (x : Bool) → x ≡ crowdedFront (wordsIn text table n) k w → x ≡ false → k ≡ cleanFront (wordsIn text table n) w
+    unfolding crowdedFront frontAt
+    clean-one x f q =
+        let l = length-words text table n in
+        clean-here (wordsIn text table n) (rigid-of-c4 (wordsIn text table n) (c .accepted)) w k e (omega arith) (sym f ∙ q)
+
+pub ruleset cleans = (clean-no-front, clean-known, clean-not, clean-one, needs)

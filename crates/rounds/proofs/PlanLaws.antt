@@ -1,0 +1,243 @@
+-- A law for each way that the functions of the rows can go.
+use Prim.Native.Nat.{ℕ, zero, suc, _+_, _-_, _*_, _%_, _≤_, _<_, min}
+use mathlib.Core.Bool.{Bool, true, false, cond, _&&_, _||_, not, true≢false}
+use mathlib.Core.Logic.{by-cases}
+use mathlib.Core.List.{List, [], _∷_, _++_}
+use mathlib.Core.Path.{_≡_, refl, sym, ap, _∙_, subst}
+use native.Mathlib.Omega.{arith}
+use native.Mathlib.Decide.{decLt}
+use borrow.Author.Needs.{needs}
+use borrow.Author.Tests.{eqb-true, eq-eqb, ne-eqb, lt-ltb, le-ltb}
+use lib.Dec.{eqb, leb, ltb}
+use lib.ListN.{length, getD, take, drop, length-append}
+use Rattle.words.specs.Words.{Word, isEmpty, front, commonEnd}
+use Rattle.words.specs.Relations.{other}
+use Rattle.overlap.specs.Cuts.{xyOf}
+use Rattle.congruence.specs.Rows.{alike, crowded, cleanFront}
+use Rattle.layout.specs.Layout.{part, wordsIn, Checked}
+use Rattle.index.specs.Index.{Span}
+use Rattle.rounds.specs.declared.Change.{Change}
+use Rattle.rounds.specs.declared.Plan.{Plan}
+use Rattle.rounds.specs.declared.Plan.the-variants.{End, Go}
+use Rattle.rounds.specs.declared.Site.{Site}
+use Rattle.rounds.specs.Plans.{Placed, Known, Mates, Sited, BothSome, Turning, Upwards, Headed, Ends, Shared, Fronted, Paired, Decided}
+use Rattle.rounds.specs.Numbers.{siteOf, lateRow, firstRow, number3, numberOf, cutBy, tailBy, sharedEnd, plan1, dropOne, markDrop, plan2, stays, wholeCut, putBoth, plan4, markAfter, plan5, plan6, plan7, restAt, plan8, plan8Of, planBy}
+use Rattle.rounds.proofs.Laws.{empty-left, empty-right, tail-after, stop-after, spans}
+
+-- changes by their numbers
+pub cut-made : (m : ℕ) → record { from = 0; to = 0; cut = m } ≡ cutBy m
+unfolding cutBy
+cut-made m = refl
+
+pub tail-made : (s : Site) (m : ℕ) → record { from = s .tail; to = s .stop; cut = m } ≡ tailBy s m
+unfolding tailBy
+tail-made s m = refl
+
+pub ruleset changesMade = (cut-made, tail-made, needs)
+
+-- plans by their changes
+module _ (c d : Change) where
+  pub made2 : (m : ℕ) → c ≡ cutBy 1 → d ≡ cutBy m → Go c c d ≡ dropOne m
+  unfolding dropOne
+  made2 m e f = rw (e, f)
+
+  pub made5 : (text : List ℕ) (s : Site) (p : Word) → d ≡ markAfter text s p → c ≡ cutBy (s .tail - s .start) → Go c c d ≡ plan5 text s p
+  unfolding plan5
+  made5 text s p e f = rw (e, f)
+
+  pub made8 : (s t : Site) (l k : ℕ) → c ≡ cutBy (s .stop - l - s .start) → d ≡ cutBy (t .stop - l - t .start)
+      → Go c d (record { from = s .stop - l; to = s .stop; cut = k }) ≡ plan8 s t l k
+  unfolding plan8
+  made8 s t l k e f = rw (e, f)
+
+  module _ (a : Change) where
+    pub made4 : (m : ℕ) (z : Site) (l k : ℕ) → c ≡ tailBy z m → d ≡ tailBy z l → a ≡ cutBy k → Go c d a ≡ putBoth m z l k
+    unfolding putBoth
+    made4 m z l k e f g = rw (e, f, g)
+
+    pub made6 : (s t : Site) (k : ℕ) → c ≡ cutBy (s .tail - s .start) → d ≡ tailBy s (t .stop - t .start) → a ≡ cutBy k → Go c d a ≡ plan6 s t k
+    unfolding plan6
+    made6 s t k e f g = rw (e, f, g)
+
+    pub made7 : (s t : Site) (k : ℕ) → c ≡ tailBy t (s .stop - s .start) → d ≡ cutBy (t .tail - t .start) → a ≡ cutBy k → Go c d a ≡ plan7 s t k
+    unfolding plan7
+    made7 s t k e f g = rw (e, f, g)
+
+-- what a sum leaves
+pub sum-low : (a l b : ℕ) → a + l ≤ b → l ≤ b
+sum-low a l b h = omega arith
+
+pub sum-far : (a l b : ℕ) → a + l ≤ b → a ≤ b - l
+sum-far a l b h = omega arith
+
+pub ruleset mades = (made2, made4, made5, made6, made7, made8, sum-low, sum-far, tail-after, needs)
+
+-- row 1
+module _ (u v p : Word) (x : Bool) (e : x ≡ isEmpty u) where
+  pub finish-u : x ≡ false → End false ≡ plan1 u v p
+  unfolding plan1
+  finish-u h = rw (← e, h)
+
+  module _ (h : x ≡ true) (y : Bool) (f : y ≡ isEmpty v) where
+    pub finish-v : y ≡ false → End false ≡ plan1 u v p
+    unfolding plan1
+    finish-v k = rw (← e, h, ← f, k)
+
+    pub finish-p : y ≡ true → End (eqb (length p) 0) ≡ plan1 u v p
+    unfolding plan1
+    finish-p k = rw (← e, h, ← f, k) (ap End (empty-right [] p (omega arith)))
+
+pub ruleset finishes = (finish-u, finish-v, finish-p, needs)
+
+-- row 2
+pub mark-none : (x : ℕ) (p : Word) (r : Plan) → length p ≡ 0 → r ≡ dropOne 0 → r ≡ markDrop x p
+unfolding markDrop
+mark-none x [] r h e = e
+mark-none x (y ∷ p) r h e = absurd (omega arith)
+
+pub mark-there : (p : Word) → (length p ≡ 0 → ⊥) → 0 < length p
+mark-there p h = omega arith
+
+pub mark-like : (x : ℕ) (p : Word) → (length p ≡ 0 → ⊥) → getD p 0 0 ≡ x → (r : Plan) → r ≡ dropOne 1 → r ≡ markDrop x p
+unfolding markDrop
+mark-like x [] h k r e = absurd (h refl)
+mark-like x (y ∷ p) h k r e = let q : min 1 (suc (length p)) ≡ 1 = omega arith in rw (eq-eqb y x k, q) e
+
+pub mark-unlike : (x : ℕ) (p : Word) → (length p ≡ 0 → ⊥) → (getD p 0 0 ≡ x → ⊥) → End false ≡ markDrop x p
+unfolding markDrop
+mark-unlike x [] h k = absurd (h refl)
+mark-unlike x (y ∷ p) h k = rw (ne-eqb y x k)
+
+pub ruleset markDrops = (mark-none, mark-there, mark-like, mark-unlike, needs)
+
+module _ (u v p : Word) (x y : ℕ) (e : x ≡ getD u 0 0) (f : y ≡ getD v 0 0) where
+  pub drop-unlike : (x ≡ y → ⊥) → End false ≡ plan2 u v p
+  unfolding plan2
+  drop-unlike d = let q : eqb (getD u 0 0) (getD v 0 0) ≡ false = rw (← e, ← f) (ne-eqb x y d) in rw q
+
+  pub drop-like : x ≡ y → (r : Plan) → r ≡ markDrop x p → r ≡ plan2 u v p
+  unfolding plan2
+  drop-like d r h = let q : eqb (getD u 0 0) (getD v 0 0) ≡ true = rw (← e, ← f) (eq-eqb x y d) in rw (q, ← e) h
+
+pub some-left : (a b v : Word) → BothSome (a ++ b) v → 0 < length a + length b
+some-left a b v h = let s = h .someU in let l = length-append a b in omega arith
+
+pub some-right : (u a b : Word) → BothSome u (a ++ b) → 0 < length a + length b
+some-right u a b h = let s = h .someV in let l = length-append a b in omega arith
+
+pub ruleset letterDrops = (drop-unlike, drop-like, some-left, some-right, needs)
+
+-- row 4
+module _ (text table : List ℕ) (n : ℕ) (s t : Site) (h : Turning text table n s t) where
+  pub turning-checked : Checked text table n
+  turning-checked = h .checked
+
+  pub turning-mates : Mates text s t
+  turning-mates = h .mates
+
+  pub turning-tail : s .start ≤ s .tail
+  turning-tail = tail-after text s (h .mates .own)
+
+  pub turning-stop : s .start ≤ s .stop
+  turning-stop = stop-after text s (h .mates .own)
+
+module _ (B : List Word) (s t : Site) (u : Word) (x : Bool) (e : x ≡ crowded B u (s .tail - s .start) (s .stop - s .start)) where
+  pub stays-own : x ≡ true → s ≡ stays B s t u
+  unfolding stays
+  stays-own h = rw (← e, h)
+
+  pub stays-turned : x ≡ false → t ≡ stays B s t u
+  unfolding stays
+  stays-turned h = rw (← e, h)
+
+pub ruleset stayings = (turning-checked, turning-tail, turning-stop, stays-own, stays-turned, needs)
+
+module _ (text : List ℕ) (s t : Site) (h : Mates text s t) where
+  pub mates-whole : Span text (s .start) (s .stop)
+  mates-whole = record { upwards = stop-after text s (h .own); inside = h .own .inside }
+
+  pub mates-stop : s .start ≤ s .stop
+  mates-stop = stop-after text s (h .own)
+
+  pub mates-stop′ : t .start ≤ t .stop
+  mates-stop′ = stop-after text t (h .turned)
+
+  module _ (v : Word) (x : Bool) (e : x ≡ front (part text (s .start) (s .stop)) v) where
+    pub whole-own : x ≡ true → s .stop - s .start ≡ wholeCut text s t v
+    unfolding wholeCut
+    whole-own q = rw (← e, q)
+
+    pub whole-turned : x ≡ false → t .stop - t .start ≡ wholeCut text s t v
+    unfolding wholeCut
+    whole-turned q = rw (← e, q)
+
+pub ruleset wholes = (mates-whole, mates-stop, mates-stop′, whole-own, whole-turned, needs)
+
+pub exchange-made : (text : List ℕ) (B : List Word) (s t : Site) (u v : Word) (k : ℕ) (z : Site) (m : ℕ) (r : Plan) → z ≡ stays B s t u → m ≡ wholeCut text s t v
+    → r ≡ putBoth (s .stop - s .start) z m k → r ≡ plan4 s (stays B s t u) (wholeCut text s t v) k
+unfolding plan4
+exchange-made text B s t u v k z m r e f g = rw (← e, ← f) g
+
+pub ruleset exchanges = (turning-mates, turning-stop, exchange-made, needs)
+
+-- row 5
+module _ (text : List ℕ) (s : Site) (p : Word) (x : Bool) (e : x ≡ front p (part text (s .start) (s .middle))) (c : Change) where
+  pub after-cleared : x ≡ true → c ≡ cutBy (length p) → c ≡ markAfter text s p
+  unfolding markAfter
+  after-cleared h f = rw (← e, h) f
+
+  pub after-tail : x ≡ false → c ≡ tailBy s (length p) → c ≡ markAfter text s p
+  unfolding markAfter
+  after-tail h f = rw (← e, h) f
+
+pub ruleset afters = (after-cleared, after-tail, needs)
+
+-- row 8
+module _ (text : List ℕ) (s : Site) (l : ℕ) (h : Headed text s l) where
+  pub headed-span : Span text (s .tail) (s .stop - l)
+  headed-span = let a = h .lies in let b = h .placed .third in let c = h .placed .inside in record { upwards = omega arith; inside = omega arith }
+
+  pub headed-low : l ≤ s .stop
+  headed-low = let a = h .lies in omega arith
+
+  pub headed-tail : s .start ≤ s .tail
+  headed-tail = tail-after text s (h .placed)
+
+  pub headed-rest : (w : Word) (r : Bool) → r ≡ front (part text (s .tail) (s .stop - l)) (drop (s .tail - s .start) w) → r ≡ restAt text s l w
+  unfolding restAt
+  headed-rest w r e = e
+
+pub ruleset rests = (headed-span, headed-low, headed-tail, headed-rest, needs)
+
+module _ (text : List ℕ) (s t : Site) (l : ℕ) (h : Shared text s t l) where
+  pub shared-own : Headed text s l
+  shared-own = h .own
+
+  pub shared-turned : Headed text t l
+  shared-turned = h .turned
+
+  pub shared-ends : Ends s t l
+  shared-ends =
+      let a = h .own .lies in
+      let b = h .turned .lies in
+      let c = tail-after text s (h .own .placed) in
+      let d = tail-after text t (h .turned .placed) in
+      let e = h .own .placed .third in
+      let f = h .turned .placed .third in
+      record { own = omega arith; turned = omega arith }
+
+module _ (text : List ℕ) (s t : Site) (l : ℕ) (u v p : Word) (x : Bool) (e : x ≡ restAt text s l u) where
+  pub common-u : x ≡ false → End false ≡ plan8Of text s t l u v p
+  unfolding plan8Of
+  common-u h = rw (← e, h)
+
+  module _ (h : x ≡ true) (y : Bool) (f : y ≡ restAt text t l v) where
+    pub common-v : y ≡ false → End false ≡ plan8Of text s t l u v p
+    unfolding plan8Of
+    common-v k = rw (← e, h, ← f, k)
+
+    pub common-both : y ≡ true → (r : Plan) → r ≡ plan8 s t l (length p) → r ≡ plan8Of text s t l u v p
+    unfolding plan8Of
+    common-both k r g = rw (← e, h, ← f, k) g
+
+pub ruleset commons = (shared-own, shared-turned, shared-ends, common-u, common-v, common-both, needs)

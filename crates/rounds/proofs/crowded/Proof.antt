@@ -1,0 +1,27 @@
+use Prim.Native.Nat.{_-_, _+_}
+use lib.ListN.{length}
+use mathlib.Core.List.{_++_}
+use Rattle.layout.specs.Layout.{wordsIn}
+use Rattle.rounds.proofs.Laws.{Vacant, vacants}
+use Rattle.rounds.proofs.crowded.Statement.{statement}
+use Rattle.rounds.proofs.crowded.Tie as tie
+
+abbrev Inv-loop : tie.InvT-loop
+Inv-loop text table n a b lo hi q₀ q = Vacant (wordsIn text table n) (a ++ b) lo q
+
+abbrev μ-loop : tie.MeasureT-loop
+μ-loop text table n a b lo hi q₀ q = hi - q
+
+pub crowded-spec : {M : Type 1} → statement M
+crowded-spec =
+    tie.close
+    (tie.spec
+    Inv-loop
+    μ-loop
+    (λ c. search vacants)
+    (λ c κs. search vacants)
+    (λ c. search vacants)
+    (λ c. search vacants)
+    (λ c. search vacants)
+    (λ c. search vacants)
+    (λ c. search vacants))

@@ -1,0 +1,12 @@
+use Rattle.rounds.proofs.Laws.{rows}
+use Rattle.rounds.proofs.row_by.Statement.{statement}
+use Rattle.rounds.proofs.row_by.Tie as tie
+
+pub row-by-spec : {M : Type 1} → statement M
+row-by-spec =
+    tie.close
+    (tie.spec
+    (λ c κs. search rows)
+    (λ c κs. search rows)
+    (λ c. search rows)
+    (λ c. search rows))

@@ -1,0 +1,13 @@
+use Rattle.rounds.proofs.PlanLaws.{wholes}
+use Rattle.rounds.proofs.whole_cut.Statement.{statement}
+use Rattle.rounds.proofs.whole_cut.Tie as tie
+
+pub whole-cut-spec : {M : Type 1} → statement M
+whole-cut-spec =
+    tie.close
+    (tie.spec
+    (λ c κs. search wholes)
+    (λ c. search wholes)
+    (λ c. search wholes)
+    (λ c. search wholes)
+    (λ c. search wholes))

@@ -1,0 +1,64 @@
+-- What the single round leaves in its three lent buffers (document 01, "Exchanges and rounds", last paragraph).
+use Prim.Native.Nat.{ℕ, _+_, _-_, _≤_}
+use mathlib.Core.List.{List, _++_}
+use mathlib.Core.Path.{_≡_}
+use lib.ListN.{length, drop}
+use lib.Seq.{paste}
+use Rattle.words.specs.Words.{Word}
+use Rattle.congruence.specs.Rows.{Next}
+use Rattle.congruence.specs.Rows.Next.{end, go}
+use Rattle.rounds.specs.declared.Change.{Change}
+use Rattle.rounds.specs.declared.Plan.{Plan}
+use Rattle.rounds.specs.declared.Plan.the-variants.{Go}
+use Rattle.rounds.specs.declared.Stepped.{Stepped}
+use Rattle.rounds.specs.declared.Stepped.the-variants as S
+use Rattle.rounds.specs.Plans.{applied, Paired}
+
+-- an outcome, and the buffers for u, v and p after it
+pub data Outcome : Type 0 where
+  after : Stepped → List ℕ → List ℕ → List ℕ → Outcome
+
+-- a word at the start of a buffer, the bytes after it kept
+abbrev pub over : Word → List ℕ → List ℕ
+over w d = w ++ drop (length w) d
+
+-- an end writes nothing; else the next u, v and p stand at the start of the buffers, and their lengths are given
+unfoldable pub writtenBy : Next → List ℕ → List ℕ → List ℕ → Outcome
+writtenBy (end b) a c d = after (S.End b) a c d
+writtenBy (go u v p) a c d = after (S.Next (length u) (length v) (length p)) (over u a) (over v c) (over p d)
+
+-- the bytes s stand in a buffer from place `at` on
+unfoldable pub copied : List ℕ → ℕ → List ℕ → List ℕ
+copied s at d = paste d at s (length s)
+
+-- a change can be written into a buffer
+pub record Writable (text : List ℕ) (c : Change) (w d : List ℕ) : Type 0 where
+  pub up : c .from ≤ c .to
+  pub inside : c .to ≤ length text
+  pub within : c .cut ≤ length w
+  pub room : c .to - c .from + (length w - c .cut) ≤ length d
+
+-- it is written, and r is the length of the word
+pub record Written (text : List ℕ) (c : Change) (w d : List ℕ) (r : ℕ) (d′ : List ℕ) : Type 0 where
+  pub count : r ≡ length (applied text c w)
+  pub bytes : d′ ≡ over (applied text c w) d
+
+-- three changes can be written, each into its buffer
+pub record Changes (text : List ℕ) (cu cv cp : Change) (u v p a c d : List ℕ) : Type 0 where
+  pub forU : Writable text cu u a
+  pub forV : Writable text cv v c
+  pub forP : Writable text cp p d
+
+-- so can those of a plan, if it has any
+pub record Planned (text : List ℕ) (plan : Plan) (u v p a c d : List ℕ) : Type 0 where
+  pub changes : (cu cv cp : Change) → plan ≡ Go cu cv cp → Changes text cu cv cp u v p a c d
+
+-- what the single round asks of its words and buffers
+pub record Lent (text table : List ℕ) (n : ℕ) (u v p a c d : List ℕ) : Type 0 where
+  pub paired : Paired text table n
+  pub shortU : length u ≤ 4160
+  pub shortV : length v ≤ 4160
+  pub shortP : length p ≤ 64
+  pub roomU : 4224 ≤ length a
+  pub roomV : 4224 ≤ length c
+  pub roomP : 64 ≤ length d
