@@ -1,0 +1,30 @@
+-- The worked examples hold, by computation.
+use Prim.Native.Nat.{_<_}
+use mathlib.Core.Path.{refl}
+use borrow.Author.Tests.{lt-ltb}
+use lib.ListN.{length}
+use Rattle.words.specs.Search.{anyBelow, least, greatest}
+use Rattle.words.specs.Words.{front, commonEnd}
+use Rattle.words.specs.Relations.{sides}
+use Rattle.overlap.specs.Cuts.{twin, pieceAt, three, loose, firstLoose, xlen, zlen}
+use Rattle.overlap.specs.Verdict.{judge, firstRepeated, repeated, sameWord}
+use Rattle.congruence.specs.Rows.{standsAt, crowded, clean, cleanFront, active, dropFirst, row3, row4, row5, row6, row7, row8, fromFront, round}
+use Rattle.congruence.specs.Rounds.{answerFrom}
+use Rattle.format.specs.Limits.{inputMost}
+use Rattle.format.specs.Book.{recordAt, firstUnknown, headAt, fieldsAt, relationAt, relationsFrom, readBook}
+use Rattle.presentation.specs.Loading.{loadBook}
+use Rattle.given.specs.Given.{givenOf, pairOf}
+use Rattle.comparison.specs.Comparing.{answerOf, comparisonOf}
+use Rattle.lines.specs.Decimal.{digitsOf, countUpTo, decimal}
+use Rattle.lines.specs.Lines.{numbered, lineOf, pairLineOf}
+use Rattle.program.specs.Program.{refusedLine, bookEndFrom, comparisonIn, linesFrom, programOf}
+use Rattle.program.specs.Examples.{Hold, none, more, examples, HeavyFirst}
+
+pub examples-hold : Hold examples
+unfolding judge firstRepeated repeated sameWord firstLoose loose three pieceAt twin xlen zlen greatest least anyBelow front standsAt crowded clean cleanFront active dropFirst row3 row4 row5 row6 row7 row8 fromFront round answerFrom commonEnd recordAt firstUnknown headAt fieldsAt relationAt relationsFrom readBook loadBook givenOf pairOf answerOf comparisonOf digitsOf countUpTo decimal numbered lineOf pairLineOf refusedLine bookEndFrom comparisonIn linesFrom programOf examples sides
+examples-hold =
+    more refl (more refl (more refl (more refl (more refl (more refl (more refl (more refl (more refl (more refl (more refl (more refl (more refl (more refl (more refl (more refl (more refl (more refl (more refl (more refl (none))))))))))))))))))))
+
+pub heavy-first : HeavyFirst
+unfolding digitsOf countUpTo decimal numbered pairLineOf refusedLine programOf
+heavy-first input h = rw (lt-ltb inputMost (length input) h)

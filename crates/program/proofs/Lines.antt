@@ -1,0 +1,283 @@
+-- Laws of the code that answers the records of the kind 3 part and writes their lines behind each other.
+use Prim.Native.Nat.{ℕ, zero, suc, _+_, _*_, _-_, _≤_, _<_}
+use mathlib.Core.Bool.{Bool, true, false, cond}
+use mathlib.Core.List.{List, [], _∷_, _++_, append-assoc, append-nil}
+use mathlib.Core.Path.{_≡_, refl, sym, ap, _∙_, subst}
+use native.Mathlib.Omega.{arith}
+use native.Mathlib.Nat.{add-zero}
+use borrow.Author.Needs.{needs}
+use borrow.Author.Tests.{lt-leb, le-leb}
+use lib.Dec.{leb}
+use lib.ListN.{length, take, drop, length-append, take-append-drop}
+use lib.Seq.{slice}
+use mir.Val.{Fits}
+use mir.Syntax.{w64}
+use Rattle.words.specs.Words.{Word}
+use Rattle.layout.specs.Layout.{wordsIn}
+use Rattle.format.specs.declared.Refusal.{Refusal}
+use Rattle.format.specs.declared.Refusal.the-variants.{Short, Kind, Length}
+use Rattle.format.specs.declared.Record.{Record}
+use Rattle.format.specs.declared.Record.the-variants.{Whole, CutOff}
+use Rattle.format.specs.Limits.{comparisonKind, comparisonLength}
+use Rattle.format.specs.Book.{field, between, recordAt, differs}
+use Rattle.format.proofs.Readings.{WholeAt, whole-at}
+use Rattle.comparison.specs.declared.Comparison.{Comparison}
+use Rattle.comparison.specs.State.{Ready}
+use Rattle.comparison.specs.Comparing.{comparisonOf}
+use Rattle.lines.specs.Lines.{Put, lineOf}
+use Rattle.lines.proofs.Laws.{put-both, room-first, room-second}
+use Rattle.program.specs.declared.Request.{Request}
+use Rattle.program.specs.declared.Request.the-variants.{Compare, Refused}
+use Rattle.program.specs.declared.Answered.{Answered}
+use Rattle.program.specs.declared.Answered.the-variants.{Line, Last}
+use Rattle.program.specs.Program.{bookText, longField, refusedLine, comparisonLine, comparisonIn, lineThen, linesFrom}
+use Rattle.program.specs.Requests.{fieldsOf, requestOf, requestAt}
+use Rattle.program.specs.Answers.{answered, answeredAt, byAnswered, linesUnder, Lined, linesOfAccepted, Accepted}
+use Rattle.program.proofs.Size.{equal-of}
+
+take-none : (n : ℕ) → take {A = ℕ} n [] ≡ []
+take-none zero = refl
+take-none (suc n) = refl
+
+-- a part of the input, as the code takes it and as the definition does
+slice-between : (from to : ℕ) (l : List ℕ) → between l from to ≡ slice from to l
+slice-between zero to l = let e : to - 0 ≡ to = omega arith in rw e
+slice-between (suc from) zero [] = let e : 0 - suc from ≡ 0 = omega arith in rw e
+slice-between (suc from) zero (x ∷ l) = let e : 0 - suc from ≡ 0 = omega arith in rw e
+slice-between (suc from) (suc to) [] = take-none (suc to - suc from)
+slice-between (suc from) (suc to) (x ∷ l) = let e : suc to - suc from ≡ to - from = omega arith in rw e (slice-between from to l)
+
+-- where the words of a comparison lie
+pub record Lies (input : List ℕ) (at first second end : ℕ) : Type 0 where
+  pub order : first ≤ second
+  pub next : second ≤ end
+  pub inside : end ≤ length input
+  pub behind : at < end
+
+-- what a record asks for, and the line that the definition gives for it
+module _ (input : List ℕ) (at : ℕ) where
+  lies-in : (o : Record) → recordAt input at ≡ o → (a first second end : ℕ) → requestOf input at o ≡ Compare a first second end → Lies input at first second end
+  unfolding fieldsOf
+  lies-in CutOff q a first second end e = absurd (let z : _≡_ {A = ℕ} 0 1 = cc in omega arith)
+  lies-in (Whole kind from to) q a first second end e = first-test (differs kind comparisonKind) e
+    where
+      L : ℕ
+      L = comparisonLength + field input (from + 4) + field input (from + 6)
+
+      w : WholeAt input at kind from to
+      w = whole-at input at kind from to q
+
+      good : Request
+      good = Compare (longField input from) (from + comparisonLength) (from + comparisonLength + field input (from + 4)) to
+
+      second-test : (b : Bool) → differs (to - from) L ≡ b → cond b (Refused (Length at)) good ≡ Compare a first second end → Lies input at first second end
+      second-test true d e = absurd (let z : _≡_ {A = ℕ} 0 1 = cc in omega arith)
+      second-test false d e =
+          let l = equal-of (to - from) L d in
+          let x : from + comparisonLength ≡ first = cc e in
+          let y : from + comparisonLength + field input (from + 4) ≡ second = cc e in
+          let z : to ≡ end = cc e in
+          record { order = omega arith; next = omega arith; inside = omega (arith, w .fits); behind = omega (arith, w .start) }
+
+      first-test : (b : Bool) → cond b (Refused (Kind at)) (cond (differs (to - from) L) (Refused (Length at)) good) ≡ Compare a first second end → Lies input at first second end
+      first-test true e = absurd (let z : _≡_ {A = ℕ} 0 1 = cc in omega arith)
+      first-test false e = second-test (differs (to - from) L) refl e
+
+  pub lies-of : (r : Request) → r ≡ requestAt input at → (a first second end : ℕ) → r ≡ Compare a first second end → Lies input at first second end
+  unfolding requestAt
+  lies-of r e a first second end f = lies-in (recordAt input at) refl a first second end (sym e ∙ f)
+
+  line-answered : (next : ℕ → List ℕ) (letters : ℕ) (B : List Word) (o : Record)
+      → lineThen next letters B input at o ≡ byAnswered next (answered letters B input (requestOf input at o))
+  unfolding fieldsOf comparisonIn
+  line-answered next letters B CutOff = refl
+  line-answered next letters B (Whole kind from to) = first-test (differs kind comparisonKind)
+    where
+      L : ℕ
+      L = comparisonLength + field input (from + 4) + field input (from + 6)
+
+      good : Request
+      good = Compare (longField input from) (from + comparisonLength) (from + comparisonLength + field input (from + 4)) to
+
+      line : List ℕ
+      line = comparisonLine (comparisonIn letters B input from to) ++ next to
+
+      second-test : (b : Bool) → cond b (refusedLine (Length at)) line ≡ byAnswered next (answered letters B input (cond b (Refused (Length at)) good))
+      second-test true = refl
+      second-test false = refl
+
+      first-test : (b : Bool) → cond b (refusedLine (Kind at)) (cond (differs (to - from) L) (refusedLine (Length at)) line)
+          ≡ byAnswered next (answered letters B input (cond b (Refused (Kind at)) (cond (differs (to - from) L) (Refused (Length at)) good)))
+      first-test true = refl
+      first-test false = second-test (differs (to - from) L)
+
+-- a record's answer
+module _ (input : List ℕ) (at : ℕ) (r : Request) (e : r ≡ requestAt input at) where
+  pub answer-last : (letters : ℕ) (B : List Word) (x : Refusal) → r ≡ Refused x → Last x ≡ answeredAt letters B input at
+  unfolding answeredAt
+  answer-last letters B x f = rw (← e, f)
+
+  module _ (a first second end : ℕ) (f : r ≡ Compare a first second end) where
+    pub answer-order : first ≤ second
+    answer-order = lies-of input at r e a first second end f .order
+
+    pub answer-next : second ≤ end
+    answer-next = lies-of input at r e a first second end f .next
+
+    pub answer-inside : end ≤ length input
+    answer-inside = lies-of input at r e a first second end f .inside
+
+    pub answer-middle : second ≤ length input
+    answer-middle = let l = lies-of input at r e a first second end f in omega (arith, l .next, l .inside)
+
+    pub answer-line : (letters : ℕ) (B : List Word) (c : Comparison) → c ≡ comparisonOf letters B (between input first second) (between input second end) a
+        → Line c end ≡ answeredAt letters B input at
+    unfolding answeredAt
+    answer-line letters B c g = rw (← e, f, g, slice-between first second input, slice-between second end input)
+
+pub ruleset answers = (answer-last, answer-order, answer-next, answer-inside, answer-middle, answer-line, needs)
+
+-- nothing is written yet
+put-none : (out : List ℕ) (place : ℕ) → Put out place [] out place
+put-none out place = record { behind = sym (add-zero place); same = rw add-zero (sym (take-append-drop place out)); kept = refl }
+
+-- the lines before a position are written
+pub record Lining (text table : List ℕ) (n letters : ℕ) (input : List ℕ) (start : ℕ) (out : List ℕ) (place at end : ℕ) (b : List ℕ) : Type 0 where
+  pub ready : Ready text table n
+  pub within : at ≤ length input
+  pub most : ℕ
+  pub enough : length input ≤ at + most
+  pub written : List ℕ
+  pub whole : linesUnder text table n letters input start ≡ written ++ linesFrom most letters (wordsIn text table n) input at
+  pub put : Put out place written b end
+  pub room : place + length (linesUnder text table n letters input start) ≤ length out
+
+module _ (text table : List ℕ) (n letters : ℕ) (input : List ℕ) (start : ℕ) (out : List ℕ) (place : ℕ) where
+  pub lining-start : Lined text table n letters input start out place → Lining text table n letters input start out place start place out
+  lining-start l =
+      record {
+        ready = l .ready;
+        within = l .within;
+        most = length input;
+        enough = omega arith;
+        written = [];
+        whole = refl;
+        put = put-none out place;
+        room = l .room;
+      }
+
+  module _ (at end : ℕ) (b : List ℕ) (l : Lining text table n letters input start out place at end b) where
+    pub lining-ready : Ready text table n
+    lining-ready = l .ready
+
+    pub lining-end : length input ≤ at → Put out place (linesUnder text table n letters input start) b end
+    unfolding linesFrom
+    lining-end h = subst (λ (s : List ℕ). Put out place s b end) (sym (l .whole ∙ nothing (l .most))) (l .put)
+      where
+        nothing : (most : ℕ) → l .written ++ linesFrom most letters (wordsIn text table n) input at ≡ l .written
+        nothing zero = append-nil (l .written)
+        nothing (suc most) = rw (le-leb (length input) at h) (append-nil (l .written))
+
+    module _ (h : at < length input) (r : Answered) (e : r ≡ answeredAt letters (wordsIn text table n) input at) where
+      -- the lines from here on, by the answer
+      on : (m : ℕ) × (length input ≤ at + suc m)
+          × (linesUnder text table n letters input start ≡ l .written ++ byAnswered (linesFrom m letters (wordsIn text table n) input) r)
+      unfolding linesFrom answeredAt requestAt
+      on = step (l .most) (l .enough) (l .whole)
+        where
+          step : (m : ℕ) → length input ≤ at + m → linesUnder text table n letters input start ≡ l .written ++ linesFrom m letters (wordsIn text table n) input at
+              → (m : ℕ) × (length input ≤ at + suc m)
+              × (linesUnder text table n letters input start ≡ l .written ++ byAnswered (linesFrom m letters (wordsIn text table n) input) r)
+          step zero k q = absurd (omega arith)
+          step (suc m) k q =
+              let s = line-answered input at (linesFrom m letters (wordsIn text table n) input) letters (wordsIn text table n) (recordAt input at) in
+              (m, k, q ∙ rw (lt-leb (length input) at h, e) (ap (λ t. l .written ++ t) s))
+
+      -- room for a text that comes next, and behind it
+      room-next : (s t : List ℕ) → linesUnder text table n letters input start ≡ l .written ++ (s ++ t) → end + length s ≤ length b
+      room-next s t q =
+          let a = l .room in
+          let k = ap length q in
+          omega (arith, length-append (l .written) (s ++ t), length-append s t, l .put .behind, l .put .kept)
+
+      module _ (x : Refusal) (f : r ≡ Last x) where
+        last-whole : linesUnder text table n letters input start ≡ l .written ++ refusedLine x
+        last-whole = on .2 ∙ ap (λ (t : Answered). l .written ++ byAnswered (linesFrom (on .0) letters (wordsIn text table n) input) t) f
+
+        pub lining-last-room : end + length (refusedLine x) ≤ length b
+        lining-last-room = room-next (refusedLine x) [] (last-whole ∙ rw append-nil)
+
+        pub lining-last : (b′ : List ℕ) (end′ : ℕ) → Put b end (refusedLine x) b′ end′ → Put out place (linesUnder text table n letters input start) b′ end′
+        lining-last b′ end′ p =
+            subst (λ (s : List ℕ). Put out place s b′ end′) (sym last-whole)
+            (put-both out place (l .written) b end (refusedLine x) b′ end′ (subst (λ (s : List ℕ). place + length s ≤ length out) last-whole (l .room)) (l .put) p)
+
+      module _ (c : Comparison) (to : ℕ) (f : r ≡ Line c to) where
+        lies : (at < to) × (to ≤ length input)
+        unfolding answeredAt
+        lies = step (requestAt input at) refl (sym e ∙ f)
+          where
+            step : (o : Request) → requestAt input at ≡ o → answered letters (wordsIn text table n) input o ≡ Line c to → (at < to) × (to ≤ length input)
+            step (Refused x) q g = absurd (let z : _≡_ {A = ℕ} 0 1 = cc in omega arith)
+            step (Compare a first second end′) q g =
+                let w = lies-of input at (requestAt input at) refl a first second end′ q in
+                let z : end′ ≡ to = cc g in
+                (omega (arith, w .behind), omega (arith, w .inside))
+
+        next-whole : linesUnder text table n letters input start ≡ l .written ++ (comparisonLine c ++ linesFrom (on .0) letters (wordsIn text table n) input to)
+        next-whole = on .2 ∙ ap (λ (t : Answered). l .written ++ byAnswered (linesFrom (on .0) letters (wordsIn text table n) input) t) f
+
+        pub lining-room : end + length (comparisonLine c) ≤ length b
+        lining-room = room-next (comparisonLine c) (linesFrom (on .0) letters (wordsIn text table n) input to) next-whole
+
+        pub lining-less : length input - to < length input - at
+        lining-less = let w0 = lies .0 in let w1 = lies .1 in omega arith
+
+        pub lining-more : (b′ : List ℕ) (end′ : ℕ) → Put b end (comparisonLine c) b′ end′ → Lining text table n letters input start out place to end′ b′
+        lining-more b′ end′ p =
+            let s = l .written in
+            let t = comparisonLine c in
+            let rest = linesFrom (on .0) letters (wordsIn text table n) input to in
+            let q : linesUnder text table n letters input start ≡ (s ++ t) ++ rest = next-whole ∙ sym (append-assoc s t rest) in
+            let k : place + length ((s ++ t) ++ rest) ≤ length out = subst (λ (x : List ℕ). place + length x ≤ length out) q (l .room) in
+            let w0 = lies .0 in
+            let w1 = lies .1 in
+            let u = on .1 in
+            record {
+              ready = l .ready;
+              within = w1;
+              most = on .0;
+              enough = omega arith;
+              written = s ++ t;
+              whole = q;
+              put = put-both out place s b end t b′ end′ (room-first out place (s ++ t) rest k) (l .put) p;
+              room = l .room;
+            }
+
+pub ruleset linings = (lining-start, lining-ready, lining-end, lining-last-room, lining-last, lining-room, lining-less, lining-more, needs)
+
+-- an accepted book: its line, then those of the comparisons
+module _ (text table : List ℕ) (relations letters : ℕ) (input : List ℕ) (end : ℕ) (out : List ℕ) (h : Accepted text table relations letters input end out) where
+  room : 0 + length (linesOfAccepted text table relations letters input end) ≤ length out
+  room = omega (arith, h .room)
+
+  pub accepted-words : Fits w64 (2 * relations)
+  accepted-words = omega (arith, h .few)
+
+  pub accepted-line : 0 + length (lineOf bookText relations) ≤ length out
+  accepted-line = room-first out 0 (lineOf bookText relations) (linesUnder text table (2 * relations) letters input end) room
+
+  module _ (a : List ℕ) (r : ℕ) (p : Put out 0 (lineOf bookText relations) a r) where
+    pub accepted-lined : Lined text table (2 * relations) letters input end a r
+    accepted-lined =
+        record {
+          ready = h .ready;
+          within = h .within;
+          room = room-second out 0 (lineOf bookText relations) a r (linesUnder text table (2 * relations) letters input end) room p;
+        }
+
+    pub accepted-put : (b : List ℕ) (q : ℕ) → Put a r (linesUnder text table (2 * relations) letters input end) b q
+        → Put out 0 (linesOfAccepted text table relations letters input end) b q
+    accepted-put b q g = put-both out 0 (lineOf bookText relations) a r (linesUnder text table (2 * relations) letters input end) b q room p g
+
+pub ruleset accepts = (accepted-words, accepted-line, accepted-lined, accepted-put, needs)

@@ -1,0 +1,113 @@
+-- Laws of the code that loads the book and writes the whole output.
+use Prim.Native.Nat.{ℕ, zero, suc, _+_, _*_, _≤_, _<_}
+use mathlib.Core.Bool.{Bool, true, false, cond}
+use mathlib.Core.List.{List, [], _∷_, _++_}
+use mathlib.Core.Path.{_≡_, refl, sym, ap, _∙_, subst}
+use native.Mathlib.Omega.{arith}
+use borrow.Author.Needs.{needs}
+use borrow.Author.Tests.{lt-ltb, le-ltb, ltb-true, ltb-false}
+use lib.Dec.{ltb}
+use lib.ListN.{length, getD, take}
+use mir.Val.{Fits}
+use mir.Syntax.{w8}
+use lib.Seq.{length-take-le}
+use Rattle.words.specs.Relations.{Relation, sides}
+use Rattle.layout.specs.Layout.{wordsIn}
+use Rattle.format.specs.declared.Refusal.{Refusal}
+use Rattle.format.specs.declared.Refusal.the-variants.{Heavy}
+use Rattle.format.specs.declared.Reading.{Reading}
+use Rattle.format.specs.declared.Reading.the-variants as Readings
+use Rattle.format.specs.declared.Input.{Input}
+use Rattle.format.specs.declared.MadeInput.{MadeInput}
+use Rattle.format.specs.declared.MadeInput.the-variants as Inputs
+use Rattle.format.specs.Limits.{inputMost, inputOf}
+use Rattle.presentation.specs.Loading.{BookLoading, loadBook, told, Holding, BookLoaded}
+use Rattle.lines.specs.Lines.{Put, lineOf}
+use Rattle.program.specs.Program.{bookText, refusedLine, bookEnd, linesFrom, byLoading, programOf}
+use Rattle.program.specs.Size.{outputMost}
+use Rattle.program.specs.Answers.{linesOfAccepted, Accepted, outputOf, Roomy}
+use Rattle.program.proofs.Size.{end-within, refused-short, output-fits}
+
+-- a book that is told refused is refused
+refused-of : (o : BookLoading) (x : Refusal) → told o ≡ Readings.Refused x → o ≡ BookLoading.refused x
+refused-of (BookLoading.loaded letters relations) x e = absurd (let z : _≡_ {A = ℕ} 0 1 = cc in omega arith)
+refused-of (BookLoading.refused r) x e = let q : r ≡ x = cc in ap BookLoading.refused q
+
+-- loading the book, and what is written for it
+module _ (input : List ℕ) (end : ℕ) (e : end ≡ bookEnd input) where
+  pub book-within : end ≤ length input
+  book-within = omega (arith, end-within (length input) input 0 (omega arith))
+
+  pub book-long : end ≡ length (take end input)
+  book-long = sym (length-take-le end input book-within)
+
+  module _ (r : Reading) (text table : List ℕ) (l : BookLoaded (take end input) r text table) where
+    module _ (x : Refusal) (f : r ≡ Readings.Refused x) where
+      refused-whole : outputOf input ≡ refusedLine x
+      refused-whole =
+          let q : loadBook (take (bookEnd input) input) ≡ BookLoading.refused x = refused-of _ x (subst (λ (n : ℕ). told (loadBook (take n input)) ≡ Readings.Refused x) e (sym (l .answer) ∙ f)) in
+          ap (byLoading input) q
+
+      pub refused-fits : (out : List ℕ) → Roomy input out → 0 + length (refusedLine x) ≤ length out
+      refused-fits out h = omega (arith, h .room, ap length refused-whole)
+
+      pub refused-written : (out b : List ℕ) (q : ℕ) → Put out 0 (refusedLine x) b q → Put out 0 (outputOf input) b q
+      refused-written out b q p = subst (λ (s : List ℕ). Put out 0 s b q) (sym refused-whole) p
+
+    module _ (letters count : ℕ) (f : r ≡ Readings.Read letters count) where
+      held : Holding (take end input) letters count text table
+      held = l .held letters count f
+
+      accepted-whole : outputOf input ≡ linesOfAccepted text table count letters input end
+      accepted-whole =
+          let h = held in
+          let q : loadBook (take (bookEnd input) input) ≡ BookLoading.loaded letters (h .relations) = subst (λ (n : ℕ). loadBook (take n input) ≡ BookLoading.loaded letters (h .relations)) e (h .is) in
+          ap (byLoading input) q ∙ rw (h .words, ← e, ← h .many)
+
+      pub accepted-fits : (out : List ℕ) → Roomy input out → Accepted text table count letters input end out
+      accepted-fits out h =
+          let k = held in
+          record {
+            few = omega (arith, k .many, k .within .fewRelations);
+            ready = record { paired = record { checked = k .checked; even = omega arith }; text-short = omega (arith, l .memory .text4160) };
+            within = book-within;
+            room = omega (arith, h .room, ap length accepted-whole);
+          }
+
+      pub accepted-written : (out b : List ℕ) (q : ℕ) → Put out 0 (linesOfAccepted text table count letters input end) b q → Put out 0 (outputOf input) b q
+      accepted-written out b q p = subst (λ (s : List ℕ). Put out 0 s b q) (sym accepted-whole) p
+
+pub ruleset books = (book-within, book-long, refused-fits, refused-written, accepted-fits, accepted-written, needs)
+
+pub heavy-fits : (out : List ℕ) → outputMost ≤ length out → 0 + length (refusedLine Heavy) ≤ length out
+heavy-fits out h = omega (arith, refused-short Heavy (omega arith))
+
+-- 13, or what is written for an input that is not too long
+module _ (input : List ℕ) (made : MadeInput) (e : made ≡ inputOf (length input)) where
+  heavy : made ≡ Inputs.Heavy → refusedLine Heavy ≡ programOf input
+  unfolding inputOf programOf
+  heavy f = step (ltb inputMost (length input)) refl (sym e ∙ f)
+    where
+      step : (b : Bool) → ltb inputMost (length input) ≡ b → cond b Inputs.Heavy (Inputs.Good (record { length = length input })) ≡ Inputs.Heavy → refusedLine Heavy ≡ programOf input
+      step true q g = rw q
+      step false q g = absurd (let z : _≡_ {A = ℕ} 0 1 = cc in omega arith)
+
+  light : (x : Input) → made ≡ Inputs.Good x → outputOf input ≡ programOf input
+  unfolding inputOf programOf
+  light x f = step (ltb inputMost (length input)) refl (sym e ∙ f)
+    where
+      step : (b : Bool) → ltb inputMost (length input) ≡ b → cond b Inputs.Heavy (Inputs.Good (record { length = length input })) ≡ Inputs.Good x → outputOf input ≡ programOf input
+      step true q g = absurd (let z : _≡_ {A = ℕ} 0 1 = cc in omega arith)
+      step false q g = rw q
+
+  pub heavy-written : made ≡ Inputs.Heavy → (out b : List ℕ) (q : ℕ) → Put out 0 (refusedLine Heavy) b q → Put out 0 (programOf input) b q
+  heavy-written f out b q p = subst (λ (s : List ℕ). Put out 0 s b q) (heavy f) p
+
+  module _ (x : Input) (f : made ≡ Inputs.Good x) where
+    pub light-fits : ((i : ℕ) → Fits w8 (getD input i 0)) → (out : List ℕ) → outputMost ≤ length out → Roomy input out
+    light-fits b out h = record { room = omega (arith, output-fits input (λ i. omega (arith, b i)), ap length (light x f)) }
+
+    pub light-written : (out b : List ℕ) (q : ℕ) → Put out 0 (outputOf input) b q → Put out 0 (programOf input) b q
+    light-written out b q p = subst (λ (s : List ℕ). Put out 0 s b q) (light x f) p
+
+pub ruleset wholes = (heavy-fits, heavy-written, light-fits, light-written, needs)

@@ -1,0 +1,61 @@
+-- What the record at a position of the kind 3 part is answered: a comparison's line and where the next record begins, or the refusal that ends the lines
+-- (document 01, "The program"); and what the writing of lines asks.
+use Prim.Native.Nat.{ℕ, _+_, _*_, _≤_}
+use mathlib.Core.List.{List, _++_}
+use lib.ListN.{length, take}
+use lib.Seq.{slice}
+use Rattle.words.specs.Words.{Word}
+use Rattle.layout.specs.Layout.{wordsIn}
+use Rattle.comparison.specs.State.{Ready}
+use Rattle.comparison.specs.Comparing.{comparisonOf}
+use Rattle.presentation.specs.Loading.{loadBook}
+use Rattle.program.specs.declared.Request.{Request}
+use Rattle.program.specs.declared.Request.the-variants.{Compare, Refused}
+use Rattle.program.specs.declared.Answered.{Answered}
+use Rattle.program.specs.declared.Answered.the-variants.{Line, Last}
+use Rattle.lines.specs.Lines.{lineOf}
+use Rattle.format.specs.Limits.{relationsMost}
+use Rattle.program.specs.Program.{bookText, refusedLine, comparisonLine, bookEnd, linesFrom, byLoading}
+use Rattle.program.specs.Requests.{requestAt}
+
+-- by what the record asks for
+abbrev pub answered : ℕ → List Word → List ℕ → Request → Answered
+answered letters B input (Refused r) = Last r
+answered letters B input (Compare allowance first second end) = Line (comparisonOf letters B (slice first second input) (slice second end input) allowance) end
+
+unfoldable pub answeredAt : ℕ → List Word → List ℕ → ℕ → Answered
+answeredAt letters B input at = answered letters B input (requestAt input at)
+
+-- its line, and what `next` gives for the place behind the record
+abbrev pub byAnswered : (ℕ → List ℕ) → Answered → List ℕ
+byAnswered next (Line comparison end) = comparisonLine comparison ++ next end
+byAnswered next (Last r) = refusedLine r
+
+-- the lines of the comparison records from a position on, under the relation words of a checked presentation
+abbrev pub linesUnder : List ℕ → List ℕ → ℕ → ℕ → List ℕ → ℕ → List ℕ
+linesUnder text table n letters input start = linesFrom (length input) letters (wordsIn text table n) input start
+
+-- the presentation is checked, the position lies in the input, and there is room for the lines from a place on
+pub record Lined (text table : List ℕ) (n letters : ℕ) (input : List ℕ) (start : ℕ) (out : List ℕ) (place : ℕ) : Type 0 where
+  pub ready : Ready text table n
+  pub within : start ≤ length input
+  pub room : place + length (linesUnder text table n letters input start) ≤ length out
+
+-- an accepted book's line, then those of the comparisons
+abbrev pub linesOfAccepted : List ℕ → List ℕ → ℕ → ℕ → List ℕ → ℕ → List ℕ
+linesOfAccepted text table relations letters input end = lineOf bookText relations ++ linesUnder text table (2 * relations) letters input end
+
+-- the presentation is checked, the book ends in the input, and there is room for the lines at the start of the buffer
+pub record Accepted (text table : List ℕ) (relations letters : ℕ) (input : List ℕ) (end : ℕ) (out : List ℕ) : Type 0 where
+  pub few : relations ≤ relationsMost
+  pub ready : Ready text table (2 * relations)
+  pub within : end ≤ length input
+  pub room : length (linesOfAccepted text table relations letters input end) ≤ length out
+
+-- what is written for an input that is not too long
+abbrev pub outputOf : List ℕ → List ℕ
+outputOf input = byLoading input (loadBook (take (bookEnd input) input))
+
+-- there is room for it at the start of the buffer
+pub record Roomy (input out : List ℕ) : Type 0 where
+  pub room : length (outputOf input) ≤ length out

@@ -1,0 +1,5 @@
+pub mod Program
+pub mod Examples
+pub mod Size
+pub mod Requests
+pub mod Answers

@@ -1,0 +1,28 @@
+-- How large the output can get: a number of bytes that is enough for every input (document 01, "The program").
+use Prim.Native.Nat.{ℕ, _+_, _*_, _/_, _<_, _≤_}
+use mathlib.Core.List.{List}
+use mathlib.Core.Path.{_≡_}
+use lib.ListN.{length, getD}
+use Rattle.format.specs.Limits.{recordPrefix, inputMost, comparisonLength}
+use Rattle.program.specs.Program.{programOf}
+
+-- the bytes of the longest line: `refused 11 4294967295` and a newline
+abbrev pub lineMost : ℕ
+lineMost = 22
+
+-- the bytes of the output are at most: a line for the book and one for each comparison record that the input has room for. A record takes at least 12 bytes
+abbrev pub outputMost : ℕ
+outputMost = lineMost * (1 + inputMost / (recordPrefix + comparisonLength))
+
+-- every element is a byte
+abbrev pub AreBytes : List ℕ → Type 0
+AreBytes input = (i : ℕ) → getD input i 0 < 256
+
+-- no input has a longer output
+abbrev pub OutputFits : Type 0
+OutputFits = (input : List ℕ) → AreBytes input → length (programOf input) ≤ outputMost
+
+-- the constants of the code are the numbers above
+pub record SizeTied (line most : ℕ) : Type 0 where
+  pub lines : line ≡ lineMost
+  pub all : most ≡ outputMost

@@ -1,0 +1,280 @@
+// The program of document 01, from its input bytes to its output bytes.
+ghost use mathlib.Core.Path.{_≡_};
+ghost use Prim.Native.Nat.{_+_, _≤_, _<_};
+ghost use lib.ListN.{length};
+ghost use Rattle.reader.specs.Reads.{Payload};
+ghost use Rattle.lines.specs.Lines.{Put};
+ghost use Rattle.program.specs.Program.{longField, bookEnd, refusedLine, comparisonLine, programOf};
+ghost use Rattle.program.specs.Requests.{Field, fieldsOf, requestAt};
+ghost use Rattle.program.specs.Answers.{answeredAt, linesUnder, Lined, linesOfAccepted, Accepted, outputOf, Roomy};
+ghost use Rattle.comparison.specs.State.{Ready};
+ghost use Rattle.layout.specs.Layout.{wordsIn};
+ghost use Rattle.program.specs.Examples.{Hold, examples, HeavyFirst};
+ghost use Rattle.program.specs.Size.{OutputFits, SizeTied};
+use comparison::Comparison;
+use comparison::compare_given;
+use format::Input;
+use format::MadeInput;
+use format::Reading;
+use format::Record;
+use format::Refusal;
+use format::Relation;
+use format::Word;
+use format::number;
+use format::place;
+use format::wide;
+use lines::put_line;
+use lines::put_pair_line;
+use presentation::load;
+use reader::record_at;
+
+// What the program writes, by its length.
+pub struct Output {
+    pub length: usize,
+}
+
+impl Output {
+    // The most bytes of a line.
+    pub const LINE: usize = 22;
+
+    // The most bytes of the output: a line for the book, and one for each comparison record that the input has room for.
+    pub const MOST: usize = Output::LINE * (1 + Input::MOST / (Record::PREFIX + Word::LENGTH));
+}
+
+// The worked examples hold of the definition of the output.
+pub fn examples_hold()
+    ensures { λ _. ⌜ Hold examples ⌝ }
+{}
+
+// 13 comes before everything else.
+pub fn heavy_first()
+    ensures { λ _. ⌜ HeavyFirst ⌝ }
+{}
+
+// The numbers that the definitions write again are the constants.
+pub fn size_tied()
+    ensures { λ _. do ⌜ SizeTied (← ⟦Output::LINE⟧ .entry) (← ⟦Output::MOST⟧ .entry) ⌝ }
+{}
+
+// The output of no input is longer than that.
+pub fn output_fits()
+    ensures { λ _. ⌜ OutputFits ⌝ }
+{}
+
+// What a record of the kind 3 part asks for: a comparison, by its allowance, where its first word begins, where the second begins and where it ends; or its
+// refusal.
+pub enum Request {
+    Compare(u32, usize, usize, usize),
+    Refused(Refusal),
+}
+
+// What such a record is answered: a comparison, and where the next record begins; or the refusal that ends the lines.
+pub enum Answered {
+    Line(Comparison, usize),
+    Last(Refusal),
+}
+
+// A two-byte field, little-endian.
+fn field_at(input: &[u8], at: usize) -> usize
+    requires { ⌜ at + 1 < length (now input) ⌝ }
+    ensures { λ r. ⌜ Field (now (input .entry)) at r ⌝ }
+{
+    wide(input[at]) + 256 * wide(input[at + 1])
+}
+
+// A four-byte field, little-endian.
+fn long_field_at(input: &[u8], at: usize) -> u32
+    requires { ⌜ at + 3 < length (now input) ⌝ }
+    ensures { λ r. ⌜ r ≡ longField (now (input .entry)) at ⌝ }
+{
+    let low = field_at(input, at);
+    let high = field_at(input, at + 2);
+    low as u32 + 65536 * high as u32
+}
+
+// Where the book ends: at the first record of kind 3, its payload there or not, else with the input.
+pub fn book_end(input: &[u8]) -> usize
+    ensures { λ r. ⌜ r ≡ bookEnd (now (input .entry)) ⌝ }
+{
+    let mut at = 0;
+    while Record::PREFIX <= input.len() - at {
+        if field_at(input, at + 2) == Word::KIND {
+            return at;
+        }
+        let record = record_at(input, at);
+        let Record::Whole(_, _, to) = record else {
+            return input.len();
+        };
+        at = to;
+    }
+    input.len()
+}
+
+// The fields of a comparison, in a record's payload: refusal 3.
+fn fields_at(input: &[u8], at: usize, from: usize, to: usize) -> Request
+    requires { ⌜ Payload (now input) from to ⌝ }
+    ensures { λ r. ⌜ r ≡ fieldsOf (now (input .entry)) at from to ⌝ }
+{
+    if to - from < Word::LENGTH {
+        return Request::Refused(Refusal::Length(at));
+    }
+    let m = field_at(input, from + 4);
+    let n = field_at(input, from + 6);
+    if to - from != Word::LENGTH + m + n {
+        return Request::Refused(Refusal::Length(at));
+    }
+    let allowance = long_field_at(input, from);
+    let first = from + Word::LENGTH;
+    Request::Compare(allowance, first, first + m, to)
+}
+
+// What the record at a position of the kind 3 part asks for: refusals 1, 2, then those of its fields.
+pub fn request_at(input: &[u8], at: usize) -> Request
+    ensures { λ r. ⌜ r ≡ requestAt (now (input .entry)) at ⌝ }
+{
+    let record = record_at(input, at);
+    let Record::Whole(kind, from, to) = record else {
+        return Request::Refused(Refusal::Short(at));
+    };
+    match kind {
+        Word::KIND => fields_at(input, at, from, to),
+        _ => Request::Refused(Refusal::Kind(at)),
+    }
+}
+
+// Writes the line of a refusal at a place of the buffer and answers the place behind it.
+pub fn put_refusal(out: &mut [u8], at: usize, refusal: Refusal) -> usize
+    requires { ⌜ at + length (refusedLine refusal) ≤ length (now out) ⌝ }
+    ensures { λ r. ⌜ Put (now (out .entry)) at (refusedLine refusal) (now (out .exit)) r ⌝ }
+{
+    put_pair_line(
+        out,
+        at,
+        b"refused",
+        number(refusal) as u64,
+        place(refusal) as u64,
+    )
+}
+
+// Writes the line of a comparison at a place of the buffer and answers the place behind it.
+pub fn put_comparison(out: &mut [u8], at: usize, comparison: Comparison) -> usize
+    requires { ⌜ at + length (comparisonLine comparison) ≤ length (now out) ⌝ }
+    ensures { λ r. ⌜ Put (now (out .entry)) at (comparisonLine comparison) (now (out .exit)) r ⌝ }
+{
+    match comparison {
+        Comparison::Same(rounds) => put_line(out, at, b"same", rounds as u64),
+        Comparison::Different(rounds) => put_line(out, at, b"different", rounds as u64),
+        Comparison::Refused(refusal) => put_refusal(out, at, refusal),
+    }
+}
+
+// The answer of the record at a position of the kind 3 part, under a checked presentation of so many letters.
+pub fn answer_at(
+    text: &[u8],
+    table: &[u16],
+    n: usize,
+    letters: u8,
+    input: &[u8],
+    at: usize,
+) -> Answered
+    requires { ⌜ Ready (now text) (now table) n ⌝ }
+    ensures { λ r. ⌜ r ≡ answeredAt letters (wordsIn (now (text .entry)) (now (table .entry)) n) (now (input .entry)) at ⌝ }
+{
+    let request = request_at(input, at);
+    match request {
+        Request::Refused(refusal) => Answered::Last(refusal),
+        Request::Compare(allowance, first, second, end) => {
+            let comparison = compare_given(
+                text,
+                table,
+                n,
+                letters,
+                &input[first..second],
+                &input[second..end],
+                allowance,
+            );
+            Answered::Line(comparison, end)
+        }
+    }
+}
+
+// Writes the lines of the comparison records from a position on, behind each other from a place of the buffer on, and answers the place behind them.
+pub fn write_lines(
+    text: &[u8],
+    table: &[u16],
+    n: usize,
+    letters: u8,
+    input: &[u8],
+    start: usize,
+    out: &mut [u8],
+    place: usize,
+) -> usize
+    requires { ⌜ Lined (now text) (now table) n letters (now input) start (now out) place ⌝ }
+    ensures { λ r. ⌜ Put (now (out .entry)) place (linesUnder (now (text .entry)) (now (table .entry)) n letters (now (input .entry)) start) (now (out .exit)) r ⌝ }
+{
+    let mut at = start;
+    let mut end = place;
+    while at < input.len() {
+        let answered = answer_at(text, table, n, letters, input, at);
+        match answered {
+            Answered::Last(refusal) => return put_refusal(out, end, refusal),
+            Answered::Line(comparison, next) => {
+                end = put_comparison(out, end, comparison);
+                at = next;
+            }
+        }
+    }
+    end
+}
+
+// Writes the line of an accepted book and those of the comparison records behind it, at the start of the buffer, and answers the place behind them.
+fn write_accepted(
+    text: &[u8],
+    table: &[u16],
+    relations: usize,
+    letters: u8,
+    input: &[u8],
+    end: usize,
+    out: &mut [u8],
+) -> usize
+    requires { ⌜ Accepted (now text) (now table) relations letters (now input) end (now out) ⌝ }
+    ensures { λ r. ⌜ Put (now (out .entry)) 0 (linesOfAccepted (now (text .entry)) (now (table .entry)) relations letters (now (input .entry)) end) (now (out .exit)) r ⌝ }
+{
+    let place = put_line(out, 0, b"book", relations as u64);
+    write_lines(text, table, 2 * relations, letters, input, end, out, place)
+}
+
+// Writes the output of an input that is not too long at the start of the buffer and answers its length. The book is loaded once for all its comparisons.
+fn write_loaded(input: &[u8], out: &mut [u8]) -> usize
+    requires { ⌜ Roomy (now input) (now out) ⌝ }
+    ensures { λ r. ⌜ Put (now (out .entry)) 0 (outputOf (now (input .entry))) (now (out .exit)) r ⌝ }
+{
+    let end = book_end(input);
+    let mut text = [0u8; Relation::TEXT];
+    let mut table = [0u16; Relation::TABLE];
+    let loading = load(&input[..end], &mut text, &mut table);
+    match loading {
+        Reading::Refused(refusal) => put_refusal(out, 0, refusal),
+        Reading::Read(letters, relations) => write_accepted(
+            &text,
+            &table,
+            relations,
+            letters,
+            input,
+            end,
+            out,
+        ),
+    }
+}
+
+// Writes the output at the start of the buffer and answers its length; the bytes behind it are kept.
+pub fn write_program(input: &[u8], out: &mut [u8]) -> usize
+    requires { do ⌜ (← ⟦Output::MOST⟧) ≤ length (now out) ⌝ }
+    ensures { λ r. ⌜ Put (now (out .entry)) 0 (programOf (now (input .entry))) (now (out .exit)) r ⌝ }
+{
+    let made = Input::make(input.len());
+    let MadeInput::Good(_) = made else {
+        return put_refusal(out, 0, Refusal::Heavy);
+    };
+    write_loaded(input, out)
+}
