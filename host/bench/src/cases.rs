@@ -1,0 +1,192 @@
+//! The cases: worst books for the check, worst words for the comparison, and how the cost grows.
+
+use std::cell::RefCell;
+
+use difftest::unit::{Compared, Refused, Rounded, Unit};
+use gen::{books, inputs, words, Book, Chance};
+
+/// Something to run with a unit; the numbers it gives are only there to be equal for both.
+pub struct Case {
+    pub group: &'static str,
+    pub name: String,
+    pub run: Run,
+}
+
+pub type Run = Box<dyn Fn(&dyn Unit) -> [u64; 2]>;
+
+/// An answer or a refusal as numbers.
+fn numbers<T>(result: Result<T, Refused>, value: impl FnOnce(T) -> u64) -> [u64; 2] {
+    match result {
+        Ok(answer) => [0, value(answer)],
+        Err((number, place)) => [number as u64, place],
+    }
+}
+
+fn check(group: &'static str, name: impl Into<String>, book: &Book) -> Case {
+    let bytes = book.bytes();
+    Case { group, name: name.into(), run: Box::new(move |unit| numbers(unit.check(&bytes), |relations| relations)) }
+}
+
+/// Comparisons through the program, so that one check serves them all; the same two words as often as fit.
+fn compare_many(group: &'static str, name: impl Into<String>, book: &Book, u: &[u8], v: &[u8], most: usize) -> Case {
+    let mut input = book.bytes();
+    let question = inputs::question(u32::MAX, u, v);
+    let count = ((60_000 - input.len()) / question.len()).min(most);
+    input.extend(question.repeat(count));
+    let name = format!("{}, {count} times", name.into());
+    program(group, name, input)
+}
+
+fn program(group: &'static str, name: impl Into<String>, input: Vec<u8>) -> Case {
+    let output = RefCell::new(Vec::new());
+    let run = move |unit: &dyn Unit| {
+        let mut output = output.borrow_mut();
+        output.resize(unit.output_size(), 0);
+        numbers(unit.program(&input, &mut output), |length| length as u64)
+    };
+    Case { group, name: name.into(), run: Box::new(run) }
+}
+
+fn compare(group: &'static str, name: impl Into<String>, book: &Book, u: Vec<u8>, v: Vec<u8>) -> Case {
+    let bytes = book.bytes();
+    let rounds = |answer| match answer {
+        Compared::Same(rounds) => 2 * rounds,
+        Compared::Different(rounds) => 2 * rounds + 1,
+    };
+    Case { group, name: name.into(), run: Box::new(move |unit| numbers(unit.compare(&bytes, &u, &v, u32::MAX), rounds)) }
+}
+
+/// Document 01's book Q.
+fn q() -> Book {
+    Book::new(4, vec![vec![0, 1, 3, 2], vec![2, 0, 3, 1]])
+}
+
+/// The book's sides one after the other, up to n letters.
+fn sides(book: &Book, n: usize) -> Vec<u8> {
+    book.words.iter().flatten().copied().cycle().take(n).collect()
+}
+
+/// The same with every second side exchanged.
+fn exchanged_sides(book: &Book, n: usize) -> Vec<u8> {
+    let other = book.words.iter().enumerate().flat_map(|(i, word)| if i % 4 < 2 { &book.words[i ^ 1] } else { word });
+    other.copied().cycle().take(n).collect()
+}
+
+const CHECKS: &str = "the check, full books: 32 relations of 64 and 64 letters";
+const GROWTH_OF_CHECK: &str = "the check, by number of relations";
+const SHEET: &str = "the cut sheet and the single round";
+const COMPARISONS: &str = "the comparison alone: many in one input, or far more rounds than letters";
+const CALLS: &str = "the comparison as one call, which checks its book";
+const GROWTH_BY_LENGTH: &str = "the comparison, by length of words";
+const GROWTH_BY_RELATIONS: &str = "the comparison, by number of relations";
+const PROGRAM: &str = "the program on 60,000 bytes";
+
+pub fn all() -> Vec<Case> {
+    let mut chance = Chance::new(2_026);
+    let mut all = Vec::new();
+    checks(&mut all, &mut chance);
+    sheet_and_round(&mut all, &mut chance);
+    comparisons(&mut all, &mut chance);
+    growth(&mut all, &mut chance);
+    programs(&mut all, &mut chance);
+    all
+}
+
+fn checks(all: &mut Vec<Case>, chance: &mut Chance) {
+    all.push(check(CHECKS, "random, 64 letters", &books::full_random(chance, 64)));
+    all.push(check(CHECKS, "random, 3 letters", &books::full_random(chance, 3)));
+    all.push(check(CHECKS, "random, 2 letters", &books::full_random(chance, 2)));
+    all.push(check(CHECKS, "periodic, period 1", &books::full_periodic(&[0])));
+    all.push(check(CHECKS, "periodic, period 5", &books::full_periodic(&[0, 1, 0, 0, 1])));
+    all.push(check(CHECKS, "a front of 60 letters shared by all", &books::full_shared_fronts(chance)));
+    all.push(check(CHECKS, "long middles", &books::long_middles(chance)));
+    for relations in [1, 2, 4, 8, 16, 32] {
+        all.push(check(GROWTH_OF_CHECK, format!("{relations} relations of 64 and 64 letters"), &books::long_random(chance, relations)));
+    }
+    all.push(check(GROWTH_OF_CHECK, "book Q", &q()));
+}
+
+fn sheet_and_round(all: &mut Vec<Case>, chance: &mut Chance) {
+    let book = books::full_random(chance, 64);
+    let bytes = book.bytes();
+    let run = move |unit: &dyn Unit| {
+        let mut sheet = [0; 192];
+        let result = unit.cut_sheet(&bytes, &mut sheet);
+        numbers(result, |relations| relations + sheet.iter().map(|&length| length as u64).sum::<u64>())
+    };
+    all.push(Case { group: SHEET, name: "cut sheet of a full random book".to_string(), run: Box::new(run) });
+    for (name, book) in [("a full random book", book), ("book Q", q())] {
+        let bytes = book.bytes();
+        let word = sides(&book, 4_160);
+        let run = move |unit: &dyn Unit| {
+            let (mut u, mut v, mut p) = ([0; 4_224], [0; 4_224], [0; 64]);
+            numbers(unit.round(&bytes, [&word, &word, &[]], [&mut u, &mut v, &mut p]), |rounded| match rounded {
+                Rounded::Next([u, v, p]) => u + v + p,
+                _ => 0,
+            })
+        };
+        all.push(Case { group: SHEET, name: format!("one round under {name}, words of 4,160"), run: Box::new(run) });
+    }
+}
+
+fn comparisons(all: &mut Vec<Case>, chance: &mut Chance) {
+    let most = books::most_rounds();
+    let word = books::most_rounds_word(4_096);
+    all.push(compare_many(COMPARISONS, "most rounds: 262,144 from words of 4,096", &most, &word, &word, 7));
+    let periodic = books::full_periodic(&[0]);
+    let word = sides(&periodic, 4_096);
+    all.push(compare_many(COMPARISONS, "longest overlaps: sides of period 1, equal words of 4,096", &periodic, &word, &word, 7));
+    let other = exchanged_sides(&periodic, 4_096);
+    all.push(compare_many(COMPARISONS, "longest overlaps: sides of period 1, exchanged", &periodic, &word, &other, 7));
+    let zeros = vec![0; 4_096];
+    all.push(compare_many(COMPARISONS, "longest overlaps: one letter over and over, no front", &periodic, &zeros, &zeros, 7));
+    let fronts = books::full_shared_fronts(chance);
+    let word = sides(&fronts, 4_096);
+    let other = exchanged_sides(&fronts, 4_096);
+    all.push(compare_many(COMPARISONS, "sides that share a front of 60, exchanged", &fronts, &word, &other, 7));
+    let random = books::full_random(chance, 64);
+    let (word, other) = (sides(&random, 4_096), exchanged_sides(&random, 4_096));
+    all.push(compare_many(COMPARISONS, "random sides, exchanged", &random, &word, &other, 7));
+    let (word, other) = (sides(&q(), 4_096), exchanged_sides(&q(), 4_096));
+    all.push(compare_many(COMPARISONS, "book Q, sides exchanged", &q(), &word, &other, 7));
+
+    let word = books::most_rounds_word(4_096);
+    all.push(compare(CALLS, "most rounds", &most, word.clone(), word));
+    let (word, other) = (sides(&periodic, 4_096), exchanged_sides(&periodic, 4_096));
+    all.push(compare(CALLS, "longest overlaps, words of 4,096", &periodic, word, other));
+    all.push(compare(CALLS, "book Q, words of 4", &q(), vec![0, 1, 3, 2], vec![2, 0, 3, 1]));
+}
+
+fn growth(all: &mut Vec<Case>, chance: &mut Chance) {
+    let most = books::most_rounds();
+    let periodic = books::full_periodic(&[0]);
+    for n in [64, 256, 1_024, 4_096] {
+        let word = books::most_rounds_word(n);
+        all.push(compare_many(GROWTH_BY_LENGTH, format!("most rounds, {n} letters"), &most, &word, &word, 7));
+        let (word, other) = (sides(&periodic, n), exchanged_sides(&periodic, n));
+        all.push(compare_many(GROWTH_BY_LENGTH, format!("longest overlaps, {n} letters"), &periodic, &word, &other, 7));
+    }
+    for relations in [1, 2, 4, 8, 16, 32] {
+        let book = books::long_random(chance, relations);
+        let (word, other) = (sides(&book, 4_096), exchanged_sides(&book, 4_096));
+        all.push(compare_many(GROWTH_BY_RELATIONS, format!("{relations} relations, words of 4,096"), &book, &word, &other, 7));
+    }
+}
+
+fn programs(all: &mut Vec<Case>, chance: &mut Chance) {
+    let full = books::full_random(chance, 64);
+    all.push(check(PROGRAM, "for measure: the check of a full random book alone", &full));
+    let mut input = full.bytes();
+    while input.len() < 59_900 {
+        let (u, v) = words::pair(chance, &full, 8);
+        input.extend(inputs::question(u32::MAX, &u, &v));
+    }
+    all.push(program(PROGRAM, "that book, thousands of comparisons of up to 8 letters", input));
+    let empty = inputs::question(0, &[], &[]);
+    let input = [books::head(64), empty.repeat(59_995 / empty.len())].concat();
+    all.push(program(PROGRAM, "no relations, 4,999 comparisons of empty words", input));
+    let stranger = inputs::question(0, &[], &[255]);
+    let input = [books::head(64), stranger.repeat(59_995 / stranger.len())].concat();
+    all.push(program(PROGRAM, "no relations, 4,615 strangers: the longest output", input));
+    all.push(program(PROGRAM, "60,001 bytes, refused by 13", vec![0; 60_001]));
+}

@@ -1,0 +1,97 @@
+//! The unit beside the fast unverified version of the same design: same inputs, same process, ratios printed.
+//!
+//! `bench [PART ..] [--limit RATIO]` times the cases whose name has one of the parts in it, or all; with a limit it fails where a ratio is above it.
+
+mod cases;
+mod clock;
+
+use std::process::ExitCode;
+use std::time::Duration;
+
+use difftest::unit::{chosen, Fast, Unit};
+
+use cases::{all, Case};
+
+/// Each turn times one batch of each, one after the other, and the best batch counts: other work on the machine only adds time.
+const TURNS: std::ops::Range<usize> = 9..200;
+const BATCH: Duration = Duration::from_millis(1);
+/// The time after which no further turn begins, once there were enough.
+const ENOUGH: Duration = Duration::from_millis(500);
+
+/// How often a case runs in one batch.
+fn batch_size(unit: &dyn Unit, case: &Case) -> u32 {
+    let mut count = 1;
+    loop {
+        let took = batch(unit, case, count);
+        if took >= BATCH || count >= 1 << 20 {
+            return count;
+        }
+        count *= 2;
+    }
+}
+
+fn batch(unit: &dyn Unit, case: &Case, count: u32) -> Duration {
+    let began = clock::spent();
+    for _ in 0..count {
+        std::hint::black_box((case.run)(std::hint::black_box(unit)));
+    }
+    clock::spent() - began
+}
+
+/// The best time of one run, for the fast version and for the unit.
+fn timed(fast: &dyn Unit, unit: &dyn Unit, case: &Case) -> (f64, f64) {
+    let count = batch_size(fast, case);
+    let (mut best_fast, mut best_unit) = (Duration::MAX, Duration::MAX);
+    let began = clock::spent();
+    for turn in 0..TURNS.end {
+        if turn >= TURNS.start && clock::spent() - began > ENOUGH {
+            break;
+        }
+        best_fast = best_fast.min(batch(fast, case, count));
+        best_unit = best_unit.min(batch(unit, case, count));
+    }
+    (best_fast.as_secs_f64() / count as f64, best_unit.as_secs_f64() / count as f64)
+}
+
+fn shown(seconds: f64) -> String {
+    match seconds {
+        s if s < 1e-6 => format!("{:.0} ns", s * 1e9),
+        s if s < 1e-3 => format!("{:.2} µs", s * 1e6),
+        s => format!("{:.3} ms", s * 1e3),
+    }
+}
+
+fn main() -> ExitCode {
+    let (mut parts, mut limit) = (Vec::new(), f64::INFINITY);
+    let mut arguments = std::env::args().skip(1);
+    while let Some(argument) = arguments.next() {
+        if argument == "--limit" {
+            limit = arguments.next().and_then(|text| text.parse().ok()).expect("--limit RATIO");
+        } else {
+            parts.push(argument);
+        }
+    }
+    let (fast, unit) = (Fast, chosen());
+    println!("{:<66} {:>12} {:>12} {:>7}", "case", fast.name(), unit.name(), "ratio");
+    let (mut group, mut worst) = ("", 0.0f64);
+    for case in all() {
+        if !parts.is_empty() && !parts.iter().any(|part| case.group.contains(&part[..]) || case.name.contains(&part[..])) {
+            continue;
+        }
+        if case.group != group {
+            group = case.group;
+            println!("{group}");
+        }
+        assert_eq!((case.run)(&fast), (case.run)(&unit), "the two answer differently: {}", case.name);
+        let (of_fast, of_unit) = timed(&fast, &unit, &case);
+        let ratio = of_unit / of_fast;
+        worst = worst.max(ratio);
+        println!("  {:<64} {:>12} {:>12} {:>7.2}", case.name, shown(of_fast), shown(of_unit), ratio);
+    }
+    println!("worst ratio {worst:.2}");
+    if worst > limit {
+        println!("above the limit of {limit:.2}");
+        return ExitCode::FAILURE;
+    }
+    ExitCode::SUCCESS
+}

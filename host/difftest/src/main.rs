@@ -1,0 +1,53 @@
+//! The longer run: all trials again and again with new seeds, `difftest SECONDS [SEED]`.
+
+use std::time::{Duration, Instant};
+
+use difftest::{chosen, trials, Tally, Trial, Unit};
+use gen::Chance;
+
+/// A trial by name.
+type Named = (&'static str, fn(&mut Trial, &mut Chance));
+
+const TRIALS: [Named; 13] = [
+    ("generated books", |trial, chance| trials::generated_books(trial, chance, 1_000)),
+    ("damaged books", |trial, chance| trials::damaged_books(trial, chance, 1_000)),
+    ("every byte", |trial, chance| trials::every_byte(trial, chance, 4)),
+    ("wrong lengths", |trial, chance| trials::wrong_lengths(trial, chance, 4)),
+    ("records out of place", |trial, chance| trials::records_out_of_place(trial, chance, 500)),
+    ("comparisons", |trial, chance| trials::comparisons(trial, chance, 300, 120)),
+    ("long comparisons", |trial, chance| trials::comparisons(trial, chance, 10, 1_500)),
+    ("rounds", |trial, chance| trials::rounds(trial, chance, 400)),
+    ("rounds make comparisons", |trial, chance| trials::rounds_make_comparisons(trial, chance, 200)),
+    ("limits", |trial, chance| trials::limits(trial, chance, 7)),
+    ("programs", |trial, chance| trials::programs(trial, chance, 1_000)),
+    ("chains", |trial, chance| trials::chains(trial, chance, 40, 700)),
+    ("classes", |trial, chance| trials::classes(trial, chance, 1_000)),
+];
+
+fn main() {
+    let mut arguments = std::env::args().skip(1);
+    let mut number = |otherwise: u64| arguments.next().map_or(otherwise, |text| text.parse().expect("difftest SECONDS [SEED]"));
+    let (seconds, mut seed) = (number(60), number(1_000));
+    let unit = chosen();
+    let end = Instant::now() + Duration::from_secs(seconds);
+    let mut sum = Tally::default();
+    println!("unit: {}", unit.name());
+    let mut trial = Trial::new(&unit);
+    trials::most_rounds(&mut trial, 4_096);
+    trials::longest_next(&mut trial);
+    trials::heavy_programs(&mut trial);
+    trials::two_letters(&mut trial, 9, 9);
+    sum.add(&trial.tally);
+    while Instant::now() < end {
+        for (name, run) in TRIALS {
+            let began = Instant::now();
+            let mut trial = Trial::new(&unit);
+            println!("seed {seed}: {name}");
+            run(&mut trial, &mut Chance::new(seed));
+            println!("    {:.1} s, {}", began.elapsed().as_secs_f64(), trial.tally);
+            sum.add(&trial.tally);
+            seed += 1;
+        }
+    }
+    println!("all agree: {sum}");
+}

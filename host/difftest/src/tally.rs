@@ -1,0 +1,41 @@
+//! What a trial met, so that a trial that tries nothing is seen.
+
+use std::fmt;
+
+/// Counts of what was tried and what came out.
+#[derive(Debug, Clone, Default)]
+pub struct Tally {
+    pub calls: u64,
+    pub accepted: u64,
+    pub same: u64,
+    pub different: u64,
+    /// rounds by the row that fitted
+    pub rows: [u64; 9],
+    /// refusals by number
+    pub refused: [u64; 14],
+    /// pairs of words that breadth-first search judged
+    pub searched: u64,
+}
+
+impl Tally {
+    pub fn add(&mut self, other: &Tally) {
+        self.calls += other.calls;
+        self.accepted += other.accepted;
+        self.same += other.same;
+        self.different += other.different;
+        self.searched += other.searched;
+        for (sum, more) in self.rows.iter_mut().zip(other.rows) {
+            *sum += more;
+        }
+        for (sum, more) in self.refused.iter_mut().zip(other.refused) {
+            *sum += more;
+        }
+    }
+}
+
+impl fmt::Display for Tally {
+    fn fmt(&self, f: &mut fmt::Formatter<'_>) -> fmt::Result {
+        write!(f, "{} calls; books accepted {}; same {}, different {}", self.calls, self.accepted, self.same, self.different)?;
+        write!(f, "; rounds by row {:?}; refusals by number {:?}; pairs searched {}", &self.rows[1..], &self.refused[1..], self.searched)
+    }
+}

@@ -1,0 +1,150 @@
+//! One call of the unit beside the reference, for each entry. A difference ends the trial with the call as it is recorded in vectors/entries.txt.
+
+use reference::{Accepted, Refusal};
+
+use crate::lent::Lent;
+use crate::tally::Tally;
+use crate::unit::{Compared, Refused, Rounded, Unit};
+
+/// The sizes that the single round's buffers need.
+pub const NEXT: [usize; 3] = [4_224, 4_224, 64];
+
+/// What the reference says of a book.
+pub type Known = Result<Accepted, Refusal>;
+
+fn of_reference(refusal: Refusal) -> Refused {
+    (refusal.number, refusal.place)
+}
+
+pub fn hex(bytes: &[u8]) -> String {
+    if bytes.is_empty() {
+        return "-".to_string();
+    }
+    bytes.iter().map(|byte| format!("{byte:02x}")).collect()
+}
+
+/// A unit under trial, and what was met so far.
+pub struct Trial<'a> {
+    pub unit: &'a dyn Unit,
+    pub tally: Tally,
+}
+
+impl<'a> Trial<'a> {
+    pub fn new(unit: &'a dyn Unit) -> Trial<'a> {
+        Trial { unit, tally: Tally::default() }
+    }
+
+    fn met<T>(&mut self, result: &Result<T, Refused>) {
+        self.tally.calls += 1;
+        if let Err((number, _)) = result {
+            self.tally.refused[*number as usize] += 1;
+        }
+    }
+
+    /// The check; gives what the reference knows of the book.
+    pub fn check(&mut self, book: &[u8]) -> Known {
+        let known = reference::accept(book);
+        let expected = known.as_ref().map(|accepted| accepted.relations() as u64).map_err(|refusal| of_reference(*refusal));
+        assert_eq!(self.unit.check(book), expected, "check {}", hex(book));
+        self.met(&expected);
+        self.tally.accepted += expected.is_ok() as u64;
+        known
+    }
+
+    /// The cut sheet in a buffer of this size.
+    pub fn cut_sheet(&mut self, book: &[u8], known: &Known, size: usize) {
+        let expected = match known {
+            Err(refusal) => Err(of_reference(*refusal)),
+            Ok(accepted) if size < 3 * accepted.cuts.len() => Err((12, 0)),
+            Ok(accepted) => Ok(accepted.relations() as u64),
+        };
+        let mut written = Vec::new();
+        if let (Ok(_), Ok(accepted)) = (&expected, known) {
+            for cut in &accepted.cuts {
+                written.extend([cut.x().len() as u8, cut.y().len() as u8, cut.z().len() as u8]);
+            }
+        }
+        let mut sheet = Lent::new(size);
+        let result = self.unit.cut_sheet(book, sheet.slice());
+        assert_eq!(result, expected, "sheet {} {size}", hex(book));
+        assert_eq!(sheet.fault(&written), None, "a byte of the sheet: sheet {} {size}", hex(book));
+        self.met(&expected);
+    }
+
+    /// The comparison; gives the answer.
+    pub fn compare(&mut self, book: &[u8], known: &Known, u: &[u8], v: &[u8], allowance: u32) -> Result<Compared, Refused> {
+        let expected = match known {
+            Err(refusal) => Err(of_reference(*refusal)),
+            Ok(accepted) => match reference::compare_under(accepted, u, v, allowance) {
+                Ok(reference::Comparison::Same(rounds)) => Ok(Compared::Same(rounds)),
+                Ok(reference::Comparison::Different(rounds)) => Ok(Compared::Different(rounds)),
+                Err(refusal) => Err(of_reference(refusal)),
+            },
+        };
+        let result = self.unit.compare(book, u, v, allowance);
+        assert_eq!(result, expected, "compare {} {} {} {allowance}", hex(book), hex(u), hex(v));
+        self.met(&expected);
+        match expected {
+            Ok(Compared::Same(_)) => self.tally.same += 1,
+            Ok(Compared::Different(_)) => self.tally.different += 1,
+            Err(_) => {}
+        }
+        expected
+    }
+
+    /// The single round with buffers of these sizes; gives the next u, v and p where there are.
+    pub fn round(&mut self, book: &[u8], known: &Known, words: [&[u8]; 3], sizes: [usize; 3]) -> Option<[Vec<u8>; 3]> {
+        let [u, v, p] = words;
+        let mut written = sizes.map(|size| vec![0; size]);
+        let [next_u, next_v, next_p] = &mut written;
+        let expected = match known {
+            Err(refusal) => Err(of_reference(*refusal)),
+            Ok(accepted) => match reference::round_under(accepted, u, v, p, next_u, next_v, next_p) {
+                Ok(reference::RoundEnd::Same) => Ok(Rounded::Same),
+                Ok(reference::RoundEnd::Different) => Ok(Rounded::Different),
+                Ok(reference::RoundEnd::Next { u, v, p }) => Ok(Rounded::Next([u, v, p])),
+                Err(refusal) => Err(of_reference(refusal)),
+            },
+        };
+        let lengths = if let Ok(Rounded::Next(lengths)) = expected { lengths } else { [0; 3] };
+        for (next, length) in written.iter_mut().zip(lengths) {
+            next.truncate(length as usize);
+        }
+        let mut lent = sizes.map(Lent::new);
+        let result = self.unit.round(book, words, lent.each_mut().map(Lent::slice));
+        let call = || format!("round {} {} {} {} {sizes:?}", hex(book), hex(u), hex(v), hex(p));
+        assert_eq!(result, expected, "{}", call());
+        for i in 0..3 {
+            assert_eq!(lent[i].fault(&written[i]), None, "a byte of buffer {i}: {}", call());
+        }
+        self.met(&expected);
+        if let (Ok(accepted), Ok(rounded)) = (known, expected) {
+            self.tally.rows[reference::rows::row(&accepted.cuts, u, v, p).0] += 1;
+            if let Rounded::Next(_) = rounded {
+                return Some(written);
+            }
+        }
+        None
+    }
+
+    /// The program, with an output buffer of the size it needs and some bytes more; gives its lines.
+    pub fn program(&mut self, input: &[u8], more: usize) -> String {
+        let expected = reference::program(input);
+        let mut output = Lent::new(self.unit.output_size() + more);
+        let result = self.unit.program(input, output.slice());
+        let told = |length: usize| String::from_utf8_lossy(output.front(length)).into_owned();
+        assert_eq!(result, Ok(expected.len()), "program {}: {:?}", hex(input), result.map(told));
+        assert_eq!(output.fault(&expected), None, "a byte of the output: program {}: {}", hex(input), told(expected.len()));
+        self.tally.calls += 1;
+        String::from_utf8(expected).expect("the output is text")
+    }
+
+    /// The program with an output buffer that is too small: 12, and nothing is written.
+    pub fn program_in_narrow_buffer(&mut self, input: &[u8], size: usize) {
+        let mut output = Lent::new(size);
+        let result = self.unit.program(input, output.slice());
+        assert_eq!(result, Err((12, 0)), "program {} in {size} bytes", hex(input));
+        assert_eq!(output.fault(&[]), None, "a byte of the output: program {} in {size} bytes", hex(input));
+        self.met(&result);
+    }
+}

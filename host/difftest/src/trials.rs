@@ -1,0 +1,437 @@
+//! The trials. Each is a function of a source of numbers and of how many cases it makes.
+
+use std::collections::HashMap;
+
+use gen::{books, damage, inputs, words, Book, Chance};
+use reference::pieces::longest_tail;
+
+use crate::trial::{Known, Trial, NEXT};
+use crate::unit::Compared;
+
+/// A book that the reference accepts, with its bytes.
+fn accepted(chance: &mut Chance, make: fn(&mut Chance) -> Book) -> (Book, Vec<u8>, Known) {
+    loop {
+        let book = make(chance);
+        let bytes = book.bytes();
+        let known = reference::accept(&bytes);
+        if known.is_ok() {
+            return (book, bytes, known);
+        }
+    }
+}
+
+/// Generated books: the check, and the sheet in buffers that just fit, are one byte short, ample or empty.
+pub fn generated_books(trial: &mut Trial, chance: &mut Chance, cases: usize) {
+    for _ in 0..cases {
+        let book = books::any(chance);
+        let bytes = book.bytes();
+        let known = trial.check(&bytes);
+        let fits = 3 * book.words.len();
+        for size in [fits, fits.saturating_sub(1), fits + chance.below(20), 0, 192] {
+            trial.cut_sheet(&bytes, &known, size);
+        }
+    }
+}
+
+/// Damaged books through every entry.
+pub fn damaged_books(trial: &mut Trial, chance: &mut Chance, cases: usize) {
+    for _ in 0..cases {
+        let book = books::any(chance);
+        let bytes = damage::damaged(chance, &book.bytes());
+        let known = trial.check(&bytes);
+        let (mut u, v) = words::pair(chance, &book, 30);
+        if chance.once_in(4) {
+            u.push(book.letters);
+        }
+        every_entry(trial, &bytes, &known, &u, &v);
+    }
+}
+
+/// The entries that take a book and more.
+fn every_entry(trial: &mut Trial, bytes: &[u8], known: &Known, u: &[u8], v: &[u8]) {
+    trial.cut_sheet(bytes, known, 192);
+    let _ = trial.compare(bytes, known, u, v, u32::MAX);
+    trial.round(bytes, known, [u, v, &[]], NEXT);
+}
+
+/// Small books and inputs of the program cut off at every byte, and with every byte changed.
+pub fn every_byte(trial: &mut Trial, chance: &mut Chance, cases: usize) {
+    for _ in 0..cases {
+        let (book, bytes, _) = accepted(chance, books::small);
+        let (u, v) = words::pair(chance, &book, 12);
+        let input = inputs::input(chance, &book, 3, 6);
+        let cut_off = damage::truncations(&bytes).map(<[u8]>::to_vec);
+        for changed in cut_off.chain(damage::changes(&bytes)) {
+            let known = trial.check(&changed);
+            every_entry(trial, &changed, &known, &u, &v);
+        }
+        let cut_off = damage::truncations(&input).map(<[u8]>::to_vec);
+        for changed in cut_off.chain(damage::changes(&input)) {
+            trial.program(&changed, 0);
+        }
+    }
+}
+
+/// Books and inputs whose length fields say other numbers: L of each record, and m and n of each rule and comparison.
+pub fn wrong_lengths(trial: &mut Trial, chance: &mut Chance, cases: usize) {
+    for _ in 0..cases {
+        let (book, bytes, _) = accepted(chance, books::marked);
+        let questions = chance.between(1, 3);
+        let input = inputs::input(chance, &book, questions, 8);
+        let mut at = 0;
+        while at < input.len() {
+            let length = u16::from_le_bytes([input[at], input[at + 1]]);
+            for other in [0, 1, 2, 7, 8, 9, 255, 256, 65_535, length.wrapping_sub(1), length + 1, length + 2, length + 256] {
+                let mut changed = input.clone();
+                changed[at..at + 2].copy_from_slice(&other.to_le_bytes());
+                trial.program(&changed, 0);
+                if at < bytes.len() {
+                    trial.check(&changed[..bytes.len()]).ok();
+                }
+            }
+            for field in [at + 4, at + 5, at + 8, at + 9, at + 10, at + 11] {
+                for by in [1, 2, 63, 64, 128, 255] {
+                    let mut changed = input.clone();
+                    if let Some(byte) = changed.get_mut(field) {
+                        *byte = byte.wrapping_add(by);
+                        trial.program(&changed, 0);
+                    }
+                }
+            }
+            at += 4 + length as usize;
+        }
+    }
+}
+
+/// Records out of place: heads and comparisons inside a book, records twice, in another order, and a 33rd rule whole and spoiled.
+pub fn records_out_of_place(trial: &mut Trial, chance: &mut Chance, cases: usize) {
+    let mut full = books::head(64);
+    for i in 0..32 {
+        full.extend(books::rule(&[2 * i], &[2 * i + 1]));
+    }
+    for _ in 0..cases {
+        let book = books::marked(chance);
+        let mut records = vec![books::head(book.letters)];
+        records.extend(book.words.chunks(2).map(|pair| books::rule(&pair[0], &pair[1])));
+        let strange =
+            [books::head(3), inputs::question(5, &[0], &[0]), vec![0, 0, 2, 0], vec![0, 0, 0, 0], vec![0, 0, 1, 2], vec![2, 0, 2, 0, 255, 1]];
+        let at = chance.below(records.len() + 1);
+        match chance.below(3) {
+            0 => records.insert(at, chance.pick(&strange).clone()),
+            1 => records.insert(at, chance.pick(&records).clone()),
+            _ => {
+                let (one, other) = (chance.below(records.len()), chance.below(records.len()));
+                records.swap(one, other);
+            }
+        }
+        let bytes = records.concat();
+        let known = trial.check(&bytes);
+        every_entry(trial, &bytes, &known, &[0], &[0]);
+        trial.program(&bytes, 0);
+        let more: &Vec<u8> = chance.pick(&strange);
+        let more = damage::damaged(chance, more);
+        trial.check(&[&full[..], &more].concat()).ok();
+    }
+}
+
+/// Comparisons of words that random exchanges join or nearly join, with the allowance ample, just enough, one short and none.
+pub fn comparisons(trial: &mut Trial, chance: &mut Chance, cases: usize, most: usize) {
+    let kinds = [books::any, books::few_letters, books::overlapping, books::linked, books::marked];
+    for case in 0..cases {
+        let (book, bytes, known) = accepted(chance, kinds[case % kinds.len()]);
+        for _ in 0..4 {
+            let (u, v) = words::pair(chance, &book, most);
+            compare_with_allowances(trial, &bytes, &known, &u, &v);
+            let (mut u, mut v) = (u, v);
+            let stranger = if chance.once_in(2) { &mut u } else { &mut v };
+            if !stranger.is_empty() && chance.once_in(4) {
+                let at = chance.below(stranger.len());
+                stranger[at] = chance.between(book.letters as usize, 255) as u8;
+                let _ = trial.compare(&bytes, &known, &u, &v, u32::MAX);
+            }
+        }
+    }
+}
+
+fn compare_with_allowances(trial: &mut Trial, bytes: &[u8], known: &Known, u: &[u8], v: &[u8]) {
+    let Ok(accepted) = known else { panic!("the book is accepted") };
+    if let Ok(Compared::Same(count) | Compared::Different(count)) = trial.compare(bytes, known, u, v, u32::MAX) {
+        let bound = (longest_tail(&accepted.cuts) + 1) * u.len();
+        assert!(count <= bound as u64, "{count} rounds, over the bound {bound}");
+        for allowance in [Some(count), count.checked_sub(1), Some(0)].into_iter().flatten() {
+            let _ = trial.compare(bytes, known, u, v, allowance as u32);
+        }
+    }
+}
+
+/// Single rounds from words and marks of all kinds, followed for some rounds, with buffers that fit, are ample, or are one byte short.
+pub fn rounds(trial: &mut Trial, chance: &mut Chance, cases: usize) {
+    let kinds = [books::any, books::few_letters, books::overlapping, books::linked, books::linked];
+    for case in 0..cases {
+        let (book, bytes, known) = accepted(chance, kinds[case % kinds.len()]);
+        for _ in 0..4 {
+            let [mut u, mut v, mut p] = words_and_mark(chance, &book, &known);
+            for _ in 0..8 {
+                let sizes = NEXT.map(|size| size + [0, 0, 7][chance.below(3)]);
+                let Some(next) = trial.round(&bytes, &known, [&u, &v, &p], sizes) else { break };
+                [u, v, p] = next;
+                if chance.once_in(4) {
+                    p = words::mark(chance, &book);
+                }
+            }
+            let mut sizes = NEXT;
+            sizes[chance.below(3)] -= 1;
+            trial.round(&bytes, &known, [&u, &v, &p], sizes);
+            for number in 0..3 {
+                let mut strange = [u.clone(), v.clone(), p.clone()];
+                strange[number].push(chance.between(book.letters as usize, 255) as u8);
+                trial.round(&bytes, &known, strange.each_ref().map(|word| &word[..]), sizes);
+            }
+        }
+    }
+}
+
+/// Words that exchanges join, or words made for one of the rows, and a mark.
+fn words_and_mark(chance: &mut Chance, book: &Book, known: &Known) -> [Vec<u8>; 3] {
+    if book.words.is_empty() || chance.once_in(2) {
+        let (u, v) = words::pair(chance, book, 100);
+        return [u, v, words::mark(chance, book)];
+    }
+    let cuts = &known.as_ref().expect("accepted").cuts;
+    let lengths: Vec<[usize; 3]> = cuts.iter().map(|cut| [cut.x().len(), cut.y().len(), cut.z().len()]).collect();
+    words::shaped(chance, book, &lengths)
+}
+
+/// Single rounds from two words and the empty mark to the end make the comparison's answer and count.
+pub fn rounds_make_comparisons(trial: &mut Trial, chance: &mut Chance, cases: usize) {
+    let kinds = [books::any, books::linked];
+    for case in 0..cases {
+        let (book, bytes, known) = accepted(chance, kinds[case % 2]);
+        let (u, v) = words::pair(chance, &book, 60);
+        let answer = trial.compare(&bytes, &known, &u, &v, u32::MAX);
+        let (mut state, mut count) = ([u, v, Vec::new()], 0);
+        while let Some(next) = trial.round(&bytes, &known, state.each_ref().map(|word| &word[..]), NEXT) {
+            state = next;
+            count += 1;
+        }
+        let same = state.iter().all(Vec::is_empty);
+        assert_eq!(answer, Ok(if same { Compared::Same(count) } else { Compared::Different(count) }));
+    }
+}
+
+/// Books at the limits, and words at, and just over, theirs.
+pub fn limits(trial: &mut Trial, chance: &mut Chance, cases: usize) {
+    for number in 0..cases {
+        let book = books::at_the_limits(chance, number);
+        let bytes = book.bytes();
+        let known = trial.check(&bytes);
+        assert!(known.is_ok(), "book {number} at the limits");
+        for size in [192, 3 * book.words.len() - 1] {
+            trial.cut_sheet(&bytes, &known, size);
+        }
+        let mut u = words::of_sides(chance, &book, 4_096);
+        while u.len() < 4_096 {
+            let side: &Vec<u8> = chance.pick(&book.words);
+            words::overlap(&mut u, side);
+        }
+        u.truncate(4_096);
+        let mut v = words::exchanged(chance, &book, &u, 6, 4_096);
+        let _ = trial.compare(&bytes, &known, &u, &v, 3_000);
+        u.resize(4_160, 0);
+        v.resize(4_160, 0);
+        let p = vec![0; 65];
+        trial.round(&bytes, &known, [&u, &v, &p[1..]], NEXT);
+        trial.round(&bytes, &known, [&u, &v, &p], NEXT);
+        trial.round(&bytes, &known, [&u, &u, &[]], NEXT);
+        for over in [4_097, 4_160, 5_000, 70_000] {
+            let long = vec![0; over];
+            let _ = trial.compare(&bytes, &known, &long, &long, 5);
+            let _ = trial.compare(&bytes, &known, &long[..4_096], &long, 5);
+            trial.round(&bytes, &known, [&long, &[], &[]], NEXT);
+            trial.round(&bytes, &known, [&[], &long, &[]], NEXT);
+            trial.round(&bytes, &known, [&[], &[], &long], NEXT);
+        }
+    }
+}
+
+/// Tails put back on the longest words: the next u and v are as long as they get.
+pub fn longest_next(trial: &mut Trial) {
+    let book = books::most_rounds();
+    let bytes = book.bytes();
+    let known = trial.check(&bytes);
+    let word = books::most_rounds_word(4_160);
+    let next = trial.round(&bytes, &known, [&word, &word, &[]], NEXT).expect("a round is due");
+    assert_eq!(next.map(|word| word.len()), [4_222, 4_222, 0]);
+}
+
+/// The most rounds that any comparison takes: `letters` times 64, up to 262,144.
+pub fn most_rounds(trial: &mut Trial, letters: usize) {
+    let bytes = books::most_rounds().bytes();
+    let known = trial.check(&bytes);
+    let word = books::most_rounds_word(letters);
+    let count = 64 * letters as u64;
+    assert_eq!(trial.compare(&bytes, &known, &word, &word, count as u32), Ok(Compared::Same(count)));
+    assert_eq!(trial.compare(&bytes, &known, &word, &word, count as u32 - 1), Err((11, count - 1)));
+}
+
+/// Inputs of the program, whole and damaged, and its input and output at their limits.
+pub fn programs(trial: &mut Trial, chance: &mut Chance, cases: usize) {
+    for _ in 0..cases {
+        let input = inputs::any(chance);
+        let more = chance.below(3);
+        trial.program(&input, more);
+        if chance.once_in(20) {
+            let size = trial.unit.output_size();
+            trial.program_in_narrow_buffer(&input, size - 1);
+            trial.program_in_narrow_buffer(&input, chance.below(size));
+            trial.program_in_narrow_buffer(&input, 0);
+        }
+    }
+}
+
+/// Inputs of 59,999 bytes and more, and those with the most lines and the longest ones.
+pub fn heavy_programs(trial: &mut Trial) {
+    for size in [59_999, 60_000, 60_001, 60_002, 65_536, 100_000] {
+        for byte in [0, 1, 3] {
+            trial.program(&vec![byte; size], 0);
+        }
+    }
+    let head = books::head(1);
+    for question in [inputs::question(0, &[], &[]), inputs::question(0, &[], &[1]), inputs::question(9, &[0], &[]), inputs::question(0, &[0], &[0])] {
+        let count = (60_000 - head.len()) / question.len();
+        let mut input = [head.clone(), question.repeat(count)].concat();
+        let told = trial.program(&input, 0);
+        assert_eq!(told.lines().count(), 1 + count);
+        input.resize(60_000, 0);
+        trial.program(&input, 0);
+        input.push(0);
+        assert_eq!(trial.program(&input, 0), "refused 13 60000\n");
+    }
+}
+
+/// All words of at most so many letters.
+fn all_words(letters: u8, most: usize) -> Vec<Vec<u8>> {
+    let mut all = vec![Vec::new()];
+    let mut from = 0;
+    for _ in 0..most {
+        let to = all.len();
+        for i in from..to {
+            for letter in 0..letters {
+                all.push([&all[i][..], &[letter]].concat());
+            }
+        }
+        from = to;
+    }
+    all
+}
+
+/// The greatest length such that there are at most `count` words of it and below.
+fn length_for(letters: u8, count: usize) -> usize {
+    (1..).find(|&n| all_words(letters, n + 1).len() > count).expect("words grow without end")
+}
+
+/// Breadth-first search on all words of a length and below under small books, for about `count` words each.
+pub fn chains(trial: &mut Trial, chance: &mut Chance, cases: usize, count: usize) {
+    let kinds = [books::small, small_marked];
+    for case in 0..cases {
+        let (book, bytes, known) = accepted(chance, kinds[case % kinds.len()]);
+        all_pairs(trial, &book, &bytes, &known, length_for(book.letters, count));
+    }
+}
+
+/// All books of one relation over two letters up to a length of the longer side: how many are accepted is known from document 000, Table 1
+/// (which leaves out a = b). For those accepted, breadth-first search on all words of a length and below.
+pub fn two_letters(trial: &mut Trial, most: usize, words_of: usize) {
+    for (n, total) in (1..).zip([1, 0, 0, 0, 0, 0, 2, 26, 760]).take(most) {
+        let mut accepted = 0;
+        for book in books::of_two_letters(n) {
+            let bytes = book.bytes();
+            let known = trial.check(&bytes);
+            if known.is_ok() {
+                accepted += 1;
+                if accepted <= 26 {
+                    all_pairs(trial, &book, &bytes, &known, words_of);
+                }
+            }
+        }
+        assert_eq!(accepted, total, "books of two letters whose longer side has {n}");
+    }
+}
+
+/// Two words of at most so many letters compare 'same' just where a chain joins them.
+/// All pairs go through the program, so that one check of the book serves many comparisons.
+fn all_pairs(trial: &mut Trial, book: &Book, bytes: &[u8], known: &Known, most: usize) {
+    let all = all_words(book.letters, most);
+    let classes = classes_of(book, &all);
+    let bound = longest_tail(&known.as_ref().expect("accepted").cuts) + 1;
+    let pairs: Vec<(usize, usize)> = (0..all.len()).flat_map(|i| (0..all.len()).map(move |j| (i, j))).collect();
+    for part in pairs.chunks(1_800) {
+        let mut input = bytes.to_vec();
+        for &(i, j) in part {
+            input.extend(inputs::question(u32::MAX, &all[i], &all[j]));
+        }
+        let mut output = vec![0; trial.unit.output_size()];
+        let length = trial.unit.program(&input, &mut output).expect("room enough");
+        let told = std::str::from_utf8(&output[..length]).expect("text");
+        let mut lines = told.lines();
+        assert_eq!(lines.next(), Some(&format!("book {}", book.relations())[..]));
+        for &(i, j) in part {
+            let (word, rounds) = lines.next().and_then(|line| line.split_once(' ')).expect("a line for each comparison");
+            let expected = if classes[i] == classes[j] { "same" } else { "different" };
+            assert_eq!(word, expected, "{:?} and {:?} under {book:?}", all[i], all[j]);
+            assert!(rounds.parse::<usize>().expect("a count") <= bound * all[i].len());
+        }
+        assert_eq!(lines.next(), None);
+        trial.tally.calls += 1;
+        trial.tally.searched += part.len() as u64;
+    }
+}
+
+/// One or two relations over few letters whose sides have short shared fronts and ends.
+fn small_marked(chance: &mut Chance) -> Book {
+    let relations = chance.between(1, 2);
+    let stock = chance.words(3, 0, 2, 1);
+    let side = |own: u8, chance: &mut Chance| [chance.pick(&stock).clone(), vec![own], chance.pick(&stock).clone()].concat();
+    let words = (0..2 * relations as u8).map(|i| side(1 + i, chance)).collect();
+    Book::new(1 + 2 * relations as u8, words)
+}
+
+/// A number for each word, the same for two of them just where a chain joins them.
+fn classes_of(book: &Book, all: &[Vec<u8>]) -> Vec<usize> {
+    let place: HashMap<&[u8], usize> = all.iter().enumerate().map(|(i, word)| (&word[..], i)).collect();
+    let mut classes = vec![usize::MAX; all.len()];
+    for i in 0..all.len() {
+        if classes[i] == usize::MAX {
+            let reached = reference::chains::reached(&book.words, &all[i], 1_000_000).expect("few words are reached");
+            for word in &reached {
+                if let Some(&j) = place.get(&word[..]) {
+                    classes[j] = i;
+                }
+            }
+        }
+    }
+    classes
+}
+
+/// Breadth-first search from longer words: every word reached compares 'same' with the first, both ways round, and words near it that are not reached 'different'.
+pub fn classes(trial: &mut Trial, chance: &mut Chance, cases: usize) {
+    let kinds = [books::few_letters, books::overlapping, books::linked, books::marked];
+    for case in 0..cases {
+        let (book, bytes, known) = accepted(chance, kinds[case % kinds.len()]);
+        let u = words::of_sides(chance, &book, 40);
+        let Some(reached) = reference::chains::reached(&book.words, &u, 300) else { continue };
+        let mut sorted: Vec<&Vec<u8>> = reached.iter().collect();
+        sorted.sort();
+        for v in sorted.into_iter().take(40) {
+            assert!(matches!(trial.compare(&bytes, &known, &u, v, u32::MAX), Ok(Compared::Same(_))), "{u:?} {v:?} {book:?}");
+            assert!(matches!(trial.compare(&bytes, &known, v, &u, u32::MAX), Ok(Compared::Same(_))), "{v:?} {u:?} {book:?}");
+            let mut near = v.clone();
+            if let Some(letter) = (!near.is_empty()).then(|| chance.below(near.len())) {
+                near[letter] = chance.below(book.letters as usize) as u8;
+            }
+            let same = matches!(trial.compare(&bytes, &known, &u, &near, u32::MAX), Ok(Compared::Same(_)));
+            assert_eq!(same, reached.contains(&near), "{u:?} {near:?} {book:?}");
+            trial.tally.searched += 3;
+        }
+    }
+}

@@ -1,0 +1,134 @@
+//! What can be tried: the five entries as a trait, the fast version, and the proved library through its wrapper.
+
+/// A refusal's number and place.
+pub type Refused = (u32, u64);
+
+/// A comparison's answer that is no refusal, with the count of rounds.
+#[derive(Debug, Clone, Copy, PartialEq, Eq)]
+pub enum Compared {
+    Same(u64),
+    Different(u64),
+}
+
+/// What the single round gives: the end, or the lengths of the next u, v and p.
+#[derive(Debug, Clone, Copy, PartialEq, Eq)]
+pub enum Rounded {
+    Same,
+    Different,
+    Next([u64; 3]),
+}
+
+/// The five entries.
+pub trait Unit {
+    fn name(&self) -> &'static str;
+    /// the least size of the program's output buffer
+    fn output_size(&self) -> usize;
+    fn check(&self, book: &[u8]) -> Result<u64, Refused>;
+    fn cut_sheet(&self, book: &[u8], sheet: &mut [u8]) -> Result<u64, Refused>;
+    fn round(&self, book: &[u8], words: [&[u8]; 3], next: [&mut [u8]; 3]) -> Result<Rounded, Refused>;
+    fn compare(&self, book: &[u8], u: &[u8], v: &[u8], allowance: u32) -> Result<Compared, Refused>;
+    fn program(&self, input: &[u8], output: &mut [u8]) -> Result<usize, Refused>;
+}
+
+/// The fast unverified version.
+pub struct Fast;
+
+fn of_fast(refusal: fast::Refusal) -> Refused {
+    (refusal.number, refusal.place)
+}
+
+impl Unit for Fast {
+    fn name(&self) -> &'static str {
+        "fast"
+    }
+
+    fn output_size(&self) -> usize {
+        fast::OUTPUT
+    }
+
+    fn check(&self, book: &[u8]) -> Result<u64, Refused> {
+        fast::check(book).map_err(of_fast)
+    }
+
+    fn cut_sheet(&self, book: &[u8], sheet: &mut [u8]) -> Result<u64, Refused> {
+        fast::cut_sheet(book, sheet).map_err(of_fast)
+    }
+
+    fn round(&self, book: &[u8], [u, v, p]: [&[u8]; 3], [next_u, next_v, next_p]: [&mut [u8]; 3]) -> Result<Rounded, Refused> {
+        match fast::round(book, u, v, p, next_u, next_v, next_p).map_err(of_fast)? {
+            fast::RoundEnd::Same => Ok(Rounded::Same),
+            fast::RoundEnd::Different => Ok(Rounded::Different),
+            fast::RoundEnd::Next { u, v, p } => Ok(Rounded::Next([u, v, p])),
+        }
+    }
+
+    fn compare(&self, book: &[u8], u: &[u8], v: &[u8], allowance: u32) -> Result<Compared, Refused> {
+        match fast::compare(book, u, v, allowance).map_err(of_fast)? {
+            fast::Comparison::Same(rounds) => Ok(Compared::Same(rounds)),
+            fast::Comparison::Different(rounds) => Ok(Compared::Different(rounds)),
+        }
+    }
+
+    fn program(&self, input: &[u8], output: &mut [u8]) -> Result<usize, Refused> {
+        fast::program(input, output).map_err(of_fast)
+    }
+}
+
+/// The proved library through its wrapper.
+#[cfg(feature = "proved")]
+pub struct Proved;
+
+#[cfg(feature = "proved")]
+fn of_proved(refusal: vanecitron::Refusal) -> Refused {
+    (refusal.reason.number(), refusal.place)
+}
+
+#[cfg(feature = "proved")]
+impl Unit for Proved {
+    fn name(&self) -> &'static str {
+        "proved"
+    }
+
+    fn output_size(&self) -> usize {
+        vanecitron::OUTPUT
+    }
+
+    fn check(&self, book: &[u8]) -> Result<u64, Refused> {
+        vanecitron::check(book).map(|relations| relations as u64).map_err(of_proved)
+    }
+
+    fn cut_sheet(&self, book: &[u8], sheet: &mut [u8]) -> Result<u64, Refused> {
+        vanecitron::cut_sheet_into(book, sheet).map(|relations| relations as u64).map_err(of_proved)
+    }
+
+    fn round(&self, book: &[u8], [u, v, p]: [&[u8]; 3], [next_u, next_v, next_p]: [&mut [u8]; 3]) -> Result<Rounded, Refused> {
+        match vanecitron::round_into(book, u, v, p, next_u, next_v, next_p).map_err(of_proved)? {
+            vanecitron::RoundLengths::Same => Ok(Rounded::Same),
+            vanecitron::RoundLengths::Different => Ok(Rounded::Different),
+            vanecitron::RoundLengths::Next { u, v, p } => Ok(Rounded::Next([u as u64, v as u64, p as u64])),
+        }
+    }
+
+    fn compare(&self, book: &[u8], u: &[u8], v: &[u8], allowance: u32) -> Result<Compared, Refused> {
+        match vanecitron::compare(book, u, v, allowance).map_err(of_proved)? {
+            vanecitron::Comparison::Same { rounds } => Ok(Compared::Same(rounds)),
+            vanecitron::Comparison::Different { rounds } => Ok(Compared::Different(rounds)),
+        }
+    }
+
+    fn program(&self, input: &[u8], output: &mut [u8]) -> Result<usize, Refused> {
+        vanecitron::program_into(input, output).map_err(of_proved)
+    }
+}
+
+/// The unit that is tried.
+#[cfg(feature = "proved")]
+pub fn chosen() -> impl Unit {
+    Proved
+}
+
+/// The unit that is tried.
+#[cfg(not(feature = "proved"))]
+pub fn chosen() -> impl Unit {
+    Fast
+}

@@ -1,0 +1,92 @@
+//! The fixed part of the differential tests: fixed seeds and sizes, some tens of seconds.
+
+use difftest::{chosen, trials, Tally, Trial};
+use gen::Chance;
+
+/// Runs a trial with a fixed seed and gives what it met.
+fn tried(seed: u64, run: impl FnOnce(&mut Trial, &mut Chance)) -> Tally {
+    let unit = chosen();
+    let mut trial = Trial::new(&unit);
+    run(&mut trial, &mut Chance::new(seed));
+    println!("{}", trial.tally);
+    trial.tally
+}
+
+#[test]
+fn generated_books() {
+    let tally = tried(1, |trial, chance| trials::generated_books(trial, chance, 4_000));
+    assert!(tally.accepted > 2_000);
+    assert!([7, 8, 12].iter().all(|&number| tally.refused[number] > 100));
+}
+
+#[test]
+fn damaged_books() {
+    let tally = tried(2, |trial, chance| trials::damaged_books(trial, chance, 6_000));
+    assert!([1, 2, 3, 4, 5, 7, 8, 10].iter().all(|&number| tally.refused[number] > 20));
+}
+
+#[test]
+fn every_byte_cut_off_and_changed() {
+    tried(3, |trial, chance| trials::every_byte(trial, chance, 12));
+}
+
+#[test]
+fn wrong_lengths() {
+    tried(4, |trial, chance| trials::wrong_lengths(trial, chance, 12));
+}
+
+#[test]
+fn records_out_of_place() {
+    let tally = tried(5, |trial, chance| trials::records_out_of_place(trial, chance, 1_000));
+    assert!([1, 2, 3, 6].iter().all(|&number| tally.refused[number] > 20));
+}
+
+#[test]
+fn comparisons() {
+    let tally = tried(6, |trial, chance| trials::comparisons(trial, chance, 1_500, 120));
+    assert!(tally.same > 2_000 && tally.different > 2_000 && tally.refused[10] > 100 && tally.refused[11] > 2_000);
+}
+
+#[test]
+fn rounds() {
+    let tally = tried(7, |trial, chance| trials::rounds(trial, chance, 1_500));
+    assert!((1..=8).all(|row| tally.rows[row] > 20));
+    assert!(tally.refused[10] > 100 && tally.refused[12] > 100);
+}
+
+#[test]
+fn rounds_make_comparisons() {
+    tried(8, |trial, chance| trials::rounds_make_comparisons(trial, chance, 500));
+}
+
+#[test]
+fn limits() {
+    let tally = tried(9, |trial, chance| trials::limits(trial, chance, 7));
+    assert!(tally.refused[9] > 10);
+    tried(10, |trial, _| trials::longest_next(trial));
+    tried(11, |trial, _| trials::most_rounds(trial, 256));
+}
+
+#[test]
+fn programs() {
+    let tally = tried(12, |trial, chance| trials::programs(trial, chance, 3_000));
+    assert!(tally.refused[12] > 100);
+    tried(13, |trial, _| trials::heavy_programs(trial));
+}
+
+#[test]
+fn chains() {
+    let tally = tried(14, |trial, chance| trials::chains(trial, chance, 400, 260));
+    assert!(tally.searched > 1_000_000);
+}
+
+#[test]
+fn two_letters() {
+    tried(16, |trial, _| trials::two_letters(trial, 8, 8));
+}
+
+#[test]
+fn classes() {
+    let tally = tried(15, |trial, chance| trials::classes(trial, chance, 2_000));
+    assert!(tally.same > 1_000 && tally.different > 100);
+}

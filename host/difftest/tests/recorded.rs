@@ -1,0 +1,183 @@
+//! The recorded calls and inputs, and document 01's bench cases, with answers that are written down: the reference has no part in these.
+
+use std::fs;
+use std::path::PathBuf;
+
+use difftest::unit::{Compared, Refused, Rounded};
+use difftest::{chosen, Unit};
+use gen::{books, Book};
+
+fn vectors() -> PathBuf {
+    PathBuf::from(env!("CARGO_MANIFEST_DIR")).join("../vectors")
+}
+
+fn bytes(text: &str) -> Vec<u8> {
+    if text == "-" {
+        return Vec::new();
+    }
+    (0..text.len()).step_by(2).map(|i| u8::from_str_radix(&text[i..i + 2], 16).expect("hexadecimal")).collect()
+}
+
+fn hex(bytes: &[u8]) -> String {
+    difftest::trial::hex(bytes)
+}
+
+fn refused((number, place): Refused) -> String {
+    format!("refused {number} {place}")
+}
+
+fn compared(answer: Result<Compared, Refused>) -> String {
+    match answer {
+        Ok(Compared::Same(count)) => format!("same {count}"),
+        Ok(Compared::Different(count)) => format!("different {count}"),
+        Err(refusal) => refused(refusal),
+    }
+}
+
+/// A call as it is recorded: its entry, the book, and what else it takes.
+fn call(unit: &dyn Unit, fields: &[&str]) -> String {
+    let number = |i: usize| fields[i].parse::<usize>().expect("a number");
+    let words = |i: usize| bytes(fields[i]);
+    let book = words(1);
+    match fields[0] {
+        "compare" => compared(unit.compare(&book, &words(2), &words(3), fields[4].parse().expect("an allowance"))),
+        "sheet" => {
+            let mut sheet = vec![0xaa; number(2)];
+            unit.cut_sheet(&book, &mut sheet).map_or_else(refused, |_| format!("sheet {}", hex(&sheet)))
+        }
+        "round" => {
+            let mut next = [5, 6, 7].map(|i| vec![0xaa; number(i)]);
+            match unit.round(&book, [&words(2), &words(3), &words(4)], next.each_mut().map(|buffer| &mut buffer[..])) {
+                Ok(Rounded::Same) => "end same".to_string(),
+                Ok(Rounded::Different) => "end different".to_string(),
+                Ok(Rounded::Next(lengths)) => {
+                    let word = |i: usize| hex(&next[i][..lengths[i] as usize]);
+                    format!("next {} {} {}", word(0), word(1), word(2))
+                }
+                Err(refusal) => refused(refusal),
+            }
+        }
+        other => panic!("no entry {other}"),
+    }
+}
+
+fn printed(unit: &dyn Unit, input: &[u8]) -> String {
+    let mut output = vec![0; unit.output_size()];
+    let length = unit.program(input, &mut output).expect("room enough");
+    String::from_utf8(output[..length].to_vec()).expect("text")
+}
+
+#[test]
+fn recorded_calls() {
+    let text = fs::read_to_string(vectors().join("entries.txt")).expect("the recorded calls");
+    for line in text.lines() {
+        let (left, right) = line.split_once(" => ").expect("a call and its answer");
+        assert_eq!(call(&chosen(), &left.split(' ').collect::<Vec<_>>()), right, "{line}");
+    }
+    assert_eq!(text.lines().count(), 381);
+}
+
+#[test]
+fn recorded_inputs_of_the_program() {
+    let mut inputs = 0;
+    for entry in fs::read_dir(vectors().join("program")).expect("the recorded inputs") {
+        let path = entry.expect("an entry").path();
+        if path.extension().is_some_and(|extension| extension == "in") {
+            let output = fs::read_to_string(path.with_extension("out")).expect("its output");
+            assert_eq!(printed(&chosen(), &fs::read(&path).expect("an input")), output, "{}", path.display());
+            inputs += 1;
+        }
+    }
+    assert_eq!(inputs, 54);
+}
+
+fn word(text: &str) -> Vec<u8> {
+    text.bytes().map(|letter| letter - b'a').collect()
+}
+
+/// A book over four letters, its rules written as in the paper.
+fn book(rules: &str) -> Vec<u8> {
+    let sides = rules.split(", ").filter(|rule| !rule.is_empty()).flat_map(|rule| rule.split(" = ")).map(word).collect();
+    Book::new(4, sides).bytes()
+}
+
+#[test]
+fn bench_cases_of_books() {
+    let cases = [
+        ("", "0: "),
+        ("a = aa", "refused 8 0"),
+        ("aa = b", "refused 8 0"),
+        ("a = b", "1: 010 010"),
+        ("ab = ab", "refused 7 1"),
+        ("abdc = acbd", "refused 8 0"),
+        ("abdc = cadb", "1: 121 121"),
+        ("daaa = dc", "refused 8 0"),
+        // document 000, section 1
+        ("abc = cba", "refused 8 0"),
+        ("acba = aabc", "1: 121 121"),
+        ("acba = aabc, acba = dbbbd", "refused 7 2"),
+        ("aabc = aabd", "1: 310 310"),
+    ];
+    for (rules, expected) in cases {
+        let mut sheet = [0; 192];
+        let answer = match chosen().cut_sheet(&book(rules), &mut sheet) {
+            Ok(relations) => {
+                let cuts: Vec<String> = sheet[..6 * relations as usize].chunks(3).map(|cut| format!("{}{}{}", cut[0], cut[1], cut[2])).collect();
+                format!("{relations}: {}", cuts.join(" "))
+            }
+            Err(refusal) => refused(refusal),
+        };
+        assert_eq!(answer, expected, "{rules}");
+        let checked = chosen().check(&book(rules)).map_or_else(refused, |relations| relations.to_string());
+        assert_eq!(checked, expected.split(':').next().expect("a part"), "{rules}");
+    }
+}
+
+#[test]
+fn bench_cases_of_comparisons() {
+    let q = "abdc = cadb";
+    let cases = [
+        (q, "", "", 100, "same 0"),
+        (q, "a", "", 100, "different 0"),
+        (q, "abd", "abd", 100, "same 1"),
+        (q, "abd", "cad", 100, "different 0"),
+        (q, "abdc", "cadb", 100, "same 2"),
+        (q, "abdcad", "cadbad", 100, "same 2"),
+        (q, "cadbadb", "abdabdc", 100, "same 3"),
+        (q, "cadbadb", "abdabdc", 2, "refused 11 2"),
+        (q, "cadbadb", "abdabdc", 3, "same 3"),
+        ("", "a", "b", 100, "different 0"),
+        ("", "ab", "ab", 100, "same 2"),
+    ];
+    for (rules, u, v, allowance, expected) in cases {
+        assert_eq!(compared(chosen().compare(&book(rules), &word(u), &word(v), allowance)), expected, "{u} {v} under {rules}");
+    }
+}
+
+#[test]
+fn bench_cases_at_the_limits() {
+    let unit = chosen();
+    let long = |m: usize, n: usize| [books::head(64), books::rule(&vec![0; m], &vec![1; n])].concat();
+    // sides of one letter over and over are loose, but not out of range
+    assert_eq!(unit.check(&long(64, 64)), Err((8, 0)));
+    assert_eq!(unit.check(&long(65, 64)), Err((4, 5)));
+    assert_eq!(unit.check(&long(64, 65)), Err((4, 5)));
+    let mut many = books::head(64);
+    for i in 0..32 {
+        many.extend(books::rule(&[2 * i], &[2 * i + 1]));
+    }
+    assert_eq!(unit.check(&many), Ok(32));
+    let place = many.len() as u64;
+    many.extend(books::rule(&[0], &[1]));
+    assert_eq!(unit.check(&many), Err((6, place)));
+    let run = vec![0; 4_097];
+    assert_eq!(unit.compare(&book("abdc = cadb"), &run[1..], &run[1..], u32::MAX), Ok(Compared::Same(4_096)));
+    assert_eq!(unit.compare(&book("abdc = cadb"), &run, &run, u32::MAX), Err((9, 0)));
+    assert_eq!(unit.compare(&book("abdc = cadb"), &run[1..], &run, u32::MAX), Err((9, 5_000)));
+}
+
+#[test]
+fn the_example_of_the_program() {
+    let input = [bytes("0100010004"), bytes("0a00020004040001030202000301"), bytes("1000030064000000040004000001030202000301")].concat();
+    assert_eq!(printed(&chosen(), &input), "book 1\nsame 2\n");
+}

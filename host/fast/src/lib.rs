@@ -1,0 +1,64 @@
+//! A fast unverified version of the design of the proved library, the yardstick of its benchmark. Nothing rests on it.
+//!
+//! All relation words lie in one text, word number i followed by its fence, the code 64 + i. One row of common fronts, updated in place, gives the
+//! longest piece that starts at each place of the text; C(4) and the cuts are read off that table. A comparison finds relation words by an index and
+//! holds each of its words as a part of the text followed by the rest of a given word, in three numbers, and copies nothing.
+//!
+//! Document 01's words: a step is a letter, a run a word, a side a relation word, a rule a relation, a book a presentation.
+
+mod index;
+mod pieces;
+mod program;
+mod reader;
+mod rounds;
+
+pub use program::{program, OUTPUT};
+pub use rounds::{compare, round, Comparison, RoundEnd};
+
+use reader::Laid;
+
+/// A refusal is its number and place.
+#[derive(Debug, Clone, Copy, PartialEq, Eq)]
+pub struct Refusal {
+    pub number: u32,
+    pub place: u64,
+}
+
+#[inline]
+fn refuse<T>(number: u32, place: usize) -> Result<T, Refusal> {
+    Err(Refusal { number, place: place as u64 })
+}
+
+/// The book is accepted, with its number of relations, or refused.
+pub fn check(book: &[u8]) -> Result<u64, Refusal> {
+    let mut laid = Laid::empty();
+    accept(book, &mut laid)?;
+    Ok(laid.relations() as u64)
+}
+
+/// Writes the lengths of X, Y, Z of each side in order, one byte each, and gives the number of relations.
+pub fn cut_sheet(book: &[u8], sheet: &mut [u8]) -> Result<u64, Refusal> {
+    let mut laid = Laid::empty();
+    accept(book, &mut laid)?;
+    if sheet.len() < 3 * laid.words {
+        return refuse(12, 0);
+    }
+    for (place, side) in sheet.chunks_exact_mut(3).zip(&laid.sides[..laid.words]) {
+        place[0] = (side.x_end - side.start) as u8;
+        place[1] = (side.z_start - side.x_end) as u8;
+        place[2] = (side.end - side.z_start) as u8;
+    }
+    Ok(laid.relations() as u64)
+}
+
+/// Reads a book, checks it, and cuts its relation words.
+fn accept(book: &[u8], laid: &mut Laid) -> Result<(), Refusal> {
+    reader::read(book, laid)?;
+    if let Some(side) = pieces::first_repeated(laid) {
+        return refuse(7, side);
+    }
+    match pieces::cut_all(laid) {
+        Some(side) => refuse(8, side),
+        None => Ok(()),
+    }
+}

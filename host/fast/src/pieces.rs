@@ -1,0 +1,68 @@
+//! The longest piece that starts at each place of the text, C(4) and the cuts (document 003, section 1).
+
+use crate::reader::{Laid, TEXT};
+
+/// The lowest relation word that equals an earlier one.
+pub fn first_repeated(laid: &Laid) -> Option<usize> {
+    (0..laid.words).find(|&i| (0..i).any(|j| laid.word(j) == laid.word(i)))
+}
+
+/// One pass over part of the row: the common fronts of place p, whose letter is given, with the places of this part.
+/// The row holds those of place p + 1, and gives up each as it is used. The largest comes back.
+/// Every turn loads and stores whatever the letters are, so that the compiler makes vectors of it.
+fn pass(text: &[u8], row: &mut [u8], letter: u8) -> u8 {
+    let n = text.len();
+    let row = &mut row[..n + 1];
+    let mut best = 0;
+    for q in 0..n {
+        let longer = row[q + 1].wrapping_add(1);
+        let next = if text[q] == letter { longer } else { 0 };
+        row[q] = next;
+        best = best.max(next);
+    }
+    best
+}
+
+/// The length of the longest piece that starts at each place of the text.
+fn longest_pieces(text: &[u8], longest: &mut [u8]) {
+    let n = text.len();
+    let mut row = [0u8; TEXT + 1];
+    for p in (0..n).rev() {
+        let letter = text[p];
+        let below = pass(&text[..p], &mut row[..p + 1], letter);
+        let above = pass(&text[p + 1..], &mut row[p + 1..n + 1], letter);
+        longest[p] = below.max(above);
+    }
+}
+
+/// The word is a product of three pieces: cut points a and b, by the lengths of the longest pieces at its places.
+fn is_loose(longest: &[u8]) -> bool {
+    let n = longest.len();
+    let reach = |at: usize| at + if at < n { longest[at] as usize } else { 0 };
+    for a in 0..=reach(0) {
+        for b in a..=reach(a) {
+            if reach(b) >= n {
+                return true;
+            }
+        }
+    }
+    false
+}
+
+/// Cuts every relation word, or gives the lowest one that is loose.
+pub fn cut_all(laid: &mut Laid) -> Option<usize> {
+    let mut longest = [0u8; TEXT];
+    longest_pieces(&laid.text[..laid.length], &mut longest[..laid.length]);
+    for i in 0..laid.words {
+        let side = &mut laid.sides[i];
+        let (start, end) = (side.start as usize, side.end as usize);
+        let own = &longest[start..end];
+        if is_loose(own) {
+            return Some(i);
+        }
+        let tail = (0..own.len()).find(|&at| at + own[at] as usize >= own.len()).unwrap_or(own.len());
+        side.x_end = side.start + own[0] as u16;
+        side.z_start = side.start + tail as u16;
+    }
+    None
+}

@@ -1,0 +1,268 @@
+//! Books: random ones, families made to be accepted by C(4) with long pieces, and those at the limits.
+
+use crate::Chance;
+
+/// The letters and relation words of a book; two words for each relation.
+#[derive(Debug, Clone, PartialEq, Eq)]
+pub struct Book {
+    pub letters: u8,
+    pub words: Vec<Vec<u8>>,
+}
+
+impl Book {
+    pub fn new(letters: u8, words: Vec<Vec<u8>>) -> Book {
+        assert!(words.len().is_multiple_of(2), "two words for each relation");
+        Book { letters, words }
+    }
+
+    /// The number of relations.
+    pub fn relations(&self) -> usize {
+        self.words.len() / 2
+    }
+
+    /// The book's bytes (document 01, "Book bytes").
+    pub fn bytes(&self) -> Vec<u8> {
+        let mut bytes = head(self.letters);
+        for pair in self.words.chunks(2) {
+            bytes.extend(rule(&pair[0], &pair[1]));
+        }
+        bytes
+    }
+}
+
+/// A record of kind 1.
+pub fn head(letters: u8) -> Vec<u8> {
+    vec![1, 0, 1, 0, letters]
+}
+
+/// A record of kind 2.
+pub fn rule(left: &[u8], right: &[u8]) -> Vec<u8> {
+    let length = (2 + left.len() + right.len()) as u16;
+    [&length.to_le_bytes()[..], &[2, 0, left.len() as u8, right.len() as u8], left, right].concat()
+}
+
+/// A book of any kind below: mostly small, many accepted, some refused by 7 or 8.
+pub fn any(chance: &mut Chance) -> Book {
+    match chance.below(13) {
+        0 => anything(chance),
+        1 | 2 => few_letters(chance),
+        3 | 4 => random(chance),
+        5 | 6 => marked(chance),
+        7 => periodic(chance),
+        8 => shared_fronts(chance),
+        9 => overlapping(chance),
+        10 => linked(chance),
+        _ => small(chance),
+    }
+}
+
+/// No care is taken at all: from 1 letter, up to 32 relations, sides of 1 to 64.
+pub fn anything(chance: &mut Chance) -> Book {
+    let letters = chance.between(1, 64) as u8;
+    let relations = chance.below(33);
+    let most = *chance.pick(&[3, 10, 64]);
+    let words = chance.words(2 * relations, 1, most, letters);
+    Book::new(letters, words)
+}
+
+/// Two or three letters, sides long enough for C(4) to be met often.
+pub fn few_letters(chance: &mut Chance) -> Book {
+    let letters = chance.between(2, 3) as u8;
+    let relations = chance.between(1, 3);
+    let (least, most) = if letters == 2 { (9, 30) } else { (5, 18) };
+    let words = chance.words(2 * relations, least, most, letters);
+    Book::new(letters, words)
+}
+
+/// Random sides over 3 to 64 letters, of 5 to 64 letters.
+pub fn random(chance: &mut Chance) -> Book {
+    let letters = chance.between(3, 64) as u8;
+    let most = *chance.pick(&[6, 6, 6, 6, 6, 6, 32]);
+    let relations = chance.between(1, most);
+    let least = if letters < 6 { 16 } else { 5 };
+    let words = chance.words(2 * relations, least, 64, letters);
+    Book::new(letters, words)
+}
+
+/// Each side is a shared front, a letter of its own and a shared end, so that it is accepted with long X and Z.
+/// Fronts and ends come from a small stock of pieces over few letters, and now and then the side is its own letter alone.
+pub fn marked(chance: &mut Chance) -> Book {
+    let common = chance.between(1, 3) as u8;
+    let relations = chance.between(1, 6);
+    let most = *chance.pick(&[2, 5, 12, 31]);
+    let count = chance.between(1, 5);
+    let stock = chance.words(count, 0, most, common);
+    let letters = common + 2 * relations as u8;
+    let words = (0..2 * relations)
+        .map(|i| {
+            let own = common + i as u8;
+            let part = |chance: &mut Chance| if chance.once_in(4) { Vec::new() } else { chance.pick(&stock).clone() };
+            [part(chance), vec![own], part(chance)].concat()
+        })
+        .collect();
+    Book::new(letters, words)
+}
+
+/// Sides of a short period around letters of their own.
+pub fn periodic(chance: &mut Chance) -> Book {
+    let relations = chance.between(1, 5);
+    let letters = 2 + 2 * relations as u8;
+    let length = chance.between(1, 3);
+    let period = chance.word(length, 2);
+    let words = (0..2 * relations)
+        .map(|i| {
+            let (before, behind) = (chance.below(30), chance.below(30));
+            let mut word: Vec<u8> = period.iter().cycle().skip(chance.below(3)).take(before).copied().collect();
+            word.push(2 + i as u8);
+            word.extend(period.iter().cycle().skip(chance.below(3)).take(behind));
+            word
+        })
+        .collect();
+    Book::new(letters, words)
+}
+
+/// Sides that begin with one long word and part late.
+pub fn shared_fronts(chance: &mut Chance) -> Book {
+    let relations = chance.between(1, 8);
+    let letters = 3 + 2 * relations as u8;
+    let length = chance.between(1, 60);
+    let front = chance.word(length, 3);
+    let words = (0..2 * relations)
+        .map(|i| {
+            let kept = if chance.once_in(3) { chance.below(front.len() + 1) } else { front.len() };
+            let rest = chance.below(4);
+            [&front[..kept], &[3 + i as u8], &chance.word(rest, 3)[..]].concat()
+        })
+        .collect();
+    Book::new(letters, words)
+}
+
+/// Sides whose ends are other sides' beginnings, so that their places in a word overlap and fronts are often not clean.
+pub fn overlapping(chance: &mut Chance) -> Book {
+    let relations = chance.between(1, 4);
+    let letters = chance.between(3, 6) as u8;
+    let length = chance.between(8, 40);
+    let ring = chance.word(length, letters);
+    let words = (0..2 * relations)
+        .map(|_| {
+            let from = chance.below(ring.len());
+            let length = chance.between(4, ring.len().min(24));
+            let mut word: Vec<u8> = ring.iter().cycle().skip(from).take(length).copied().collect();
+            for _ in 0..chance.below(4) {
+                let at = chance.below(word.len());
+                word[at] = chance.below(letters as usize) as u8;
+            }
+            word
+        })
+        .collect();
+    Book::new(letters, words)
+}
+
+/// Sides whose fronts and ends come from a few short words with a common end, so that long chains of sides overlap in words
+/// and an exchange at one place makes or undoes a side at the next.
+pub fn linked(chance: &mut Chance) -> Book {
+    let common = chance.between(1, 3) as u8;
+    let relations = chance.between(1, 3);
+    let length = chance.between(1, 2);
+    let end = chance.word(length, common);
+    let count = chance.between(1, 4);
+    let mut stock: Vec<Vec<u8>> = chance.words(count, 0, 2, common).into_iter().map(|front| [front, end.clone()].concat()).collect();
+    stock.push(Vec::new());
+    let words = (0..2 * relations as u8).map(|i| [&chance.pick(&stock)[..], &[common + i], &chance.pick(&stock)[..]].concat()).collect();
+    Book::new(common + 2 * relations as u8, words)
+}
+
+/// One or two short relations over two to six letters, for breadth-first search.
+pub fn small(chance: &mut Chance) -> Book {
+    let letters = chance.between(2, 6) as u8;
+    let relations = chance.between(1, 2);
+    let words = chance.words(2 * relations, 1, 6, letters);
+    Book::new(letters, words)
+}
+
+/// Every book of one relation over two letters whose two sides differ and whose longer side has just n letters, each pair once.
+pub fn of_two_letters(n: usize) -> impl Iterator<Item = Book> {
+    // a word is numbered by its binary digits behind a leading 1, so shorter words come first
+    let word = |number: usize| -> Vec<u8> { (0..number.ilog2()).rev().map(|digit| (number >> digit & 1) as u8).collect() };
+    (1 << n..2 << n).flat_map(move |right| (2..right).map(move |left| Book::new(2, vec![word(left), word(right)])))
+}
+
+/// 32 relations of 64 and 64 random letters.
+pub fn full_random(chance: &mut Chance, letters: u8) -> Book {
+    Book::new(letters, chance.words(64, 64, 64, letters))
+}
+
+/// A book of this many relations, each side random and 64 letters long.
+pub fn long_random(chance: &mut Chance, relations: usize) -> Book {
+    Book::new(64, chance.words(2 * relations, 64, 64, 64))
+}
+
+/// Four letters for each side such that no two of them stand together twice, from `least` on below 64.
+/// A side that has them needs four pieces at least, whatever else is in it.
+fn own_letters(sides: usize, least: u8) -> Vec<[u8; 4]> {
+    let count = 64 - least as usize;
+    let code = |n: usize| least + (n % count) as u8;
+    // the distances between neighbours are others at each turn around
+    let of_side = |i: usize| {
+        let step = 1 + 3 * (i / count);
+        [code(i), code(i + step), code(i + 2 * step + 1), code(i + 3 * step + 3)]
+    };
+    (0..sides).map(of_side).collect()
+}
+
+/// 32 relations of 64 and 64 letters that share a front of 60.
+pub fn full_shared_fronts(chance: &mut Chance) -> Book {
+    let front = chance.word(60, 3);
+    Book::new(64, own_letters(64, 3).iter().map(|own| [&front[..], own].concat()).collect())
+}
+
+/// 32 relations of 64 and 64 letters, all of one period but for four letters.
+pub fn full_periodic(period: &[u8]) -> Book {
+    let words = own_letters(64, 3)
+        .iter()
+        .enumerate()
+        .map(|(i, own)| {
+            let mut word: Vec<u8> = period.iter().cycle().take(64).copied().collect();
+            let at = i % 61;
+            word[at..at + 4].copy_from_slice(own);
+            word
+        })
+        .collect();
+    Book::new(64, words)
+}
+
+/// The book with the most rounds: 31 relations of 1 and 64 letters, whose long sides end alike, so that k is 63.
+/// Each letter that begins a relation is answered by 63 more, so two equal words of n such letters take 64 n rounds.
+pub fn most_rounds() -> Book {
+    let tail: Vec<u8> = (0..63).map(|i| 62 + (i % 5 % 2) as u8).collect();
+    let words = (0..31).flat_map(|i| [vec![2 * i], [&[2 * i + 1], &tail[..]].concat()]).collect();
+    Book::new(64, words)
+}
+
+/// A word of n letters that takes 64 n rounds against itself under `most_rounds`.
+pub fn most_rounds_word(n: usize) -> Vec<u8> {
+    (0..n).map(|i| 2 * (i % 31) as u8).collect()
+}
+
+/// 31 relations whose sides have long middles that begin alike, so that each test for a clean front tries many places.
+pub fn long_middles(chance: &mut Chance) -> Book {
+    let front = chance.word(20, 2);
+    let words = (0..62u8).map(|i| {
+        let rest = chance.word(42, 2);
+        [&front[..], &[2 + i], &rest[..], &[2 + i]].concat()
+    });
+    Book::new(64, words.collect())
+}
+
+/// Some books at the limits, by number; every one is accepted.
+pub fn at_the_limits(chance: &mut Chance, number: usize) -> Book {
+    match number % 7 {
+        0 => full_random(chance, 64),
+        1 => full_random(chance, 3),
+        2 => full_shared_fronts(chance),
+        3 => full_periodic(&[0]),
+        4 => full_periodic(&[0, 1, 0, 0, 1]),
+        5 => most_rounds(),
+        _ => long_middles(chance),
+    }
+}

@@ -1,0 +1,12 @@
+//! Generators of books, words, marks, damage and program inputs, for tests and benchmarks. Everything follows from a seed.
+//!
+//! Document 01's words: a step is a letter, a run a word, a side a relation word, a rule a relation, a book a presentation.
+
+pub mod books;
+pub mod chance;
+pub mod damage;
+pub mod inputs;
+pub mod words;
+
+pub use books::Book;
+pub use chance::Chance;

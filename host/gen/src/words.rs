@@ -1,0 +1,143 @@
+//! Words to compare, front marks, and random chains of exchanges.
+
+use crate::{Book, Chance};
+
+/// A word of up to about `most` letters, made of sides, of parts of sides and of letters.
+pub fn of_sides(chance: &mut Chance, book: &Book, most: usize) -> Vec<u8> {
+    let mut word = Vec::new();
+    let length = chance.below(most + 1);
+    while word.len() < length {
+        if book.words.is_empty() || chance.once_in(5) {
+            word.push(chance.below(book.letters as usize) as u8);
+            continue;
+        }
+        let side = chance.pick(&book.words);
+        match chance.below(4) {
+            0 => word.extend(&side[..chance.below(side.len() + 1)]),
+            1 => word.extend(&side[chance.below(side.len())..]),
+            2 => overlap(&mut word, side),
+            _ => word.extend(side),
+        }
+    }
+    word.truncate(most);
+    word
+}
+
+/// Puts the side behind the word, laid over as long an end of the word as fits.
+pub fn overlap(word: &mut Vec<u8>, side: &[u8]) {
+    let shared = (0..=side.len().min(word.len())).rev().find(|&l| word[word.len() - l..] == side[..l]).expect("nothing fits always");
+    let shared = if shared == side.len() { 0 } else { shared };
+    word.extend(&side[shared..]);
+}
+
+/// A word of up to about `most` letters in which each side is laid over an end of the side before it where it can be.
+pub fn linked(chance: &mut Chance, book: &Book, most: usize) -> Vec<u8> {
+    let mut word = Vec::new();
+    let length = chance.below(most + 1);
+    while word.len() < length && !book.words.is_empty() {
+        let shared = |side: &[u8]| (1..side.len().min(word.len() + 1)).rev().find(|&l| word.ends_with(&side[..l])).unwrap_or(0);
+        let fitting: Vec<usize> = (0..book.words.len()).filter(|&i| shared(&book.words[i]) > 0).collect();
+        let side = &book.words[if fitting.is_empty() { chance.below(book.words.len()) } else { *chance.pick(&fitting) }];
+        let kept = shared(side);
+        word.extend(&side[kept..]);
+    }
+    word.truncate(most);
+    word
+}
+
+/// All places where a side stands in the word: the place and the side's number.
+pub fn places(book: &Book, word: &[u8]) -> Vec<(usize, usize)> {
+    let mut found = Vec::new();
+    for at in 0..word.len() {
+        for (i, side) in book.words.iter().enumerate() {
+            if side[0] == word[at] && word[at..].starts_with(side) {
+                found.push((at, i));
+            }
+        }
+    }
+    found
+}
+
+/// The word after some random exchanges; none that would make it longer than `most`.
+pub fn exchanged(chance: &mut Chance, book: &Book, word: &[u8], times: usize, most: usize) -> Vec<u8> {
+    let mut word = word.to_vec();
+    for _ in 0..times {
+        let places = places(book, &word);
+        if places.is_empty() {
+            break;
+        }
+        let (at, i) = *chance.pick(&places);
+        let other = &book.words[i ^ 1];
+        if word.len() - book.words[i].len() + other.len() <= most {
+            word.splice(at..at + book.words[i].len(), other.iter().copied());
+        }
+    }
+    word
+}
+
+/// Two words of up to `most` letters: joined by a chain, or nearly so, or at random.
+pub fn pair(chance: &mut Chance, book: &Book, most: usize) -> (Vec<u8>, Vec<u8>) {
+    let word = if chance.once_in(2) { linked(chance, book, most) } else { of_sides(chance, book, most) };
+    let away = |chance: &mut Chance| {
+        let times = *chance.pick(&[0, 0, 1, 2, 5, 20]);
+        exchanged(chance, book, &word, times, most)
+    };
+    let (u, mut v) = (away(chance), away(chance));
+    match chance.below(8) {
+        0 if !v.is_empty() => {
+            let at = chance.below(v.len());
+            v[at] = chance.below(book.letters as usize) as u8;
+        }
+        1 if !v.is_empty() => v.truncate(chance.below(v.len())),
+        2 => v = of_sides(chance, book, most),
+        _ => {}
+    }
+    if chance.once_in(2) {
+        (u, v)
+    } else {
+        (v, u)
+    }
+}
+
+/// A front mark: empty, a front, an end or another part of a side, or anything.
+pub fn mark(chance: &mut Chance, book: &Book) -> Vec<u8> {
+    if book.words.is_empty() || chance.once_in(8) {
+        let length = chance.below(6);
+        return chance.word(length, book.letters);
+    }
+    let side = chance.pick(&book.words);
+    let n = side.len();
+    match chance.below(4) {
+        0 => Vec::new(),
+        1 => side[..chance.below(n + 1)].to_vec(),
+        2 => side[chance.below(n)..].to_vec(),
+        _ => {
+            let from = chance.below(n);
+            side[from..from + chance.below(n - from + 1)].to_vec()
+        }
+    }
+}
+
+/// Words and a mark made for rows 3 to 8 of a round: u begins with XY of a side, v with XY of this or of the other side of its rule,
+/// both followed by all of Z, by a front of it, or by something else. The lengths of X, Y, Z of each side are given.
+pub fn shaped(chance: &mut Chance, book: &Book, cuts: &[[usize; 3]]) -> [Vec<u8>; 3] {
+    let side = chance.below(book.words.len());
+    let other = if chance.once_in(4) { side } else { side ^ 1 };
+    let rest = linked(chance, book, 20);
+    let follow = |chance: &mut Chance, i: usize| {
+        let [x, y, z] = cuts[i];
+        let kept = if chance.once_in(2) { z } else { chance.below(z + 1) };
+        let between = if chance.once_in(3) { of_sides(chance, book, 6) } else { Vec::new() };
+        [&book.words[i][..x + y + kept], &between, &rest].concat()
+    };
+    let (u, v) = (follow(chance, side), follow(chance, other));
+    let p = match chance.below(4) {
+        0 => Vec::new(),
+        1 => mark(chance, book),
+        n => {
+            let i = if n == 2 { side } else { side ^ 1 };
+            book.words[i][..chance.below(cuts[i][0] + 1)].to_vec()
+        }
+    };
+    [u, v, p]
+}

@@ -1,0 +1,185 @@
+/*
+ * vanecitron: does a chain of exchanges join two runs of steps under a book of exchange rules?
+ *
+ * Every function here is proved against its contract (crates/host and crates/unit of this tree; docs/AUDIT.md says what that means). The words are
+ * those of document 01: a step is a byte below the book's number of letters A, a run is an array of steps, a rule has two sides, and a book is a list
+ * of records in bytes ("Book bytes").
+ *
+ * The archive
+ *   `rt staticlib host` at the root of the tree writes target/staticlib/libhost.a. It is for x86-64 Linux (System V calling convention) and holds no
+ *   code for another processor. It allocates no memory, keeps no state between calls, reads no file, and starts no thread. Its only undefined symbols
+ *   are memcpy and memset of the C library (`nm -u`; host/test compares the list).
+ *   Build:  cc -I host/include program.c target/staticlib/libhost.a
+ *
+ * Calls
+ *   Calls are reentrant: any number of threads may call any functions at the same time, as long as no buffer that one call writes is used by another.
+ *   A call needs at most VANECITRON_STACK bytes of stack, and gives them back when it returns.
+ *
+ * Buffers
+ *   Each buffer is a pointer and the number of its bytes. A `const` buffer is only read; the others are lent, that is, written.
+ *   A buffer with length 0 is not touched, and its pointer may be null (or anything). With any other length the pointer must be valid for that many
+ *   bytes until the call returns, and nothing else may write to them meanwhile.
+ *   A lent buffer must overlap no other buffer of the same call, whether that is read or lent. Buffers that are only read may overlap each other, or
+ *   be the same.
+ *   A refusal, and a round that ends, leave every lent byte as it was. Otherwise what is written stands at the start of the lent buffer, and the bytes
+ *   behind it are as they were.
+ *
+ * Results
+ *   Each result has a refusal and a place. The refusal is 0 where the call was not refused; else it is one of the numbers below, and everything but
+ *   refusal and place is 0. Where the call was not refused the place is 0. If several refusals could apply, the one that is given is fixed: records of
+ *   the book in turn, each in the order 1, 2, 6, 3, 4, 5; then 7, then 8; then 9 and 10 for u, for v, for p; then 12; 11 last.
+ */
+#ifndef VANECITRON_H
+#define VANECITRON_H
+
+#include <stddef.h>
+#include <stdint.h>
+
+#ifdef __cplusplus
+extern "C" {
+#endif
+
+/* Limits: more than these is refused. */
+#define VANECITRON_LETTERS 64u           /* the most letters of a book; at least 1 */
+#define VANECITRON_RULES 32u             /* the most rules of a book; there may be none */
+#define VANECITRON_SIDE 64u              /* the most steps of a side; at least 1 */
+#define VANECITRON_RUN 4096u             /* the most steps of a run that is compared */
+#define VANECITRON_ROUND_RUN 4160u       /* the most steps of the u and the v of a single round */
+#define VANECITRON_ROUND_MARK 64u        /* the most steps of the p of a single round */
+#define VANECITRON_ALLOWANCE 4294967295u /* the most rounds that an allowance can give */
+#define VANECITRON_INPUT 60000u          /* the most bytes of the program's input */
+
+/* The least sizes of lent buffers. */
+#define VANECITRON_SHEET(rules) (6u * (rules))          /* the cut sheet of a book with so many rules */
+#define VANECITRON_SHEET_MOST VANECITRON_SHEET(VANECITRON_RULES) /* of any book */
+#define VANECITRON_NEXT_RUN 4224u        /* the next u and the next v of a single round */
+#define VANECITRON_NEXT_MARK 64u         /* the next p of a single round */
+#define VANECITRON_OUTPUT 110022u        /* the program's output: no input has a longer one */
+
+/* The most stack that a call needs, in bytes. */
+#define VANECITRON_STACK 16384u
+
+/*
+ * Refusals (document 01, "Refusals by number").
+ *
+ * The place of 1 to 6 is the first byte of the record at fault, counted from the start of the book. Sides are numbered 0 and 1 for the first rule,
+ * 2 and 3 for the second, and so on. Given runs are numbered u 0, v 1, p 2; positions in a run count from 0.
+ */
+#define VANECITRON_ACCEPTED 0u      /* not refused */
+#define VANECITRON_SHORT 1u         /* the bytes end inside a record, or the book is empty */
+#define VANECITRON_KIND 2u          /* the first record is no head, or a later one is no rule */
+#define VANECITRON_LENGTH 3u        /* a record's length does not fit it */
+#define VANECITRON_RANGE 4u         /* the number of letters, or of the steps of a side, is outside its range */
+#define VANECITRON_UNKNOWN_STEP 5u  /* a side has a step that is not below the number of letters */
+#define VANECITRON_THICK 6u         /* a 33rd rule */
+#define VANECITRON_TWICE 7u         /* a side equals an earlier side; place: the lowest such side */
+#define VANECITRON_LOOSE 8u         /* C(4) fails; place: the lowest side that is a product of three or fewer pieces */
+#define VANECITRON_LONG 9u          /* a given run is over its limit; place: 5000 times its number */
+#define VANECITRON_STRANGER 10u     /* a given run has a step that is not below the number of letters; place: 5000 times the run's number, plus the
+                                       position of the first such step */
+#define VANECITRON_SPENT 11u        /* another round was due and the allowance was used up; place: the rounds done, which are the allowance */
+#define VANECITRON_NARROW 12u       /* a lent buffer is too small; place: its number: the sheet 0; next u 0, next v 1, next p 2, lowest first;
+                                       the program's output 0 */
+#define VANECITRON_HEAVY 13u        /* the program's input is over its limit; place: 60000. Only printed by the program, as a line of its output */
+
+/* Outcomes of a comparison and of a round that are not refused. */
+#define VANECITRON_DIFFERENT 0u
+#define VANECITRON_SAME 1u
+#define VANECITRON_NEXT 2u          /* of a round alone: it went on, and the next u, v and p are written */
+
+/* of the check and of the cut sheet */
+typedef struct {
+    uint32_t refusal;
+    uint64_t place;
+    uint64_t relations; /* the number of rules */
+} vanecitron_check_result;
+
+typedef struct {
+    uint32_t refusal;
+    uint64_t place;
+    uint32_t outcome;   /* VANECITRON_DIFFERENT, VANECITRON_SAME or VANECITRON_NEXT */
+    uint64_t u_length;  /* where it is VANECITRON_NEXT, the lengths of the next u, v and p; else 0 */
+    uint64_t v_length;
+    uint64_t p_length;
+} vanecitron_round_result;
+
+typedef struct {
+    uint32_t refusal;
+    uint64_t place;
+    uint32_t outcome;   /* VANECITRON_DIFFERENT or VANECITRON_SAME */
+    uint64_t rounds;    /* how many rounds the comparison took */
+} vanecitron_compare_result;
+
+typedef struct {
+    uint32_t refusal;
+    uint64_t place;
+    uint64_t length; /* the bytes of the output */
+} vanecitron_program_result;
+
+/*
+ * Checks a book: it is accepted exactly when it is well-formed, within the limits, has no side twice, and meets C(4).
+ * Refusals 1 to 8.
+ */
+vanecitron_check_result vanecitron_check(const uint8_t *book, size_t book_length);
+
+/*
+ * Writes the cut sheet of a book: for each side in order the lengths of X, its longest front that is a piece, of Z, its longest end that is a piece,
+ * and of Y, the rest between them, as the three bytes X, Y, Z. `sheet` is lent and has at least VANECITRON_SHEET(rules) bytes;
+ * VANECITRON_SHEET_MOST is enough for every book.
+ * Refusals 1 to 8, 12.
+ */
+vanecitron_check_result vanecitron_cut_sheet(const uint8_t *book, size_t book_length, uint8_t *sheet, size_t sheet_length);
+
+/*
+ * Makes one round from u, v and the front mark p (document 01, "Exchanges and rounds"): it ends, or writes the next u, v and p at the start of the
+ * three lent buffers, which have at least VANECITRON_NEXT_RUN, VANECITRON_NEXT_RUN and VANECITRON_NEXT_MARK bytes. A comparison begins with p empty.
+ * Refusals 1 to 10, 12.
+ */
+vanecitron_round_result vanecitron_round(
+    const uint8_t *book, size_t book_length,
+    const uint8_t *u, size_t u_length,
+    const uint8_t *v, size_t v_length,
+    const uint8_t *p, size_t p_length,
+    uint8_t *next_u, size_t next_u_length,
+    uint8_t *next_v, size_t next_v_length,
+    uint8_t *next_p, size_t next_p_length);
+
+/*
+ * Compares two runs: VANECITRON_SAME exactly when a chain of exchanges joins them, VANECITRON_DIFFERENT exactly when none does, with the number of
+ * rounds that were needed. VANECITRON_SPENT exactly when the two runs need more rounds than the allowance.
+ *
+ * An allowance that is never spent: the rounds are at most (k + 2) times the number of steps of u, where k is the longest Z, that is, the largest of
+ * the third bytes of the cut sheet (0 without rules). vanecitron_ample_allowance reckons it. It is at most 66 times 4096, which fits.
+ * Refusals 1 to 11.
+ */
+vanecitron_compare_result vanecitron_compare(
+    const uint8_t *book, size_t book_length,
+    const uint8_t *u, size_t u_length,
+    const uint8_t *v, size_t v_length,
+    uint32_t allowance);
+
+/*
+ * The whole program (document 01, "The program") from its input to what it prints: `input` holds the records of a book and then those of comparisons;
+ * `output` is lent, has at least VANECITRON_OUTPUT bytes, and receives the lines, each ended by a newline. Refusals of the book, of a comparison's
+ * record and of an input over VANECITRON_INPUT bytes are lines `refused N P` of the output, and not refusals of the call.
+ * Refusals: 12 alone.
+ */
+vanecitron_program_result vanecitron_program(const uint8_t *input, size_t input_length, uint8_t *output, size_t output_length);
+
+/* An allowance that no comparison of a first run with so many steps (VANECITRON_RUN at most) spends, by the cut sheet of the book. */
+static inline uint32_t vanecitron_ample_allowance(const uint8_t *sheet, size_t rules, size_t u_length)
+{
+    uint32_t k = 0;
+    for (size_t side = 0; side < 2 * rules; side++) {
+        if (sheet[3 * side + 2] > k) {
+            k = sheet[3 * side + 2];
+        }
+    }
+    return (k + 2) * (uint32_t)u_length;
+}
+
+#ifdef __cplusplus
+}
+#endif
+
+#endif

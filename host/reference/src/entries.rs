@@ -1,0 +1,109 @@
+//! The entries over slices: check, cut sheet, single round, comparison (document 01, with the order of refusals that it fixes).
+
+use crate::book::{accept, Accepted};
+use crate::rows::{self, Answer, Next};
+use crate::{refuse, Refusal};
+
+/// The most letters of a word that is compared.
+pub const COMPARED: usize = 4_096;
+/// The most letters of the single round's u and v.
+pub const ROUND_WORD: usize = 4_160;
+/// The most letters of the single round's p.
+pub const ROUND_MARK: usize = 64;
+/// The least sizes of the single round's three lent buffers.
+pub const NEXT: [usize; 3] = [4_224, 4_224, 64];
+
+/// The book is accepted, with its number of relations, or refused.
+pub fn check(book: &[u8]) -> Result<u64, Refusal> {
+    Ok(accept(book)?.relations() as u64)
+}
+
+/// Writes the lengths of X, Y, Z of each side in order, one byte each, and gives the number of relations.
+pub fn cut_sheet(book: &[u8], sheet: &mut [u8]) -> Result<u64, Refusal> {
+    let accepted = accept(book)?;
+    if sheet.len() < 3 * accepted.cuts.len() {
+        return refuse(12, 0);
+    }
+    for (i, cut) in accepted.cuts.iter().enumerate() {
+        sheet[3 * i] = cut.x().len() as u8;
+        sheet[3 * i + 1] = cut.y().len() as u8;
+        sheet[3 * i + 2] = cut.z().len() as u8;
+    }
+    Ok(accepted.relations() as u64)
+}
+
+/// 9 and then 10 of one given word.
+fn check_word(word: &[u8], number: usize, limit: usize, letters: u8) -> Result<(), Refusal> {
+    if word.len() > limit {
+        return refuse(9, 5_000 * number);
+    }
+    match word.iter().position(|&code| code >= letters) {
+        Some(position) => refuse(10, 5_000 * number + position),
+        None => Ok(()),
+    }
+}
+
+/// What the single round gives: the end, or the lengths of the next u, v and p, which are then written.
+#[derive(Debug, Clone, Copy, PartialEq, Eq)]
+pub enum RoundEnd {
+    Same,
+    Different,
+    Next { u: u64, v: u64, p: u64 },
+}
+
+/// One round under a book. An end and a refusal write nothing.
+pub fn round(book: &[u8], u: &[u8], v: &[u8], p: &[u8], next_u: &mut [u8], next_v: &mut [u8], next_p: &mut [u8]) -> Result<RoundEnd, Refusal> {
+    round_under(&accept(book)?, u, v, p, next_u, next_v, next_p)
+}
+
+/// The same under a book that is accepted already.
+pub fn round_under(
+    book: &Accepted,
+    u: &[u8],
+    v: &[u8],
+    p: &[u8],
+    next_u: &mut [u8],
+    next_v: &mut [u8],
+    next_p: &mut [u8],
+) -> Result<RoundEnd, Refusal> {
+    check_word(u, 0, ROUND_WORD, book.letters)?;
+    check_word(v, 1, ROUND_WORD, book.letters)?;
+    check_word(p, 2, ROUND_MARK, book.letters)?;
+    let sizes = [next_u.len(), next_v.len(), next_p.len()];
+    if let Some(buffer) = (0..3).find(|&i| sizes[i] < NEXT[i]) {
+        return refuse(12, buffer);
+    }
+    match rows::round(&book.cuts, u, v, p) {
+        Next::Same => Ok(RoundEnd::Same),
+        Next::Different => Ok(RoundEnd::Different),
+        Next::Go { u, v, p } => {
+            next_u[..u.len()].copy_from_slice(&u);
+            next_v[..v.len()].copy_from_slice(&v);
+            next_p[..p.len()].copy_from_slice(&p);
+            Ok(RoundEnd::Next { u: u.len() as u64, v: v.len() as u64, p: p.len() as u64 })
+        }
+    }
+}
+
+/// A comparison's answer that is no refusal, with the count of rounds.
+#[derive(Debug, Clone, Copy, PartialEq, Eq)]
+pub enum Comparison {
+    Same(u64),
+    Different(u64),
+}
+
+/// Compares two words under a book with an allowance of rounds.
+pub fn compare(book: &[u8], u: &[u8], v: &[u8], allowance: u32) -> Result<Comparison, Refusal> {
+    compare_under(&accept(book)?, u, v, allowance)
+}
+
+/// The same under a book that is accepted already.
+pub fn compare_under(book: &Accepted, u: &[u8], v: &[u8], allowance: u32) -> Result<Comparison, Refusal> {
+    check_word(u, 0, COMPARED, book.letters)?;
+    check_word(v, 1, COMPARED, book.letters)?;
+    match rows::rounds(&book.cuts, u, v, allowance) {
+        Answer::Same(count) => Ok(Comparison::Same(count)),
+        Answer::Different(count) => Ok(Comparison::Different(count)),
+        Answer::Spent(done) => refuse(11, done as usize),
+    }
+}

@@ -1,0 +1,85 @@
+//! Pieces, C(4) and cuts (document 01, the section of that name; document 003, section 1).
+
+use std::collections::HashSet;
+
+use crate::Word;
+
+/// The pieces: the words found as factors in two different relation words or in two different places of one, which may overlap; and the empty word.
+pub fn pieces(words: &[Word]) -> HashSet<&[u8]> {
+    let mut once: HashSet<&[u8]> = HashSet::new();
+    let mut twice: HashSet<&[u8]> = HashSet::new();
+    for word in words {
+        for from in 0..word.len() {
+            for to in from + 1..=word.len() {
+                // each turn is one place of one relation word
+                let factor = &word[from..to];
+                if !once.insert(factor) {
+                    twice.insert(factor);
+                }
+            }
+        }
+    }
+    twice.insert(&[]);
+    twice
+}
+
+/// The word is a product of three or fewer pieces; since the empty word is a piece, "of three" says as much.
+pub fn is_loose(word: &[u8], pieces: &HashSet<&[u8]>) -> bool {
+    (0..=word.len()).any(|a| pieces.contains(&word[..a]) && (a..=word.len()).any(|b| pieces.contains(&word[a..b]) && pieces.contains(&word[b..])))
+}
+
+/// The lowest relation word that is a product of three or fewer pieces.
+pub fn first_loose(words: &[Word], pieces: &HashSet<&[u8]>) -> Option<usize> {
+    (0..words.len()).find(|&i| is_loose(&words[i], pieces))
+}
+
+/// A relation word cut into X, its longest front that is a piece, Z, its longest end that is a piece, and Y, the rest.
+#[derive(Debug, Clone, PartialEq, Eq)]
+pub struct Cut {
+    word: Word,
+    x_length: usize,
+    z_length: usize,
+}
+
+impl Cut {
+    pub fn x(&self) -> &[u8] {
+        &self.word[..self.x_length]
+    }
+
+    pub fn y(&self) -> &[u8] {
+        &self.word[self.x_length..self.word.len() - self.z_length]
+    }
+
+    pub fn z(&self) -> &[u8] {
+        &self.word[self.word.len() - self.z_length..]
+    }
+
+    /// X and Y together.
+    pub fn xy(&self) -> &[u8] {
+        &self.word[..self.word.len() - self.z_length]
+    }
+
+    /// The whole relation word.
+    pub fn xyz(&self) -> &[u8] {
+        &self.word
+    }
+}
+
+/// The cut of a relation word of an accepted book, where X and Z do not meet.
+pub fn cut(word: &[u8], pieces: &HashSet<&[u8]>) -> Cut {
+    let n = word.len();
+    let x_length = (0..=n).rev().find(|&l| pieces.contains(&word[..l])).expect("the empty word is a piece");
+    let z_length = (0..=n).rev().find(|&l| pieces.contains(&word[n - l..])).expect("the empty word is a piece");
+    Cut { word: word.to_vec(), x_length, z_length }
+}
+
+/// The cuts of all relation words.
+pub fn cuts(words: &[Word]) -> Vec<Cut> {
+    let pieces = pieces(words);
+    words.iter().map(|word| cut(word, &pieces)).collect()
+}
+
+/// Document 01's k: the length of the longest Z, or 0 where there are no relations.
+pub fn longest_tail(cuts: &[Cut]) -> usize {
+    cuts.iter().map(|cut| cut.z().len()).max().unwrap_or(0)
+}

@@ -1,0 +1,115 @@
+//! The C functions of the proved library and the only unsafe code: each slice passes as its pointer and its length.
+
+pub const SAME: u32 = 1;
+pub const NEXT: u32 = 2;
+
+/// Of the check and of the cut sheet.
+#[repr(C)]
+pub struct CheckResult {
+    pub refusal: u32,
+    pub place: u64,
+    pub relations: u64,
+}
+
+#[repr(C)]
+pub struct RoundResult {
+    pub refusal: u32,
+    pub place: u64,
+    /// 0 different, 1 same, 2 next
+    pub outcome: u32,
+    pub u_length: u64,
+    pub v_length: u64,
+    pub p_length: u64,
+}
+
+#[repr(C)]
+pub struct CompareResult {
+    pub refusal: u32,
+    pub place: u64,
+    /// 0 different, 1 same
+    pub outcome: u32,
+    pub rounds: u64,
+}
+
+#[repr(C)]
+pub struct ProgramResult {
+    pub refusal: u32,
+    pub place: u64,
+    pub length: u64,
+}
+
+extern "C" {
+    fn vanecitron_check(book: *const u8, book_length: usize) -> CheckResult;
+    fn vanecitron_cut_sheet(book: *const u8, book_length: usize, sheet: *mut u8, sheet_length: usize) -> CheckResult;
+    fn vanecitron_round(
+        book: *const u8,
+        book_length: usize,
+        u: *const u8,
+        u_length: usize,
+        v: *const u8,
+        v_length: usize,
+        p: *const u8,
+        p_length: usize,
+        next_u: *mut u8,
+        next_u_length: usize,
+        next_v: *mut u8,
+        next_v_length: usize,
+        next_p: *mut u8,
+        next_p_length: usize,
+    ) -> RoundResult;
+    fn vanecitron_compare(
+        book: *const u8,
+        book_length: usize,
+        u: *const u8,
+        u_length: usize,
+        v: *const u8,
+        v_length: usize,
+        allowance: u32,
+    ) -> CompareResult;
+    fn vanecitron_program(input: *const u8, input_length: usize, output: *mut u8, output_length: usize) -> ProgramResult;
+}
+
+// Each call below passes slices that live through the call, the lent ones by unique borrow, as pointer and length of the same slice;
+// the functions keep none of them.
+
+pub fn check(book: &[u8]) -> CheckResult {
+    // SAFETY: as said above
+    unsafe { vanecitron_check(book.as_ptr(), book.len()) }
+}
+
+pub fn cut_sheet(book: &[u8], sheet: &mut [u8]) -> CheckResult {
+    // SAFETY: as said above
+    unsafe { vanecitron_cut_sheet(book.as_ptr(), book.len(), sheet.as_mut_ptr(), sheet.len()) }
+}
+
+pub fn round(book: &[u8], u: &[u8], v: &[u8], p: &[u8], next_u: &mut [u8], next_v: &mut [u8], next_p: &mut [u8]) -> RoundResult {
+    // SAFETY: as said above
+    unsafe {
+        vanecitron_round(
+            book.as_ptr(),
+            book.len(),
+            u.as_ptr(),
+            u.len(),
+            v.as_ptr(),
+            v.len(),
+            p.as_ptr(),
+            p.len(),
+            next_u.as_mut_ptr(),
+            next_u.len(),
+            next_v.as_mut_ptr(),
+            next_v.len(),
+            next_p.as_mut_ptr(),
+            next_p.len(),
+        )
+    }
+}
+
+pub fn compare(book: &[u8], u: &[u8], v: &[u8], allowance: u32) -> CompareResult {
+    // SAFETY: as said above
+    unsafe { vanecitron_compare(book.as_ptr(), book.len(), u.as_ptr(), u.len(), v.as_ptr(), v.len(), allowance) }
+}
+
+pub fn program(input: &[u8], output: &mut [u8]) -> ProgramResult {
+    // SAFETY: as said above
+    unsafe { vanecitron_program(input.as_ptr(), input.len(), output.as_mut_ptr(), output.len()) }
+}

@@ -1,0 +1,276 @@
+"""Tests of the readable form of books (booktext.py): document 01's example, round trips, every error, every explanation."""
+
+import glob
+import os
+import random
+import subprocess
+import sys
+import tempfile
+import unittest
+
+sys.path.insert(0, os.path.dirname(os.path.abspath(__file__)))
+
+import booktext
+from booktext import BytesError, Explainer, TextError, decode, encode
+
+TOOL = os.path.join(os.path.dirname(os.path.abspath(__file__)), "booktext.py")
+
+# document 01, "The program"
+EXAMPLE_TEXT = "letters 4\nabdc = cadb\ncompare abdc cadb 100\n"
+EXAMPLE_BYTES = bytes.fromhex(
+    "01 00 01 00 04" "0A 00 02 00 04 04 00 01 03 02 02 00 03 01" "10 00 03 00 64 00 00 00 04 00 04 00 00 01 03 02 02 00 03 01"
+)
+
+
+def run_tool(*arguments, data=b""):
+    """The tool as a command: exit code, standard output, standard error."""
+    done = subprocess.run([sys.executable, TOOL, *arguments], input=data, capture_output=True, check=False)
+    return done.returncode, done.stdout, done.stderr.decode()
+
+
+class Encoding(unittest.TestCase):
+    def test_the_example_of_document_01_byte_for_byte(self):
+        self.assertEqual(encode(EXAMPLE_TEXT), EXAMPLE_BYTES)
+
+    def test_comments_blank_lines_and_spacing(self):
+        text = "# a book\n\n  letters   4 # four\n\tabdc=cadb\ncompare abdc  cadb 100#end"
+        self.assertEqual(encode(text), EXAMPLE_BYTES)
+        self.assertEqual(encode(text.replace("\n", "\r\n").replace("\r\n", "\n")), EXAMPLE_BYTES)
+
+    def test_numbers_and_the_empty_run(self):
+        self.assertEqual(encode("letters 4\n0.1.3.2 = 2.0.3.1\ncompare 0.1.3.2 cadb 100"), EXAMPLE_BYTES)
+        self.assertEqual(encode("letters 64\n63 = 27.0\n"), bytes.fromhex("0100010040" "05000200" "01023f1b00"))
+        self.assertEqual(encode("letters 1\ncompare - - 0\n"), bytes.fromhex("0100010001" "08000300" "0000000000000000"))
+
+    def test_a_run_may_spell_a_keyword(self):
+        self.assertEqual(encode("letters 26\nletters = compare\n"), encode("letters 26\n11.4.19.19.4.17.18 = 2.14.12.15.0.17.4\n"))
+        runs = bytes(ord(letter) - ord("a") for letter in "compareletters")
+        self.assertEqual(encode("letters 26\ncompare compare letters 1\n")[17:], runs)
+
+    def test_what_the_program_refuses_can_still_be_written(self):
+        self.assertEqual(encode("letters 70\n"), bytes.fromhex("0100010046"))
+        self.assertEqual(encode("letters 0\n"), bytes.fromhex("0100010000"))
+        self.assertEqual(encode("letters 1\n- = z\n"), bytes.fromhex("0100010001" "03000200" "000119"))
+        self.assertEqual(len(encode("letters 1\n" + "a" * 255 + " = b\n")), 5 + 4 + 2 + 256)
+        self.assertEqual(len(encode("letters 1\ncompare " + "a" * 5000 + " b 4294967295\n")), 5 + 4 + 8 + 5001)
+
+
+class Decoding(unittest.TestCase):
+    def test_the_example_of_document_01(self):
+        self.assertEqual(decode(EXAMPLE_BYTES), EXAMPLE_TEXT)
+
+    def test_numbers_beyond_z(self):
+        self.assertEqual(decode(encode("letters 64\n63 = 27.0\n")), "letters 64\n63 = 27.0\n")
+
+    def test_round_trips(self):
+        chance = random.Random(7)
+
+        def run(least, most):
+            return bytes(chance.randrange(chance.choice((4, 26, 64, 256))) for _ in range(chance.randint(least, most)))
+
+        for _ in range(300):
+            lines = [f"letters {chance.randrange(256)}"]
+            lines += [f"{booktext.run_text(run(0, 20))} = {booktext.run_text(run(0, 20))}" for _ in range(chance.randrange(5))]
+            for _ in range(chance.randrange(5)):
+                lines.append(f"compare {booktext.run_text(run(0, 30))} {booktext.run_text(run(0, 30))} {chance.randrange(2**32)}")
+            text = "\n".join(lines) + "\n"
+            self.assertEqual(decode(encode(text)), text)
+            self.assertEqual(encode(decode(encode(text))), encode(text))
+
+    def test_round_trips_of_recorded_inputs(self):
+        whole = 0
+        for path in glob.glob(os.path.join(os.path.dirname(TOOL), "..", "host", "vectors", "program", "*.in")):
+            with open(path, "rb") as file:
+                data = file.read()
+            try:
+                text = decode(data)
+            except BytesError:
+                continue
+            self.assertEqual(encode(text), data)
+            whole += 1
+        self.assertGreater(whole, 20)
+
+    def test_every_error_names_its_byte(self):
+        head = EXAMPLE_BYTES[:5]
+        rule = EXAMPLE_BYTES[5:19]
+        comparison = EXAMPLE_BYTES[19:]
+        for data, place, part in [
+            (b"", 0, "no bytes"),
+            (head[:3], 0, "end inside"),
+            (head[:4], 0, "end inside"),
+            (rule, 0, "kind 2"),
+            (head + head, 5, "kind 1"),
+            (head + rule + b"\1", 19, "end inside"),
+            (head + rule[:-1], 5, "end inside"),
+            (head + comparison + rule, 25, "kind 2"),
+            (head + bytes.fromhex("00000900"), 5, "kind 9"),
+            (bytes.fromhex("00000100"), 0, "at least 1"),
+            (bytes.fromhex("020001000404"), 0, "does not fit"),
+            (head + bytes.fromhex("0100020001"), 5, "at least 2"),
+            (head + bytes.fromhex("03000200010100"), 5, "does not fit"),
+            (head + bytes.fromhex("0100030001"), 5, "at least 8"),
+            (head + bytes.fromhex("09000300000000000100010000"), 5, "does not fit"),
+        ]:
+            with self.subTest(data=data.hex()):
+                with self.assertRaises(BytesError) as caught:
+                    decode(data)
+                self.assertEqual(caught.exception.place, place)
+                self.assertIn(part, caught.exception.message)
+
+
+class TextErrors(unittest.TestCase):
+    def check(self, text, line, column, part):
+        with self.subTest(text=text):
+            with self.assertRaises(TextError) as caught:
+                encode(text)
+            self.assertEqual((caught.exception.line, caught.exception.column), (line, column))
+            self.assertIn(part, caught.exception.message)
+
+    def test_every_error_names_line_and_column(self):
+        book = "letters 4\nabdc = cadb\n"
+        self.check("", 1, 1, "empty")
+        self.check("# nothing\n\n", 3, 1, "empty")
+        self.check("abdc = cadb\n", 1, 1, "first item")
+        self.check("\n  compare a b 1\n", 2, 3, "first item")
+        self.check("letters 4\n letters 4\n", 2, 2, "line 1 already")
+        self.check("letters\n", 1, 8, "missing")
+        self.check("letters 4 5\n", 1, 11, "too much")
+        self.check("letters four\n", 1, 9, "must be a number")
+        self.check("letters 256\n", 1, 9, "at most 255")
+        self.check("letters -1\n", 1, 9, "must be a number")
+        self.check(book + "compare a b 1\nab = ba\n", 4, 1, "all rules come first")
+        self.check(book + "abdc cadb\n", 3, 1, "'abdc' begins neither")
+        self.check(book + "abdc\n", 3, 1, "'abdc' begins neither")
+        self.check(book + "= abdc\n", 3, 1, "'=' begins neither")
+        self.check(book + "abdc =\n", 3, 7, "missing")
+        self.check(book + "abdc = cadb abdc\n", 3, 13, "too much")
+        self.check(book + "abdc = = cadb\n", 3, 10, "too much")
+        self.check(book + "abdc = =\n", 3, 8, "'=' is no letter")
+        self.check(book + "abDc = cadb\n", 3, 3, "'D' is no letter")
+        self.check(book + "abdc = ca4b\n", 3, 10, "'4' is no letter")
+        self.check(book + "abdc = cad-\n", 3, 11, "'-' is no letter")
+        self.check(book + "-a = cadb\n", 3, 1, "'-' is no letter")
+        self.check(book + "abdc = 1..2\n", 3, 10, "a number is missing")
+        self.check(book + "abdc = 1.2.\n", 3, 12, "a number is missing")
+        self.check(book + "abdc = .1\n", 3, 8, "a number is missing")
+        self.check(book + "abdc = 1.b.2\n", 3, 10, "must be a number")
+        self.check(book + "abdc = 1.256\n", 3, 10, "at most 255")
+        self.check(book + "abdc = 1.\u0663\n", 3, 10, "must be a number")
+        self.check(book + "abdc = \ufffd\n", 3, 8, "is no letter")
+        self.check(book + "a" * 256 + " = b\n", 3, 1, "256 steps")
+        self.check(book + "b = " + "a" * 256 + "\n", 3, 5, "256 steps")
+        self.check(book + "compare a b\n", 3, 12, "missing")
+        self.check(book + "compare a b   # 7\n", 3, 12, "missing")
+        self.check(book + "compare a b 1 2\n", 3, 15, "too much")
+        self.check(book + "compare a B 1\n", 3, 11, "'B' is no letter")
+        self.check(book + "compare a b many\n", 3, 13, "must be a number")
+        self.check(book + "compare a b 4294967296\n", 3, 13, "at most 4294967295")
+        self.check(book + "compare a b " + "9" * 5000 + "\n", 3, 13, "at most 4294967295")
+        self.check(book + "compare " + "a" * 65000 + " " + "b" * 600 + " 1\n", 3, 9, "cannot be written")
+
+
+class Explaining(unittest.TestCase):
+    TEXT = "# two rules\nletters 4\n\nabdc = cadb  # first\nbb = bbb\ncompare abdc cadb 100\ncompare abe - 7\n"
+
+    def explained(self, text, output):
+        return Explainer(text).explain(output)
+
+    def check(self, text, output, *parts):
+        told = self.explained(text, output)
+        self.assertEqual(len(told), len(output.splitlines()))
+        for part in parts:
+            self.assertIn(part, told[-1])
+
+    def test_answers(self):
+        told = self.explained(EXAMPLE_TEXT, "book 1\nsame 2\n")
+        self.assertEqual(told[0], "book 1: the book is accepted, with 1 rule")
+        self.assertEqual(told[1], "same 2: comparison 1 on line 3: a chain of exchanges joins the two runs; 2 rounds")
+        self.check(self.TEXT, "book 2\nsame 2\ndifferent 1\n", "comparison 2 on line 7", "no chain", "1 round")
+        self.check(self.TEXT, "book 2\nrefused 11 0\ndifferent 1\n", "comparison 2 on line 7")
+
+    def test_sides(self):
+        # side 3 is the right side of rule 2, on line 5
+        self.check(self.TEXT, "refused 8 3\n", "rule 2, right side, on line 5, column 6", "product of three or fewer pieces: b, bb")
+        self.check(self.TEXT, "refused 8 0\n", "rule 1, left side, on line 4, column 1", "three or fewer pieces")
+        self.check("letters 2\na = b\nab = b\n", "refused 7 3\n", "rule 2, right side, on line 3, column 6, equals rule 1, right side, on line 2, column 5")
+        self.check(self.TEXT, "refused 7 9\n", "does not have")
+        self.check(self.TEXT, "refused 8 9\n", "does not have")
+
+    def test_bytes(self):
+        self.check(self.TEXT, "refused 1 0\n", "'letters' on line 2")
+        self.check(self.TEXT, "refused 2 5\n", "rule 1 on line 4")
+        self.check(self.TEXT, "refused 3 19\n", "rule 2 on line 5")
+        self.check(self.TEXT, "book 2\nsame 2\nrefused 1 50\n", "comparison 2 on line 7")
+        self.check(self.TEXT, "refused 1 65\n", "the end of the text")
+        self.check("letters 70\n", "refused 4 0\n", "'letters' on line 1 says 70")
+        self.check("letters 4\na = -\n", "refused 4 5\n", "rule 1, right side, on line 2, column 5, has 0 steps")
+        self.check("letters 4\n" + "a" * 65 + " = b\n", "refused 4 5\n", "rule 1, left side, on line 2, column 1, has 65 steps")
+        self.check("letters 4\nabc = abe\n", "refused 5 5\n", "rule 1, right side, on line 2, column 7, has the letter e (code 4) at position 2")
+        self.check("letters 4\n0.30 = abe\n", "refused 5 5\n", "rule 1, left side, on line 2, column 1, has the letter 30 at position 1")
+        self.check("letters 64\n" + "".join(f"{2 * i} = {2 * i + 1}\n" for i in range(32)) + "0 = 1\n", "refused 6 261\n", "rule 33 on line 34")
+
+    def test_runs(self):
+        self.check(self.TEXT, "book 2\nsame 2\nrefused 10 2\n", "comparison 2 on line 7, column 9, first run, has the letter e (code 4) at position 2", "4 letters")
+        self.check(self.TEXT, "book 2\nsame 2\nrefused 10 5002\n", "second run", "position 2")
+        long = "letters 4\ncompare a " + "b" * 4097 + " 1\n"
+        self.check(long, "book 0\nrefused 9 5000\n", "comparison 1 on line 2, column 11, second run with 4097 steps", "4,096")
+        self.check(long, "refused 9 5000\n", "comparison 1 on line 2, column 11, second run")
+        self.check(self.TEXT, "refused 10 5002\n", "a comparison, second run")
+        self.check(self.TEXT, "refused 10 10002\n", "does not have")
+        self.check(self.TEXT, "book 2\nrefused 11 100\n", "comparison 1 on line 6", "allowance of 100 rounds")
+
+    def test_the_rest(self):
+        self.check(self.TEXT, "refused 12 0\n", "never prints")
+        self.check("letters 4\n" + "compare - - 1\n" * 5000, "refused 13 60000\n", "60,005 bytes")
+        self.check(self.TEXT, "refused 99 0\n", "no refusal")
+        self.check(self.TEXT, "hello\n", "no line of the program's output")
+        self.assertEqual(self.explained(self.TEXT, ""), [])
+
+
+class Command(unittest.TestCase):
+    def setUp(self):
+        self.folder = tempfile.TemporaryDirectory()
+        self.addCleanup(self.folder.cleanup)
+
+    def file(self, name, data):
+        path = os.path.join(self.folder.name, name)
+        with open(path, "wb") as file:
+            file.write(data)
+        return path
+
+    def test_encode_and_decode(self):
+        text = self.file("book.txt", EXAMPLE_TEXT.encode())
+        self.assertEqual(run_tool("encode", text), (0, EXAMPLE_BYTES, ""))
+        self.assertEqual(run_tool("encode", "-", data=EXAMPLE_TEXT.replace("\n", "\r\n").encode()), (0, EXAMPLE_BYTES, ""))
+        to = os.path.join(self.folder.name, "book.bytes")
+        self.assertEqual(run_tool("encode", text, "-o", to), (0, b"", ""))
+        self.assertEqual(run_tool("decode", to), (0, EXAMPLE_TEXT.encode(), ""))
+
+    def test_errors_name_the_file(self):
+        text = self.file("book.txt", b"letters 4\nabdc = caxb\nab\xffc = cadb\n")
+        self.assertEqual(run_tool("encode", text), (1, b"", f"{text}:3:3: '\ufffd' is no letter from a to z; a run is letters, numbers with dots between them, or -\n"))
+        data = self.file("book.bytes", b"\1")
+        self.assertEqual(run_tool("decode", data), (1, b"", f"{data}:byte 0: the bytes end inside a record\n"))
+        code, _, error = run_tool("encode", os.path.join(self.folder.name, "nothing"))
+        self.assertEqual(code, 1)
+        self.assertIn("nothing", error)
+        self.assertEqual(run_tool()[0], 2)
+
+    def test_explain(self):
+        text = self.file("book.txt", EXAMPLE_TEXT.encode())
+        output = self.file("out", b"book 1\nsame 2\n")
+        told = b"book 1: the book is accepted, with 1 rule\nsame 2: comparison 1 on line 3: a chain of exchanges joins the two runs; 2 rounds\n"
+        self.assertEqual(run_tool("explain", text, output), (0, told, ""))
+        self.assertEqual(run_tool("explain", text, "-", data=b"book 1\nsame 2\n"), (0, told, ""))
+        code, out, _ = run_tool("explain", text, "refused 8 1")
+        self.assertEqual(code, 0)
+        self.assertIn(b"rule 1, right side, on line 2, column 8", out)
+        self.assertEqual(run_tool("explain", text, "nothing")[0], 1)
+
+    def test_the_help_says_that_it_is_outside_the_proved_part(self):
+        for arguments in (["--help"], ["encode", "--help"], ["decode", "--help"], ["explain", "--help"]):
+            self.assertIn(b"outside the proved part", run_tool(*arguments)[1])
+
+
+if __name__ == "__main__":
+    unittest.main()
