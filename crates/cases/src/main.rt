@@ -115,7 +115,7 @@ fn answer_read(line: &[u8]) {
     let mut table = [0u16; Relation::TABLE];
     let reading = reader::read_book(&book[..n], &mut text, &mut table);
     match reading {
-        Reading::Read(letters, relations) => print_pair(b"read ", format::wide(letters), relations),
+        Reading::Read(letters, relations) => print_pair(b"read ", numbers::wide(letters), relations),
         Reading::Refused(refusal) => print_refusal(refusal),
     }
 }
@@ -274,7 +274,7 @@ fn print_touched(buffer: &[u8], from: usize) {
 fn print_refusal(refusal: Refusal) {
     print_pair(
         b"refused ",
-        format::wide(format::number(refusal)),
+        numbers::wide(format::number(refusal)),
         format::place(refusal),
     );
 }

@@ -42,7 +42,7 @@ cleanFront B u = least (length B) (clean B u)
 unfoldable pub active : List Word → Word → Word → Bool
 active B z t = crowded B (z ++ t) 0 (length z)
 
--- both words have a first letter, and it is the same
+-- the first letters are the same; asked only of words that are not empty
 abbrev pub alike : Word → Word → Bool
 alike u v = eqb (getD u 0 0) (getD v 0 0)
 

@@ -1,6 +1,6 @@
 -- What reading a book gives (document 01, "Book bytes" and "Refusals by number", 1 to 6). A book is a list of bytes; a refusal's place is its record's first byte.
 -- Records are read in turn, and each is checked in the order 1, 2, 6, 3, 4, 5.
-use Prim.Native.Nat.{ℕ, zero, suc, _+_, _*_, _-_}
+use Prim.Native.Nat.{ℕ, zero, suc, _+_, _*_, _-_, max}
 use mathlib.Core.Bool.{Bool, _||_, not, cond}
 use mathlib.Core.List.{List, [], _∷_, _++_}
 use lib.Dec.{eqb, leb, ltb}
@@ -51,6 +51,11 @@ differs m n = not (eqb m n)
 unfoldable pub firstUnknown : ℕ → Word → ℕ
 firstUnknown letters [] = 0
 firstUnknown letters (x ∷ w) = cond (ltb x letters) (suc (firstUnknown letters w)) 0
+
+-- the largest letter, or 0 of the empty word
+unfoldable pub largest : Word → ℕ
+largest [] = 0
+largest (x ∷ w) = max x (largest w)
 
 -- some letter of the word is not below the number of letters
 abbrev pub unknownIn : ℕ → Word → Bool

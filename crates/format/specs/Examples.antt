@@ -31,7 +31,7 @@ unfoldable pub times : ℕ → List ℕ
 times zero = []
 times (suc n) = 4 ∷ 0 ∷ 2 ∷ 0 ∷ 1 ∷ 1 ∷ 0 ∷ 1 ∷ times n
 
--- 64 letters, and one more
+-- 64 letters
 abbrev pub sixtyFour : List ℕ
 sixtyFour = replicate 64 3
 

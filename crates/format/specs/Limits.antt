@@ -1,7 +1,7 @@
 -- The limits (document 01, "Fixed amounts"), for the definitions: each is proved equal to the constant of the code that names it, and what the constructors answer.
-use Prim.Native.Nat.{ℕ, _<_}
+use Prim.Native.Nat.{ℕ}
 use mathlib.Core.Bool.{Bool, _||_, cond}
-use mathlib.Core.Path.{_≡_}
+use mathlib.Core.List.{List, [], _∷_}
 use lib.Dec.{ltb}
 use Rattle.format.specs.declared.MadeHead.{MadeHead}
 use Rattle.format.specs.declared.MadeHead.the-variants as Heads
@@ -52,6 +52,10 @@ sideMost = 64
 abbrev pub comparedMost : ℕ
 comparedMost = 4096
 
+-- the rounds of an allowance are at most
+abbrev pub allowanceMost : ℕ
+allowanceMost = 4294967295
+
 -- the letters of a word given to a single round are at most
 abbrev pub roundMost : ℕ
 roundMost = 4160
@@ -90,40 +94,13 @@ wordOf most length = cond (ltb most length) Words.Long (Words.Good (record { len
 unfoldable pub inputOf : ℕ → MadeInput
 inputOf length = cond (ltb inputMost length) Inputs.Heavy (Inputs.Good (record { length = length }))
 
--- r is the byte x
-pub record Widened (x r : ℕ) : Type 0 where
-  pub same : r ≡ x
-  pub small : r < 256
-
--- the constants of a head are the numbers above
-pub record HeadTied (kind length letters : ℕ) : Type 0 where
-  pub kinds : kind ≡ headKind
-  pub payload : length ≡ headLength
-  pub most : letters ≡ lettersMost
-
--- those of a relation
-pub record RelationTied (kind length most letters : ℕ) : Type 0 where
-  pub kinds : kind ≡ relationKind
-  pub payload : length ≡ relationLength
-  pub relations : most ≡ relationsMost
-  pub sides : letters ≡ sideMost
-
--- the arrays that hold the relation words have the lengths that their layout writes again: 64 words in a text of 4,160, 257 positions in a table of 450
-pub record LayoutTied (words text positions table : ℕ) : Type 0 where
-  pub words64 : words ≡ 64
-  pub text4160 : text ≡ 4160
-  pub positions257 : positions ≡ 257
-  pub table450 : table ≡ 450
-
--- those of a comparison
-pub record ComparisonTied (kind length compared step : ℕ) : Type 0 where
-  pub kinds : kind ≡ comparisonKind
-  pub payload : length ≡ comparisonLength
-  pub most : compared ≡ comparedMost
-  pub places : step ≡ placeStep
-
--- those of a round
-pub record RoundTied (round next mark : ℕ) : Type 0 where
-  pub words : round ≡ roundMost
-  pub room : next ≡ nextRoom
-  pub marks : mark ≡ markMost
+-- the numbers of the definitions, as the code gives its constants: of the head, of every record, of a relation; of the arrays that hold the relation words,
+-- which the layout writes again (64 words in a text of 4,160, 257 positions in a table of 450); of the words of comparisons and rounds; of the program's input
+abbrev pub fixedAmounts : List ℕ
+fixedAmounts =
+    headKind ∷ headLength ∷ lettersMost
+    ∷ recordPrefix
+    ∷ relationKind ∷ relationLength ∷ relationsMost ∷ sideMost
+    ∷ 64 ∷ 4160 ∷ 257 ∷ 450
+    ∷ comparisonKind ∷ comparisonLength ∷ comparedMost ∷ allowanceMost ∷ roundMost ∷ nextRoom ∷ markMost ∷ placeStep
+    ∷ inputMost ∷ []

@@ -1,4 +1,4 @@
--- This paper's number and place of each refusal (document 01, "Refusals by number"). Every promise that speaks of a refusal uses this definition.
+-- This paper's number and place of each refusal (document 01, "Refusals by number"). Every promise of a public entry that speaks of a refusal uses this definition.
 use Prim.Native.Nat.{ℕ, _+_, _*_}
 use Rattle.format.specs.declared.Refusal.{Refusal}
 use Rattle.format.specs.declared.Refusal.the-variants.{Short, Kind, Length, Range, UnknownLetter, TooMany, Repeated, Loose, Long, Stranger, Spent, Narrow, Heavy}

@@ -1,11 +1,13 @@
 // The format of books: its limits, each named once with the kind of record that it belongs to, and what can be refused (document 01, "What the unit holds",
 // "Book bytes", "Refusals by number"). What reading a book gives is defined in specs/Book.antt.
 ghost use mathlib.Core.Path.{_≡_};
-ghost use Rattle.format.specs.Limits.{recordPrefix, outside, headOf, relationOf, wordOf, inputOf, comparedMost, roundMost, markMost, inputMost, Widened, HeadTied, RelationTied, LayoutTied, ComparisonTied, RoundTied};
+ghost use Rattle.format.specs.Limits.{outside, headOf, relationOf, wordOf, inputOf, fixedAmounts};
 ghost use Rattle.format.specs.Refusals.{numberOf, placeOf};
-ghost use Rattle.format.specs.Book.{firstUnknown};
+ghost use Rattle.format.specs.Book.{firstUnknown, largest};
 ghost use Rattle.format.specs.Bytes.{ReadBytes, ReadWithin};
 ghost use Rattle.format.specs.Examples.{Hold, examples};
+use numbers::larger;
+use numbers::wide;
 
 // The head record (kind 1): how many letters there are (document 01: steps).
 pub struct Head {
@@ -117,31 +119,14 @@ impl Word {
     // The most letters of the front mark, and the room that a round asks for the next one.
     pub const MARK: usize = 64;
 
+    // The most rounds that an allowance can give; its field has four bytes.
+    pub const ALLOWANCE: usize = 4294967295;
+
     // How far apart the places of the given words lie in refusals 9 and 10.
     pub const STEP: usize = 5000;
 
-    // A word of a comparison.
-    pub fn compared(length: usize) -> MadeWord
-        ensures { λ r. ⌜ r ≡ wordOf comparedMost length ⌝ }
-    {
-        Word::make(length, Word::COMPARED)
-    }
-
-    // A word of a single round.
-    pub fn of_round(length: usize) -> MadeWord
-        ensures { λ r. ⌜ r ≡ wordOf roundMost length ⌝ }
-    {
-        Word::make(length, Word::ROUND)
-    }
-
-    // The front mark of a single round.
-    pub fn mark(length: usize) -> MadeWord
-        ensures { λ r. ⌜ r ≡ wordOf markMost length ⌝ }
-    {
-        Word::make(length, Word::MARK)
-    }
-
-    fn make(length: usize, most: usize) -> MadeWord
+    // A word of at most so many letters: COMPARED, ROUND or MARK.
+    pub fn make(length: usize, most: usize) -> MadeWord
         ensures { λ r. ⌜ r ≡ wordOf most length ⌝ }
     {
         if most < length {
@@ -264,40 +249,34 @@ pub fn place(refusal: Refusal) -> usize
     }
 }
 
-// The numbers that the definitions write again are the constants: a head's,
-pub fn head_tied()
-    ensures { λ _. do ⌜ HeadTied (← ⟦Head::KIND⟧ .entry) (← ⟦Head::LENGTH⟧ .entry) (← ⟦Head::LETTERS⟧ .entry) ⌝ }
-{}
-
-// a record's,
-pub fn record_tied()
-    ensures { λ _. do ⌜ (← ⟦Record::PREFIX⟧ .entry) ≡ recordPrefix ⌝ }
-{}
-
-// a relation's,
-pub fn relation_tied()
-    ensures { λ _. do ⌜ RelationTied (← ⟦Relation::KIND⟧ .entry) (← ⟦Relation::LENGTH⟧ .entry) (← ⟦Relation::MOST⟧ .entry) (← ⟦Relation::LETTERS⟧ .entry) ⌝ }
-{}
-
-// those of the arrays that hold the relation words,
-pub fn layout_tied()
-    ensures { λ _. do ⌜ LayoutTied (← ⟦Relation::WORDS⟧ .entry) (← ⟦Relation::TEXT⟧ .entry) (← ⟦Relation::POSITIONS⟧ .entry) (← ⟦Relation::TABLE⟧ .entry) ⌝ }
-{}
-
-// a comparison's,
-pub fn comparison_tied()
-    ensures { λ _. do ⌜ ComparisonTied (← ⟦Word::KIND⟧ .entry) (← ⟦Word::LENGTH⟧ .entry) (← ⟦Word::COMPARED⟧ .entry) (← ⟦Word::STEP⟧ .entry) ⌝ }
-{}
-
-// a round's,
-pub fn round_tied()
-    ensures { λ _. do ⌜ RoundTied (← ⟦Word::ROUND⟧ .entry) (← ⟦Word::NEXT⟧ .entry) (← ⟦Word::MARK⟧ .entry) ⌝ }
-{}
-
-// and the program's.
-pub fn input_tied()
-    ensures { λ _. do ⌜ (← ⟦Input::MOST⟧ .entry) ≡ inputMost ⌝ }
-{}
+// The constants are the numbers that the definitions write again, in the order of specs/Limits.antt.
+pub fn fixed_amounts() -> [usize; 21]
+    ensures { λ r. ⌜ r ≡ fixedAmounts ⌝ }
+{
+    [
+        Head::KIND,
+        Head::LENGTH,
+        Head::LETTERS,
+        Record::PREFIX,
+        Relation::KIND,
+        Relation::LENGTH,
+        Relation::MOST,
+        Relation::LETTERS,
+        Relation::WORDS,
+        Relation::TEXT,
+        Relation::POSITIONS,
+        Relation::TABLE,
+        Word::KIND,
+        Word::LENGTH,
+        Word::COMPARED,
+        Word::ALLOWANCE,
+        Word::ROUND,
+        Word::NEXT,
+        Word::MARK,
+        Word::STEP,
+        Input::MOST,
+    ]
+}
 
 // The worked examples of what reading a book gives hold of its definition.
 pub fn examples_hold()
@@ -314,18 +293,41 @@ pub fn read_is_within()
     ensures { λ _. ⌜ ReadWithin ⌝ }
 {}
 
-// The position of the first letter that is not below the number of letters, or the word's length.
+// The largest letter of a word, or 0 of the empty one. The loop has no way out but its end, so that the compiler takes many letters in a turn.
+fn largest(word: &[u8]) -> u8
+    ensures { λ r. ⌜ r ≡ largest (now (word .entry)) ⌝ }
+{
+    let mut most = 0;
+    let mut i = 0;
+    while i < word.len() {
+        most = larger(most, word[i]);
+        i += 1;
+    }
+    most
+}
+
+// The position of the first letter that is not below the number of letters, or the word's length, one letter a turn.
+fn search_unknown(word: &[u8], letters: u8) -> usize
+    ensures { λ r. ⌜ r ≡ firstUnknown letters (now (word .entry)) ⌝ }
+{
+    let mut at = 0;
+    while at < word.len() {
+        if letters <= word[at] {
+            return at;
+        }
+        at += 1;
+    }
+    at
+}
+
+// The same; a word without such a letter, which is the usual case, is not searched.
 pub fn first_unknown(word: &[u8], letters: u8) -> usize
     ensures { λ r. ⌜ r ≡ firstUnknown letters (now (word .entry)) ⌝ }
 {
-    let mut i = 0;
-    while i < word.len() {
-        if letters <= word[i] {
-            return i;
-        }
-        i += 1;
+    if largest(word) < letters {
+        return word.len();
     }
-    i
+    search_unknown(word, letters)
 }
 
 // The number is below the least or above the most.
@@ -336,11 +338,4 @@ fn is_outside(least: usize, most: usize, x: usize) -> bool
         return true;
     }
     most < x
-}
-
-// A byte as a number.
-pub fn wide(x: u8) -> usize
-    ensures { λ r. ⌜ Widened x r ⌝ }
-{
-    x as usize
 }

@@ -1,37 +1,70 @@
 -- A law for each way that the checks of given words can go.
 use Prim.Native.Nat.{ℕ, _<_, _≤_}
-use mathlib.Core.Path.{_≡_}
+use mathlib.Core.Bool.{Bool, true, false}
+use mathlib.Core.Path.{_≡_, refl, sym, _∙_}
 use native.Mathlib.Omega.{arith}
 use borrow.Author.Needs.{needs}
-use borrow.Author.Tests.{lt-ltb, le-ltb}
+use borrow.Author.Tests.{lt-ltb, le-ltb, ltb-true, ltb-false}
+use lib.Dec.{ltb}
 use lib.ListN.{length}
 use mir.Val.{Fits}
 use mir.Syntax.{w16}
 use Rattle.words.specs.Words.{Word}
 use Rattle.format.specs.declared.Refusal.{Refusal}
 use Rattle.format.specs.declared.Refusal.the-variants.{Long, Stranger}
-use Rattle.format.specs.Limits.{comparedMost, roundMost, markMost}
+use Rattle.format.specs.declared.MadeWord.{MadeWord}
+use Rattle.format.specs.declared.MadeWord.the-variants as Made
+use Rattle.format.specs.declared.Word.{Word as Record}
+use Rattle.format.specs.Limits.{comparedMost, roundMost, markMost, wordOf}
 use Rattle.format.specs.Book.{firstUnknown}
 use Rattle.given.specs.declared.Given.{Given}
 use Rattle.given.specs.declared.Given.the-variants.{Fine, Refused}
 use Rattle.given.specs.Given.{givenOf, pairOf, tripleOf}
 
+-- what the word's constructor answers
+module _ (most n : ℕ) where
+  over-most : wordOf most n ≡ Made.Long → most < n
+  unfolding wordOf
+  over-most e = go (ltb most n) refl
+    where
+      go : (t : Bool) → ltb most n ≡ t → most < n
+      go true q = ltb-true most n q
+      go false q =
+          let f : Made.Good (record { length = n }) ≡ Made.Long = rw q at e in
+          let z : _≡_ {A = ℕ} 0 1 = cc in
+          absurd (omega arith)
+
+  within-most : (w : Record) → wordOf most n ≡ Made.Good w → n ≤ most
+  unfolding wordOf
+  within-most w e = go (ltb most n) refl
+    where
+      go : (t : Bool) → ltb most n ≡ t → n ≤ most
+      go true q =
+          let f : Made.Long ≡ Made.Good w = rw q at e in
+          let z : _≡_ {A = ℕ} 0 1 = cc in
+          absurd (omega arith)
+      go false q = ltb-false most n q
+
 -- one word
-pub given-long : (number most letters : ℕ) (w : Word) → most < length w → Refused (Long number) ≡ givenOf number most letters w
-unfolding givenOf
-given-long number most letters w h = rw (lt-ltb _ _ h)
-
-module _ (number most letters : ℕ) (w : Word) (h : length w ≤ most) (at : ℕ) (e : at ≡ firstUnknown letters w) where
-  pub given-stranger : at < length w → Refused (Stranger number at) ≡ givenOf number most letters w
+module _ (number most letters : ℕ) (w : Word) (made : MadeWord) (m : made ≡ wordOf most (length w)) where
+  pub given-long : made ≡ Made.Long → Refused (Long number) ≡ givenOf number most letters w
   unfolding givenOf
-  given-stranger l = rw (le-ltb _ _ h, ← e, lt-ltb _ _ l)
+  given-long f = rw (lt-ltb _ _ (over-most most (length w) (sym m ∙ f)))
 
-  pub given-fine : length w ≤ at → Fine ≡ givenOf number most letters w
-  unfolding givenOf
-  given-fine l = rw (le-ltb _ _ h, ← e, le-ltb _ _ l)
+  module _ (x : Record) (f : made ≡ Made.Good x) (at : ℕ) (e : at ≡ firstUnknown letters w) where
+    within : length w ≤ most
+    within = within-most most (length w) x (sym m ∙ f)
 
-pub position-fits : (most : ℕ) (w : Word) (at : ℕ) → most ≤ 65535 → length w ≤ most → at < length w → Fits w16 at
-position-fits most w at f h l = omega arith
+    pub given-stranger : at < length w → Refused (Stranger number at) ≡ givenOf number most letters w
+    unfolding givenOf
+    given-stranger l = rw (le-ltb _ _ within, ← e, lt-ltb _ _ l)
+
+    pub given-fine : length w ≤ at → Fine ≡ givenOf number most letters w
+    unfolding givenOf
+    given-fine l = rw (le-ltb _ _ within, ← e, le-ltb _ _ l)
+
+    pub position-fits : most ≤ 65535 → at < length w → Fits w16 at
+    position-fits k l = let h = within in omega arith
 
 pub ruleset givens = (given-long, given-stranger, given-fine, position-fits, needs)
 

@@ -2,6 +2,7 @@
 ghost use mathlib.Core.Path.{_≡_};
 ghost use Prim.Native.Nat.{_≤_};
 ghost use Rattle.given.specs.Given.{givenOf, pairOf, tripleOf};
+use format::MadeWord;
 use format::Refusal;
 use format::Word;
 
@@ -16,9 +17,10 @@ fn check_word(number: u8, most: usize, letters: u8, word: &[u8]) -> Given
     requires { ⌜ most ≤ 65535 ⌝ }
     ensures { λ r. ⌜ r ≡ givenOf number most letters (now (word .entry)) ⌝ }
 {
-    if most < word.len() {
+    let made = Word::make(word.len(), most);
+    let MadeWord::Good(_) = made else {
         return Given::Refused(Refusal::Long(number));
-    }
+    };
     let at = format::first_unknown(word, letters);
     if at < word.len() {
         return Given::Refused(Refusal::Stranger(number, at as u16));

@@ -11,6 +11,19 @@ ghost use Rattle.index.specs.Index.{frontAt, hasPlace, hasLetter, Span, 
 ghost use Rattle.overlap.specs.Pieces.{word};
 ghost use Rattle.index.specs.Making.{letterOf, earlier, sinksOf, Unlisted, One, Two, Sinking, Lists, Listable, Looked, Begun, Neighbours, Gathered, AllListed, IndexMade};
 ghost use Rattle.index.specs.Seek.{metOf, sharedFrom, Meets, AtLetter, Bucket, Turn};
+use format::Head;
+use format::Relation;
+use numbers::narrow;
+use numbers::smaller;
+use numbers::wide;
+use numbers::wide16;
+
+// Where the three parts of the index begin in the table: for each letter, where its relation words are listed; the list; what neighbours in it share.
+const FIRST: usize = Relation::POSITIONS;
+
+const ORDER: usize = FIRST + Head::LETTERS + 1;
+
+const SHARED: usize = ORDER + Relation::WORDS;
 
 // A relation word met with the word that is compared.
 pub enum Meeting {
@@ -18,15 +31,6 @@ pub enum Meeting {
     Here(usize),
     // they do not: how many letters it has in common
     Past(usize),
-}
-
-fn smaller(x: usize, y: usize) -> usize
-    ensures { λ r. ⌜ r ≡ min x y ⌝ }
-{
-    if x < y {
-        return x;
-    }
-    y
 }
 
 // Whether the word has a letter at place q.
@@ -108,24 +112,12 @@ pub fn begins(text: &[u8], from: usize, to: usize, a: &[u8], b: &[u8], q: usize)
     agree(text, from, to, a, b, q, 0) == to - from
 }
 
-fn wide(x: u16) -> usize
-    ensures { λ r. ⌜ (r ≡ x) × (r < 65536) ⌝ }
-{
-    x as usize
-}
-
-fn wide_letter(x: u8) -> usize
-    ensures { λ r. ⌜ (r ≡ x) × (r < 256) ⌝ }
-{
-    x as usize
-}
-
 // Where relation word k starts in the text.
 pub fn start_of(table: &[u16], k: usize) -> usize
     requires { ⌜ 4 * k < length (now table) ⌝ }
     ensures { λ r. ⌜ r ≡ startOf (now (table .entry)) k ⌝ }
 {
-    wide(table[4 * k])
+    wide16(table[4 * k])
 }
 
 // Where its X ends.
@@ -133,7 +125,7 @@ pub fn x_end_of(table: &[u16], k: usize) -> usize
     requires { ⌜ 4 * k + 1 < length (now table) ⌝ }
     ensures { λ r. ⌜ r ≡ xEndOf (now (table .entry)) k ⌝ }
 {
-    wide(table[4 * k + 1])
+    wide16(table[4 * k + 1])
 }
 
 // Where its Z starts.
@@ -141,7 +133,7 @@ pub fn z_start_of(table: &[u16], k: usize) -> usize
     requires { ⌜ 4 * k + 2 < length (now table) ⌝ }
     ensures { λ r. ⌜ r ≡ zStartOf (now (table .entry)) k ⌝ }
 {
-    wide(table[4 * k + 2])
+    wide16(table[4 * k + 2])
 }
 
 // Where it ends.
@@ -149,7 +141,7 @@ pub fn end_of(table: &[u16], k: usize) -> usize
     requires { ⌜ 4 * k + 3 < length (now table) ⌝ }
     ensures { λ r. ⌜ r ≡ endOf (now (table .entry)) k ⌝ }
 {
-    wide(table[4 * k + 3])
+    wide16(table[4 * k + 3])
 }
 
 // The place from which the words that begin with letter c are listed.
@@ -157,7 +149,7 @@ fn first_of(table: &[u16], c: u8) -> usize
     requires { ⌜ 257 + c < length (now table) ⌝ }
     ensures { λ r. ⌜ r ≡ firstOf (now (table .entry)) c ⌝ }
 {
-    wide(table[257 + wide_letter(c)])
+    wide16(table[FIRST + wide(c)])
 }
 
 // The word that is listed at place j.
@@ -165,7 +157,7 @@ fn order_of(table: &[u16], j: usize) -> usize
     requires { ⌜ 322 + j < length (now table) ⌝ }
     ensures { λ r. ⌜ r ≡ orderOf (now (table .entry)) j ⌝ }
 {
-    wide(table[322 + j])
+    wide16(table[ORDER + j])
 }
 
 // How much the word listed at place j shares with the one before it, or 0 at the first place of its letter.
@@ -176,7 +168,7 @@ fn shared_from(table: &[u16], from: usize, j: usize) -> usize
     if j == from {
         return 0;
     }
-    wide(table[386 + j])
+    wide16(table[SHARED + j])
 }
 
 // Relation word k is compared with the word at place q, where m letters of its X and Y are known to agree.
@@ -316,13 +308,6 @@ fn sinks(text: &[u8], table: &[u16], n: usize, from: usize, i: usize, k: usize) 
     goes_before(text, table, n, k, h)
 }
 
-fn narrow(x: usize) -> u16
-    requires { ⌜ x < 65536 ⌝ }
-    ensures { λ r. ⌜ r ≡ x ⌝ }
-{
-    x as u16
-}
-
 // Lists relation word k, which begins with c, among the words of that letter, which are listed from place `from` on and below j: the later ones move up.
 fn insert(text: &[u8], table: &mut [u16], n: usize, c: usize, from: usize, j: usize, k: usize)
     requires { ⌜ Listable (now text) (now table) n c from j k ⌝ }
@@ -330,10 +315,10 @@ fn insert(text: &[u8], table: &mut [u16], n: usize, c: usize, from: usize, j: us
 {
     let mut i = j;
     while sinks(text, table, n, from, i, k) {
-        table[322 + i] = table[321 + i];
+        table[ORDER + i] = table[321 + i];
         i -= 1;
     }
-    table[322 + i] = narrow(k);
+    table[ORDER + i] = narrow(k);
 }
 
 // Whether relation word k begins with c.
@@ -342,7 +327,7 @@ fn begins_with(text: &[u8], table: &[u16], n: usize, k: usize, c: usize) -> bool
     ensures { λ r. ⌜ r ≡ eqb (letterOf (now (text .entry)) (now (table .entry)) k) c ⌝ }
 {
     let at = start_of(table, k);
-    let x = wide_letter(text[at]);
+    let x = wide(text[at]);
     x == c
 }
 
@@ -387,10 +372,10 @@ fn list_all(text: &[u8], table: &mut [u16], n: usize)
 {
     let mut j = 0;
     let mut c = 0;
-    while c < 64 {
+    while c < Head::LETTERS {
         j = list_letter(text, table, n, c, j);
         c += 1;
-        table[257 + c] = narrow(j);
+        table[FIRST + c] = narrow(j);
     }
 }
 
@@ -412,7 +397,7 @@ fn write_shared(text: &[u8], table: &mut [u16], n: usize)
     let mut j = 1;
     while j < n {
         let m = shared_before(text, table, n, j);
-        table[386 + j] = narrow(m);
+        table[SHARED + j] = narrow(m);
         j += 1;
     }
 }
@@ -422,7 +407,7 @@ pub fn make_index(text: &[u8], table: &mut [u16], n: usize)
     requires { ⌜ Unlisted (now text) (now table) n ⌝ }
     ensures { λ _. ⌜ IndexMade (now (text .entry)) (now (table .entry)) n (now (table .exit)) ⌝ }
 {
-    table[257] = 0;
+    table[FIRST] = 0;
     list_all(text, table, n);
     write_shared(text, table, n);
 }

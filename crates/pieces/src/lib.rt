@@ -10,40 +10,17 @@ ghost use Rattle.overlap.specs.Verdict.{sameWord, firstRepeated, judge};
 ghost use Rattle.words.specs.Words.{front};
 ghost use Rattle.pieces.specs.Judging.{Placed, AllPlaced, looseBy, lowestLoose, Measurable, Measured, Tail, tailBy, xBy, zBy, CutBy, BothLying, AllLying, sameParts, repeatedIn, Fenced, Judging, looseVerdict};
 ghost use Rattle.pieces.specs.Longest.{next, Room, Passed, Ready, Stepped, Space, Tabled, held, Span, Parts};
+use format::Relation;
+use numbers::larger;
+use numbers::narrow;
+use numbers::wide;
+use numbers::wide16;
 
 // What the relation words are found to be: a word equals an earlier one, or a word is a product of three or fewer pieces.
 pub enum Judged {
     Accepted,
     Repeated(usize),
     Loose(usize),
-}
-
-fn wide(x: u8) -> usize
-    ensures { λ r. ⌜ (r ≡ x) × (r < 256) ⌝ }
-{
-    x as usize
-}
-
-fn wide16(x: u16) -> usize
-    ensures { λ r. ⌜ (r ≡ x) × (r < 65536) ⌝ }
-{
-    x as usize
-}
-
-fn narrow(x: usize) -> u16
-    requires { ⌜ x < 65536 ⌝ }
-    ensures { λ r. ⌜ r ≡ x ⌝ }
-{
-    x as u16
-}
-
-fn larger(a: u8, b: u8) -> u8
-    ensures { λ r. ⌜ r ≡ max a b ⌝ }
-{
-    if a < b {
-        return b;
-    }
-    a
 }
 
 // The letters x and t agree: one letter more than behind them.
@@ -89,7 +66,7 @@ fn fill_longest(text: &[u8], longest: &mut [u8])
     requires { ⌜ Space (now text) (now longest) ⌝ }
     ensures { λ _. ⌜ Tabled (now (text .entry)) (now (longest .exit)) ⌝ }
 {
-    let mut row = [0u8; 4161];
+    let mut row = [0u8; Relation::TEXT + 1];
     let mut p = text.len();
     while 0 < p {
         p -= 1;
@@ -305,7 +282,7 @@ fn judge_whole(text: &[u8], table: &mut [u16], n: usize) -> Judged
     requires { ⌜ Fenced (now text) (now table) n ⌝ }
     ensures { λ r. ⌜ Judging (looseVerdict (wordsIn (now (text .entry)) (now (table .entry)) n)) (now (text .entry)) (now (table .entry)) n (now (table .exit)) r ⌝ }
 {
-    let mut longest = [0u8; 4160];
+    let mut longest = [0u8; Relation::TEXT];
     let r = first_loose(text, table, n, &mut longest);
     if r < n {
         return Judged::Loose(r);

@@ -20,7 +20,8 @@ use Rattle.reader.specs.Reads.{Payload}
 use Rattle.program.specs.declared.Request.{Request}
 use Rattle.program.specs.declared.Request.the-variants.{Compare, Refused}
 use Rattle.program.specs.Program.{longField, bookEndFrom, bookEnd}
-use Rattle.program.specs.Requests.{Field, fieldsOf, requestAt}
+use Rattle.program.specs.Requests.{fieldsOf, requestAt}
+use Rattle.reader.specs.Reads.{Field}
 
 -- the book goes on at a position
 pub record Ending (input : List ℕ) (at : ℕ) : Type 0 where

@@ -68,6 +68,9 @@ examples =
     ∷ ((four ++ (16 ∷ 0 ∷ 3 ∷ [])) gives refused (49 ∷ 32 ∷ 53 ∷ []))
     ∷ ((four ++ (8 ∷ 0 ∷ 3 ∷ 0 ∷ 0 ∷ 0 ∷ 0 ∷ 0 ∷ 0 ∷ 0 ∷ 0 ∷ 0 ∷ [])) gives (book0 ++ same0))
     ∷ ((four ++ (10 ∷ 0 ∷ 3 ∷ 0 ∷ 0 ∷ 0 ∷ 0 ∷ 0 ∷ 1 ∷ 0 ∷ 1 ∷ 0 ∷ 0 ∷ 1 ∷ [])) gives (book0 ++ different0))
+    -- a kind field that is there ends the book, its payload cut off or not
+    ∷ ((four ++ take 4 (comparison 100)) gives (book0 ++ refused (49 ∷ 32 ∷ 53 ∷ [])))
+    ∷ ((four ++ take 5 (comparison 100)) gives (book0 ++ refused (49 ∷ 32 ∷ 53 ∷ [])))
     -- a refused book is the whole output: a second head, and a = aa (loose)
     ∷ ((four ++ (four ++ comparison 100)) gives refused (50 ∷ 32 ∷ 53 ∷ []))
     ∷ ((four ++ ((5 ∷ 0 ∷ 2 ∷ 0 ∷ 1 ∷ 2 ∷ 0 ∷ 0 ∷ 0 ∷ []) ++ comparison 100)) gives refused (56 ∷ 32 ∷ 48 ∷ []))

@@ -11,7 +11,7 @@ use Rattle.format.specs.declared.Refusal.{Refusal}
 use Rattle.format.specs.declared.Refusal.the-variants.{Short, Kind, Length, Heavy}
 use Rattle.format.specs.declared.Record.{Record}
 use Rattle.format.specs.declared.Record.the-variants.{Whole, CutOff}
-use Rattle.format.specs.Limits.{inputMost, comparisonKind, comparisonLength}
+use Rattle.format.specs.Limits.{recordPrefix, inputMost, comparisonKind, comparisonLength}
 use Rattle.format.specs.Refusals.{numberOf, placeOf}
 use Rattle.format.specs.Book.{byte, field, recordAt, differs}
 use Rattle.presentation.specs.Loading.{BookLoading, loadBook}
@@ -52,10 +52,10 @@ longField input at = field input at + 65536 * field input (at + 2)
 unfoldable pub bookEndFrom : ℕ → List ℕ → ℕ → ℕ
 bookEndFrom zero input at = length input
 bookEndFrom (suc most) input at =
-    cond (ltb (length input) (at + 4)) (length input)
+    cond (ltb (length input) (at + recordPrefix)) (length input)
     (cond (eqb (field input (at + 2)) comparisonKind) at
-    (cond (ltb (length input) (at + 4 + field input at)) (length input)
-    (bookEndFrom most input (at + 4 + field input at))))
+    (cond (ltb (length input) (at + recordPrefix + field input at)) (length input)
+    (bookEndFrom most input (at + recordPrefix + field input at))))
 
 abbrev pub bookEnd : List ℕ → ℕ
 bookEnd input = bookEndFrom (length input) input 0

@@ -1,8 +1,7 @@
 -- What a record of the kind 3 part asks for, before anything is compared (document 01, "The program"), and what the parts of the code that read it promise.
-use Prim.Native.Nat.{ℕ, _+_, _*_, _-_, _<_}
+use Prim.Native.Nat.{ℕ, _+_, _-_}
 use mathlib.Core.Bool.{cond}
 use mathlib.Core.List.{List}
-use mathlib.Core.Path.{_≡_}
 use Rattle.format.specs.declared.Refusal.the-variants.{Short, Kind, Length}
 use Rattle.format.specs.declared.Record.{Record}
 use Rattle.format.specs.declared.Record.the-variants.{Whole, CutOff}
@@ -11,11 +10,6 @@ use Rattle.format.specs.Book.{field, recordAt, differs}
 use Rattle.program.specs.declared.Request.{Request}
 use Rattle.program.specs.declared.Request.the-variants.{Compare, Refused}
 use Rattle.program.specs.Program.{longField}
-
--- r is the two-byte field at a position
-pub record Field (input : List ℕ) (at r : ℕ) : Type 0 where
-  pub same : r ≡ field input at
-  pub small : r < 65536
 
 -- 3, or the comparison whose payload lies between two positions: its allowance, where its first word begins, where the second begins and where it ends
 unfoldable pub fieldsOf : List ℕ → ℕ → ℕ → ℕ → Request

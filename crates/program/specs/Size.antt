@@ -1,7 +1,6 @@
 -- How large the output can get: a number of bytes that is enough for every input (document 01, "The program").
 use Prim.Native.Nat.{ℕ, _+_, _*_, _/_, _<_, _≤_}
-use mathlib.Core.List.{List}
-use mathlib.Core.Path.{_≡_}
+use mathlib.Core.List.{List, [], _∷_}
 use lib.ListN.{length, getD}
 use Rattle.format.specs.Limits.{recordPrefix, inputMost, comparisonLength}
 use Rattle.program.specs.Program.{programOf}
@@ -22,7 +21,6 @@ AreBytes input = (i : ℕ) → getD input i 0 < 256
 abbrev pub OutputFits : Type 0
 OutputFits = (input : List ℕ) → AreBytes input → length (programOf input) ≤ outputMost
 
--- the constants of the code are the numbers above
-pub record SizeTied (line most : ℕ) : Type 0 where
-  pub lines : line ≡ lineMost
-  pub all : most ≡ outputMost
+-- the numbers above, as the code gives its constants
+abbrev pub sizes : List ℕ
+sizes = lineMost ∷ outputMost ∷ []

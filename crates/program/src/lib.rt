@@ -5,12 +5,12 @@ ghost use lib.ListN.{length};
 ghost use Rattle.reader.specs.Reads.{Payload};
 ghost use Rattle.lines.specs.Lines.{Put};
 ghost use Rattle.program.specs.Program.{longField, bookEnd, refusedLine, comparisonLine, programOf};
-ghost use Rattle.program.specs.Requests.{Field, fieldsOf, requestAt};
+ghost use Rattle.program.specs.Requests.{fieldsOf, requestAt};
 ghost use Rattle.program.specs.Answers.{answeredAt, linesUnder, Lined, linesOfAccepted, Accepted, outputOf, Roomy};
 ghost use Rattle.comparison.specs.State.{Ready};
 ghost use Rattle.layout.specs.Layout.{wordsIn};
 ghost use Rattle.program.specs.Examples.{Hold, examples, HeavyFirst};
-ghost use Rattle.program.specs.Size.{OutputFits, SizeTied};
+ghost use Rattle.program.specs.Size.{OutputFits, sizes};
 use comparison::Comparison;
 use comparison::compare_given;
 use format::Input;
@@ -22,10 +22,10 @@ use format::Relation;
 use format::Word;
 use format::number;
 use format::place;
-use format::wide;
 use lines::put_line;
 use lines::put_pair_line;
 use presentation::load;
+use reader::field_at;
 use reader::record_at;
 
 // What the program writes, by its length.
@@ -51,10 +51,12 @@ pub fn heavy_first()
     ensures { λ _. ⌜ HeavyFirst ⌝ }
 {}
 
-// The numbers that the definitions write again are the constants.
-pub fn size_tied()
-    ensures { λ _. do ⌜ SizeTied (← ⟦Output::LINE⟧ .entry) (← ⟦Output::MOST⟧ .entry) ⌝ }
-{}
+// The constants are the numbers that the definitions write again.
+pub fn sizes() -> [usize; 2]
+    ensures { λ r. ⌜ r ≡ sizes ⌝ }
+{
+    [Output::LINE, Output::MOST]
+}
 
 // The output of no input is longer than that.
 pub fn output_fits()
@@ -72,14 +74,6 @@ pub enum Request {
 pub enum Answered {
     Line(Comparison, usize),
     Last(Refusal),
-}
-
-// A two-byte field, little-endian.
-fn field_at(input: &[u8], at: usize) -> usize
-    requires { ⌜ at + 1 < length (now input) ⌝ }
-    ensures { λ r. ⌜ Field (now (input .entry)) at r ⌝ }
-{
-    wide(input[at]) + 256 * wide(input[at + 1])
 }
 
 // A four-byte field, little-endian.

@@ -13,7 +13,7 @@ use Rattle.layout.specs.Layout.{wordsIn, Laid}
 use Rattle.format.specs.declared.Refusal.{Refusal}
 use Rattle.format.specs.declared.Reading.{Reading}
 use Rattle.format.specs.declared.Reading.the-variants.{Read, Refused}
-use Rattle.format.specs.Limits.{Widened}
+use Rattle.numbers.specs.Widths.{Widened}
 use Rattle.format.specs.Book.{BookReading, read, refused, between, headAt, relationAt, relationIn, relationsFrom, readBook, told}
 use Rattle.format.specs.Bytes.{Within}
 use Rattle.format.proofs.Readings.{RelationRead, relation-read, relation-within, within-more, head-read, within-head, between-length}
@@ -185,7 +185,7 @@ module _ (book text₀ : List ℕ) (letters at count : ℕ) (text table : List �
       pub going-less : length book - to < length book - at
       going-less = omega (arith, read-here .rightSome)
 
-      module _ (x : ℕ) (w : Widened m x) where
+      module _ (x : ℕ) (w : Widened 256 m x) where
         pub going-room : RelationRoom book at x to text table count
         going-room =
             let q = read-here in

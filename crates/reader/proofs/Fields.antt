@@ -19,7 +19,8 @@ use Rattle.format.specs.declared.MadeHead.{MadeHead}
 use Rattle.format.specs.declared.MadeHead.the-variants as Heads
 use Rattle.format.specs.declared.MadeRelation.{MadeRelation}
 use Rattle.format.specs.declared.MadeRelation.the-variants as Relations
-use Rattle.format.specs.Limits.{Widened, headOf, relationOf, outside}
+use Rattle.numbers.specs.Widths.{Widened}
+use Rattle.format.specs.Limits.{headOf, relationOf, outside}
 use Rattle.format.specs.Book.{byte, field, between, recordAt, differs, firstUnknown, unknownIn, headAt, fieldsAt, relationAt}
 use Rattle.format.proofs.Readings.{whole-at, between-length}
 use Rattle.reader.specs.Reads.{Payload}
@@ -109,7 +110,7 @@ module _ (book : List ℕ) (at : ℕ) (o : Record) (e : o ≡ recordAt book at) 
     unfolding headAt
     head-length k l = rw (← e, f, eq-eqb kind 1 k, ne-eqb (to - from) 1 l)
 
-    module _ (k : kind ≡ 1) (l : to - from ≡ 1) (x : ℕ) (w : Widened (byte book from) x) (made : MadeHead) (m : made ≡ headOf x) where
+    module _ (k : kind ≡ 1) (l : to - from ≡ 1) (x : ℕ) (w : Widened 256 (byte book from) x) (made : MadeHead) (m : made ≡ headOf x) where
       pub head-range : made ≡ Heads.Range → Refused (Range at) ≡ headAt 64 book at
       unfolding headAt
       head-range g = rw (← e, f, eq-eqb kind 1 k, eq-eqb (to - from) 1 l, ← w .same, head-outside x (sym m ∙ g))
@@ -140,7 +141,7 @@ module _ (letters : ℕ) (book : List ℕ) (at from to : ℕ) (p : Payload book 
   unfolding fieldsAt
   fields-none h = rw (ne-eqb (to - from) (2 + byte book from + byte book (from + 1)) (λ q. omega arith))
 
-  module _ (m : ℕ) (v : Widened (byte book from) m) (n : ℕ) (w : Widened (byte book (from + 1)) n) where
+  module _ (m : ℕ) (v : Widened 256 (byte book from) m) (n : ℕ) (w : Widened 256 (byte book (from + 1)) n) where
     pub fields-length : (to - from ≡ 2 + m + n → ⊥) → Refused (Length at) ≡ fieldsAt letters book at from to
     unfolding fieldsAt
     fields-length h = rw (← v .same, ← w .same, ne-eqb (to - from) (2 + m + n) h)

@@ -4,8 +4,8 @@ ghost use mathlib.Core.Path.{_≡_};
 ghost use Prim.Native.Nat.{_+_, _≤_, _<_};
 ghost use lib.ListN.{length};
 ghost use Rattle.format.specs.Limits.{lettersMost};
-ghost use Rattle.format.specs.Book.{field, between, unknownIn, recordAt, headAt, fieldsAt, relationAt};
-ghost use Rattle.reader.specs.Reads.{Payload};
+ghost use Rattle.format.specs.Book.{between, unknownIn, recordAt, headAt, fieldsAt, relationAt};
+ghost use Rattle.reader.specs.Reads.{Field, Payload};
 ghost use Rattle.reader.specs.Laying.{written, Arrays, Room, Appended, RelationRoom, RelationAppended, BookRead};
 use format::Head;
 use format::MadeHead;
@@ -15,12 +15,12 @@ use format::Record;
 use format::Refusal;
 use format::Relation;
 use format::first_unknown;
-use format::wide;
+use numbers::wide;
 
 // A two-byte field, little-endian.
-fn field_at(book: &[u8], at: usize) -> usize
+pub fn field_at(book: &[u8], at: usize) -> usize
     requires { ⌜ at + 1 < length (now book) ⌝ }
-    ensures { λ r. ⌜ r ≡ field (now (book .entry)) at ⌝ }
+    ensures { λ r. ⌜ Field (now (book .entry)) at r ⌝ }
 {
     wide(book[at]) + 256 * wide(book[at + 1])
 }

@@ -1,25 +1,6 @@
-use Prim.Native.Nat.{_-_, _+_}
-use lib.ListN.{length}
-use Rattle.format.proofs.Letters.{Passed, passes}
+use Rattle.format.proofs.Letters.{unknowns}
 use Rattle.format.proofs.first_unknown.Statement.{statement}
 use Rattle.format.proofs.first_unknown.Tie as tie
 
-abbrev Inv-loop : tie.InvT-loop
-Inv-loop word letters i₀ i = Passed letters word i
-
-abbrev μ-loop : tie.MeasureT-loop
-μ-loop word letters i₀ i = length word - i
-
 pub first-unknown-spec : {M : Type 1} → statement M
-first-unknown-spec =
-    tie.close
-    (tie.spec
-    Inv-loop
-    μ-loop
-    (λ c. search passes)
-    (λ c. search passes)
-    (λ c. search passes)
-    (λ c. search passes)
-    (λ c. search passes)
-    (λ c. search passes)
-    (λ c. search passes))
+first-unknown-spec = tie.close (tie.spec (λ c κs. search unknowns) (λ c. search unknowns) (λ c κs. search unknowns) (λ c. search unknowns))

@@ -6,6 +6,9 @@ pub check-word-spec : {M : Type 1} → statement M
 check-word-spec =
     tie.close
     (tie.spec
+    (λ c κs. search givens)
+    (λ c. search givens)
+    (λ c. search givens)
     (λ c. search givens)
     (λ c κs. search givens)
     (λ c. search givens)
