@@ -23,7 +23,7 @@ use Rattle.program.specs.Examples.{Hold, none, more, examples, HeavyFirs
 pub examples-hold : Hold examples
 unfolding judge firstRepeated repeated sameWord firstLoose loose three pieceAt twin xlen zlen greatest least anyBelow front standsAt crowded clean cleanFront active dropFirst row3 row4 row5 row6 row7 row8 fromFront round answerFrom commonEnd recordAt firstUnknown headAt fieldsAt relationAt relationsFrom readBook loadBook givenOf pairOf answerOf comparisonOf digitsOf countUpTo decimal numbered lineOf pairLineOf refusedLine bookEndFrom comparisonIn linesFrom programOf examples sides
 examples-hold =
-    more refl (more refl (more refl (more refl (more refl (more refl (more refl (more refl (more refl (more refl (more refl (more refl (more refl (more refl (more refl (more refl (more refl (more refl (more refl (more refl (none))))))))))))))))))))
+    more refl (more refl (more refl (more refl (more refl (more refl (more refl (more refl (more refl (more refl (more refl (more refl (more refl (more refl (more refl (more refl (more refl (more refl (more refl (more refl (more refl (more refl (none))))))))))))))))))))))
 
 pub heavy-first : HeavyFirst
 unfolding digitsOf countUpTo decimal numbered pairLineOf refusedLine programOf
