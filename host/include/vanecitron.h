@@ -1,19 +1,22 @@
 /*
  * vanecitron: does a chain of exchanges join two runs of steps under a book of exchange rules?
  *
- * Every function here is proved against its contract (crates/host and crates/unit of this tree; docs/AUDIT.md says what that means). The words are
- * those of document 01: a step is a byte below the book's number of letters A, a run is an array of steps, a rule has two sides, and a book is a list
- * of records in bytes ("Book bytes").
+ * The five functions of the archive are proved against their contracts (crates/host and crates/unit of this tree; docs/AUDIT.md says what that means).
+ * This header is written by hand: its numbers are compared with those of the proved sources (host/limits.py), and vanecitron_ample_allowance is plain
+ * inline C, outside the proof. The words are those of document 01: a step is a byte below the book's number of letters A, a run is an array of steps,
+ * a rule has two sides, and a book is a list of records in bytes ("Book bytes"). The proved sources call a rule a relation.
  *
  * The archive
  *   `rt staticlib host` at the root of the tree writes target/staticlib/libhost.a. It is for x86-64 Linux (System V calling convention) and holds no
  *   code for another processor. It allocates no memory, keeps no state between calls, reads no file, and starts no thread. Its only undefined symbols
- *   are memcpy and memset of the C library (`nm -u`; host/test compares the list).
+ *   are memcpy and memset of the C library (`nm -u`; host/test compares the list, and fails where the archive has a byte of data or bss).
  *   Build:  cc -I host/include program.c target/staticlib/libhost.a
  *
  * Calls
  *   Calls are reentrant: any number of threads may call any functions at the same time, as long as no buffer that one call writes is used by another.
- *   A call needs at most VANECITRON_STACK bytes of stack, and gives them back when it returns.
+ *   No measured call needs more than VANECITRON_STACK bytes of stack; a call gives them back when it returns. This is measured, not proved:
+ *   host/stack calls each function on a painted stack, with the memcpy and memset of the C library there, and host/test fails where a call needs more.
+ *   The calls take every row of a round and meet every kind of refusal, with books, runs, marks and inputs at their limits.
  *
  * Buffers
  *   Each buffer is a pointer and the number of its bytes. A `const` buffer is only read; the others are lent, that is, written.
@@ -56,7 +59,7 @@ extern "C" {
 #define VANECITRON_NEXT_MARK 64u         /* the next p of a single round */
 #define VANECITRON_OUTPUT 110022u        /* the program's output: no input has a longer one */
 
-/* The most stack that a call needs, in bytes. */
+/* Enough stack for a call, in bytes: no measured call needs more (see "Calls" above). */
 #define VANECITRON_STACK 16384u
 
 /*
@@ -91,7 +94,7 @@ extern "C" {
 typedef struct {
     uint32_t refusal;
     uint64_t place;
-    uint64_t relations; /* the number of rules */
+    uint64_t relations; /* the number of the book's rules ("relation" is the proved sources' word for a rule) */
 } vanecitron_check_result;
 
 typedef struct {
@@ -162,11 +165,15 @@ vanecitron_compare_result vanecitron_compare(
  * The whole program (document 01, "The program") from its input to what it prints: `input` holds the records of a book and then those of comparisons;
  * `output` is lent, has at least VANECITRON_OUTPUT bytes, and receives the lines, each ended by a newline. Refusals of the book, of a comparison's
  * record and of an input over VANECITRON_INPUT bytes are lines `refused N P` of the output, and not refusals of the call.
- * Refusals: 12 alone.
+ * Refusals: 12 alone. It is decided first: with a buffer that is too small the input is not looked at, so that nothing is printed, not even the line
+ * of 13.
  */
 vanecitron_program_result vanecitron_program(const uint8_t *input, size_t input_length, uint8_t *output, size_t output_length);
 
-/* An allowance that no comparison of a first run with so many steps (VANECITRON_RUN at most) spends, by the cut sheet of the book. */
+/*
+ * An allowance that no comparison of a first run with so many steps (VANECITRON_RUN at most) spends, by the cut sheet of the book.
+ * Plain C, outside the proof.
+ */
 static inline uint32_t vanecitron_ample_allowance(const uint8_t *sheet, size_t rules, size_t u_length)
 {
     uint32_t k = 0;

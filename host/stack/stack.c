@@ -1,9 +1,11 @@
 /*
- * The stack that each function of the library needs: it runs on a painted stack of its own, and the lowest byte that is no longer as painted is the mark.
- * What an empty function needs there, which is the way into it, is taken off. Fails where a function needs more than VANECITRON_STACK says.
+ * The stack that each function of the library needs, measured: a call runs on a painted stack of its own, and the lowest byte that is no longer as
+ * painted is the mark. What an empty function needs there, which is the way into it, is taken off; what memcpy and memset need is in it. Fails where a
+ * call needs more than VANECITRON_STACK says, or where its answer is not the one written here, so that each call is known to take the row or to meet the
+ * refusal that it is there for.
  *
- * The library has no recursion and no arrays whose size depends on the input, so a call needs as much as its deepest chain of functions; the inputs below
- * are books at the limits and words that go through them, which reach every function.
+ * The library has no recursion and no arrays whose size depends on the input, so a call needs as much as its deepest chain of functions. The calls take
+ * each row of a round, meet each kind of refusal that a function has, and have books, runs, marks and inputs at their limits.
  */
 #define _XOPEN_SOURCE 700
 #include <stdint.h>
@@ -14,43 +16,144 @@
 
 #include "vanecitron.h"
 
-#define STACK (1u << 20)
+#define STACK (1u << 18)
 #define PAINT 0xa5
+#define RULE (6u + 2u * VANECITRON_SIDE) /* the bytes of a rule whose sides have the most steps */
+#define STRANGER 255u                    /* a step that no book has */
 
-static uint8_t book[8192], word[VANECITRON_ROUND_RUN], mark[VANECITRON_ROUND_MARK], input[VANECITRON_INPUT];
+/* what a call is given; the runs and the input have room for one byte over the limit */
+static uint8_t book[5 + (VANECITRON_RULES + 1) * RULE], input[VANECITRON_INPUT + 1];
+static uint8_t u[VANECITRON_ROUND_RUN + 1], v[VANECITRON_ROUND_RUN + 1], p[VANECITRON_ROUND_MARK + 1];
+static size_t book_length, input_length, u_length, v_length, p_length;
+static uint32_t allowance;
+
+/* what it is lent, and how much of that */
 static uint8_t sheet[VANECITRON_SHEET_MOST], next_u[VANECITRON_NEXT_RUN], next_v[VANECITRON_NEXT_RUN], next_p[VANECITRON_NEXT_MARK];
 static uint8_t output[VANECITRON_OUTPUT];
-static size_t book_length, input_length, word_length = VANECITRON_RUN;
-static uint64_t refusal;
+static size_t sheet_room, next_u_room, next_v_room, next_p_room, output_room;
+
+/* what it answers */
+static vanecitron_check_result checked;
+static vanecitron_round_result rounded;
+static vanecitron_compare_result compared;
+static vanecitron_program_result printed;
 
 static void nothing(void) {}
 
-static void check(void)
+static void call_check(void)
 {
-    refusal = vanecitron_check(book, book_length).refusal;
+    checked = vanecitron_check(book, book_length);
 }
 
-static void cut_sheet(void)
+static void call_cut_sheet(void)
 {
-    refusal = vanecitron_cut_sheet(book, book_length, sheet, sizeof sheet).refusal;
+    checked = vanecitron_cut_sheet(book, book_length, sheet, sheet_room);
 }
 
-static void single_round(void)
+static void call_round(void)
 {
-    refusal = vanecitron_round(book, book_length, word, sizeof word, word, sizeof word, mark, 0, next_u, sizeof next_u, next_v, sizeof next_v, next_p,
-                               sizeof next_p)
-                  .refusal;
+    rounded = vanecitron_round(book, book_length, u, u_length, v, v_length, p, p_length, next_u, next_u_room, next_v, next_v_room, next_p, next_p_room);
 }
 
-static void compare(void)
+static void call_compare(void)
 {
-    refusal = vanecitron_compare(book, book_length, word, word_length, word, word_length, VANECITRON_ALLOWANCE).refusal;
+    compared = vanecitron_compare(book, book_length, u, u_length, v, v_length, allowance);
 }
 
-static void program(void)
+static void call_program(void)
 {
-    refusal = vanecitron_program(input, input_length, output, sizeof output).refusal;
+    printed = vanecitron_program(input, input_length, output, output_room);
 }
+
+/* --- answers as text --- */
+
+static char answer[64];
+
+static void tell(const char *word, uint64_t number)
+{
+    snprintf(answer, sizeof answer, "%s %llu", word, (unsigned long long)number);
+}
+
+/* a refusal, if it is one */
+static int tell_refusal(uint32_t refusal, uint64_t place)
+{
+    snprintf(answer, sizeof answer, "refused %u %llu", refusal, (unsigned long long)place);
+    return refusal != VANECITRON_ACCEPTED;
+}
+
+static void tell_checked(void)
+{
+    if (!tell_refusal(checked.refusal, checked.place)) {
+        tell("rules", checked.relations);
+    }
+}
+
+/* a run behind what is told so far: a short one in letters, a long one by its length */
+static void tell_run(const uint8_t *run, uint64_t length)
+{
+    char *end = answer + strlen(answer);
+    if (length == 0 || length > 8) {
+        snprintf(end, 8, length == 0 ? " -" : " %u", (unsigned)length);
+        return;
+    }
+    *end++ = ' ';
+    for (uint64_t i = 0; i < length; i++) {
+        *end++ = (char)('a' + run[i]);
+    }
+    *end = 0;
+}
+
+static void tell_rounded(void)
+{
+    static const char *const outcomes[] = {"different", "same", "next"};
+    if (tell_refusal(rounded.refusal, rounded.place)) {
+        return;
+    }
+    strcpy(answer, outcomes[rounded.outcome]);
+    if (rounded.outcome == VANECITRON_NEXT) {
+        tell_run(next_u, rounded.u_length);
+        tell_run(next_v, rounded.v_length);
+        tell_run(next_p, rounded.p_length);
+    }
+}
+
+static void tell_compared(void)
+{
+    if (!tell_refusal(compared.refusal, compared.place)) {
+        tell(compared.outcome == VANECITRON_SAME ? "same" : "different", compared.rounds);
+    }
+}
+
+/* the last line of the output */
+static void tell_printed(void)
+{
+    if (tell_refusal(printed.refusal, printed.place)) {
+        return;
+    }
+    size_t from = printed.length - 1;
+    while (from > 0 && output[from - 1] != '\n') {
+        from--;
+    }
+    snprintf(answer, sizeof answer, "%.*s", (int)(printed.length - 1 - from), (const char *)output + from);
+}
+
+/* --- the measure --- */
+
+struct function {
+    const char *name;
+    void (*call)(void);
+    void (*tell)(void);
+    size_t most;
+    unsigned calls;
+};
+
+static struct function check = {"check", call_check, tell_checked, 0, 0};
+static struct function cut_sheet = {"cut_sheet", call_cut_sheet, tell_checked, 0, 0};
+static struct function single_round = {"round", call_round, tell_rounded, 0, 0};
+static struct function compare = {"compare", call_compare, tell_compared, 0, 0};
+static struct function program = {"program", call_program, tell_printed, 0, 0};
+static struct function *const functions[] = {&check, &cut_sheet, &single_round, &compare, &program};
+static int failed;
 
 /* the bytes of a painted stack that a call has written to, from its end down to the lowest */
 static size_t used(void (*call)(void))
@@ -71,81 +174,451 @@ static size_t used(void (*call)(void))
     return sizeof stack - lowest;
 }
 
-/* a book with sides of pseudo-random steps: they share short factors alone, so it is accepted */
-static void make_book(unsigned rules, unsigned side)
+static void measure(struct function *function, const char *expected)
 {
-    static const uint8_t head[] = {1, 0, 1, 0, 64};
-    memcpy(book, head, sizeof head);
-    book_length = sizeof head;
-    uint32_t state = 1;
-    for (unsigned rule = 0; rule < rules; rule++) {
-        unsigned length = 2 + 2 * side;
-        uint8_t *record = book + book_length;
-        record[0] = (uint8_t)length;
-        record[1] = (uint8_t)(length >> 8);
-        record[2] = 2;
-        record[3] = 0;
-        record[4] = record[5] = (uint8_t)side;
-        for (unsigned i = 0; i < 2 * side; i++) {
-            state = state * 1664525u + 1013904223u;
-            record[6 + i] = (uint8_t)(state >> 26);
-        }
-        book_length += 4 + length;
+    size_t bytes = used(function->call) - used(nothing);
+    function->most = bytes > function->most ? bytes : function->most;
+    function->calls++;
+    function->tell();
+    if (strcmp(answer, expected) != 0) {
+        printf("vanecitron_%s, call %u: %s, expected %s\n", function->name, function->calls, answer, expected);
+        failed = 1;
     }
 }
 
-/* the word goes through the sides in turn, so that rounds of the row of fronts come up; the input has the word against itself, and a refusal */
-static void make_words(void)
+/* --- books and runs --- */
+
+/* a field of so many bytes, little-endian */
+static void put_field(uint8_t *at, unsigned bytes, size_t number)
 {
-    size_t at = 0;
-    for (size_t from = 5; at < sizeof word; from += 4 + (size_t)(book[from] | book[from + 1] << 8)) {
-        if (from >= book_length) {
-            from = 5;
-            if (book_length == 5) {
-                memset(word, 0, sizeof word);
-                break;
+    for (unsigned i = 0; i < bytes; i++) {
+        at[i] = (uint8_t)(number >> 8 * i);
+    }
+}
+
+static void begin_book(uint8_t letters)
+{
+    const uint8_t head[] = {1, 0, 1, 0, letters};
+    memcpy(book, head, sizeof head);
+    book_length = sizeof head;
+}
+
+static void add_rule(const uint8_t *left, size_t m, const uint8_t *right, size_t n)
+{
+    uint8_t *record = book + book_length;
+    put_field(record, 2, 2 + m + n);
+    put_field(record + 2, 2, 2);
+    put_field(record + 4, 1, m);
+    put_field(record + 5, 1, n);
+    memcpy(record + 6, left, m);
+    memcpy(record + 6 + m, right, n);
+    book_length += 6 + m + n;
+}
+
+/* the steps of a word in letters; ~ is a stranger */
+static size_t steps_of(const char *letters, size_t length, uint8_t *run)
+{
+    for (size_t i = 0; i < length; i++) {
+        run[i] = letters[i] == '~' ? STRANGER : (uint8_t)(letters[i] - 'a');
+    }
+    return length;
+}
+
+/* a book of 26 letters with the rules of a text such as "abdc=cadb,ef=gh" */
+static void book_of(const char *rules)
+{
+    begin_book(26);
+    while (*rules != 0) {
+        uint8_t left[VANECITRON_SIDE], right[VANECITRON_SIDE];
+        size_t m = steps_of(rules, strcspn(rules, "="), left);
+        rules += m + 1;
+        size_t n = steps_of(rules, strcspn(rules, ","), right);
+        rules += n + (rules[n] == ',');
+        add_rule(left, m, right, n);
+    }
+}
+
+/* 32 rules of 64 and 64 pseudo-random steps: they share short factors alone, so it is accepted */
+static void full_random_book(void)
+{
+    uint32_t state = 1;
+    begin_book(VANECITRON_LETTERS);
+    for (unsigned rule = 0; rule < VANECITRON_RULES; rule++) {
+        uint8_t sides[2 * VANECITRON_SIDE];
+        for (unsigned i = 0; i < sizeof sides; i++) {
+            state = state * 1664525u + 1013904223u;
+            sides[i] = (uint8_t)(state >> 26);
+        }
+        add_rule(sides, VANECITRON_SIDE, sides + VANECITRON_SIDE, VANECITRON_SIDE);
+    }
+}
+
+/*
+ * 32 rules of 64 and 64 steps with the longest pieces: all sides have a front and an end of 30 steps in common, and four steps between, of which no two
+ * stand together in another side, so that each needs four pieces. The sides of the second rule have the cuts 30 4 30.
+ */
+static void full_shared_book(void)
+{
+    begin_book(VANECITRON_LETTERS);
+    for (unsigned rule = 0; rule < VANECITRON_RULES; rule++) {
+        uint8_t sides[2][VANECITRON_SIDE];
+        for (unsigned i = 0; i < 2; i++) {
+            unsigned side = 2 * rule + i, step = 1 + 3 * (side / 62);
+            const unsigned own[] = {side, side + step, side + 2 * step + 1, side + 3 * step + 3};
+            memset(sides[i], 0, 30);
+            memset(sides[i] + 34, 1, 30);
+            for (unsigned j = 0; j < 4; j++) {
+                sides[i][30 + j] = (uint8_t)(2 + own[j] % 62);
             }
         }
-        for (size_t i = 0; i < book[from + 4] && at < sizeof word; i++) {
-            word[at++] = book[from + 6 + i];
-        }
+        add_rule(sides[0], VANECITRON_SIDE, sides[1], VANECITRON_SIDE);
     }
+}
+
+/* a side of a full book */
+static const uint8_t *full_side(unsigned side)
+{
+    return book + 5 + side / 2 * RULE + 6 + side % 2 * VANECITRON_SIDE;
+}
+
+/* everything lent in full, an allowance that is not spent, and empty runs */
+static void begin_call(void)
+{
+    sheet_room = sizeof sheet;
+    next_u_room = sizeof next_u;
+    next_v_room = sizeof next_v;
+    next_p_room = sizeof next_p;
+    output_room = sizeof output;
+    allowance = VANECITRON_ALLOWANCE;
+    u_length = v_length = p_length = 0;
+}
+
+static void runs_of(const char *first, const char *second, const char *mark)
+{
+    begin_call();
+    u_length = steps_of(first, strlen(first), u);
+    v_length = steps_of(second, strlen(second), v);
+    p_length = steps_of(mark, strlen(mark), p);
+}
+
+/* u goes through the left sides of a full book in turn and v through the right ones, so that exchanges join them where the length is one of whole
+   sides */
+static void runs_through_sides(size_t length)
+{
+    begin_call();
+    u_length = v_length = length;
+    for (size_t i = 0; i < length; i++) {
+        unsigned rule = i / VANECITRON_SIDE % VANECITRON_RULES;
+        u[i] = full_side(2 * rule)[i % VANECITRON_SIDE];
+        v[i] = full_side(2 * rule + 1)[i % VANECITRON_SIDE];
+    }
+}
+
+/* runs and a mark of one step, of these lengths */
+static void runs_of_step(uint8_t step, size_t first, size_t second, size_t mark)
+{
+    begin_call();
+    memset(u, step, u_length = first);
+    memset(v, step, v_length = second);
+    memset(p, step, p_length = mark);
+}
+
+/* --- inputs of the program --- */
+
+static void begin_input(void)
+{
     memcpy(input, book, book_length);
     input_length = book_length;
-    for (unsigned again = 0; again < 4; again++) {
-        unsigned length = 8 + 2 * VANECITRON_RUN;
-        uint8_t *record = input + input_length;
-        const uint8_t front[] = {(uint8_t)length, (uint8_t)(length >> 8), 3, 0, 255, 255, 255, again == 3 ? 0 : 255, 0, 16, 0, 16};
-        memcpy(record, front, sizeof front);
-        memcpy(record + 12, word, VANECITRON_RUN);
-        memcpy(record + 12 + VANECITRON_RUN, word, VANECITRON_RUN);
-        input_length += 4 + length;
+}
+
+/* a comparison of u and v, if the input has room for it */
+static int ask(void)
+{
+    const size_t length = 8 + u_length + v_length;
+    if (input_length + 4 + length > VANECITRON_INPUT) {
+        return 0;
     }
+    uint8_t *record = input + input_length;
+    put_field(record, 2, length);
+    put_field(record + 2, 2, 3);
+    put_field(record + 4, 4, allowance);
+    put_field(record + 8, 2, u_length);
+    put_field(record + 10, 2, v_length);
+    memcpy(record + 12, u, u_length);
+    memcpy(record + 12 + u_length, v, v_length);
+    input_length += 4 + length;
+    return 1;
+}
+
+/* the comparison of u and v, by itself and as the program's last line */
+static void measure_comparison(const char *expected)
+{
+    measure(&compare, expected);
+    begin_input();
+    ask();
+    measure(&program, expected);
+}
+
+/* --- the calls --- */
+
+/* each row of a round, with what it can come to; the cuts of q are 1 2 1 and 1 2 1, and under ends acfe and bdge are cut into ac fe and bd ge */
+static void rows(void)
+{
+    static const char q[] = "abdc=cadb", ends[] = "acfe=bdge,hfei=jgek";
+    static const struct {
+        int row; /* for the reader */
+        const char *rules, *u, *v, *p, *expected;
+    } cases[] = {
+        {1, q, "", "", "", "same"},
+        {1, q, "abdc", "", "", "different"},
+        {1, q, "", "", "a", "different"},
+        {2, "", "ab", "ab", "", "next b b -"},
+        {2, q, "b", "b", "", "next - - -"},
+        {2, q, "ba", "ba", "ba", "next a a a"},
+        {2, q, "b", "c", "", "different"},
+        {2, q, "b", "b", "a", "different"},
+        {3, q, "abd", "abd", "b", "different"},
+        {3, q, "abd", "b", "", "different"},
+        {4, q, "abdc", "abdc", "", "next b b -"},
+        {4, q, "abdc", "cadb", "c", "next b b -"},
+        {4, q, "abdcad", "cadbad", "", "next cad cad -"},
+        {5, q, "abd", "abd", "a", "next - - -"},
+        {5, q, "abdb", "abdc", "c", "next b c c"},
+        {6, q, "abdb", "cadb", "", "next b c -"},
+        {6, q, "cadc", "abdcd", "a", "next c bd -"},
+        {7, q, "abdc", "cadc", "", "next b c -"},
+        {7, q, "cadba", "abdb", "a", "next ca b -"},
+        {8, q, "abd", "cad", "", "different"},
+        {8, ends, "ac", "bdg", "", "different"},
+        {8, ends, "acfa", "bdgb", "", "next a b e"},
+    };
+    for (size_t i = 0; i < sizeof cases / sizeof cases[0]; i++) {
+        book_of(cases[i].rules);
+        runs_of(cases[i].u, cases[i].v, cases[i].p);
+        measure(&single_round, cases[i].expected);
+    }
+}
+
+/* comparisons that between them go through each row */
+static void comparisons(void)
+{
+    static const struct {
+        const char *rules, *u, *v, *expected;
+    } cases[] = {
+        {"", "ab", "ab", "same 2"},
+        {"abdc=cadb", "abd", "b", "different 0"},
+        {"abdc=cadb", "abd", "abd", "same 1"},
+        {"abdc=cadb", "abd", "cad", "different 0"},
+        {"abdc=cadb", "abdcad", "cadbad", "same 2"},
+        {"abdc=cadb", "cadbadb", "abdabdc", "same 3"},
+        {"abdc=cadb", "abdabdc", "cadbadb", "same 3"},
+        {"acfe=bdge,hfei=jgek", "acfa", "bdgb", "different 1"},
+    };
+    for (size_t i = 0; i < sizeof cases / sizeof cases[0]; i++) {
+        book_of(cases[i].rules);
+        runs_of(cases[i].u, cases[i].v, "");
+        measure_comparison(cases[i].expected);
+    }
+}
+
+/* rows 4 to 8 between the sides of the second rule of the full book with the longest pieces, by the lengths of the fronts of sides that u and v are */
+static void rows_of_full_book(void)
+{
+    static const struct {
+        int row; /* for the reader */
+        size_t u_length;
+        unsigned v_side;
+        size_t v_length, p_length;
+        const char *expected;
+    } cases[] = {
+        {4, 64, 3, 64, 30, "next 30 30 -"}, {4, 64, 2, 64, 1, "next 30 30 -"}, {5, 34, 2, 64, 30, "next - 30 -"},  {6, 35, 3, 64, 30, "next b 30 -"},
+        {7, 64, 3, 35, 30, "next 30 b -"},  {8, 34, 3, 34, 0, "next - - 30"},  {8, 35, 3, 36, 30, "next b bb 30"},
+    };
+    full_shared_book();
+    for (size_t i = 0; i < sizeof cases / sizeof cases[0]; i++) {
+        begin_call();
+        memcpy(u, full_side(2), u_length = cases[i].u_length);
+        memcpy(v, full_side(cases[i].v_side), v_length = cases[i].v_length);
+        memset(p, 0, p_length = cases[i].p_length);
+        measure(&single_round, cases[i].expected);
+    }
+}
+
+/* a full book with runs at their limits, and the program with a full input: the longest comparisons, then short ones, and the rest of a record */
+static void full_calls(void (*make_book)(void), const char *next, const char *same)
+{
+    make_book();
+    begin_call();
+    measure(&check, "rules 32");
+    measure(&cut_sheet, "rules 32");
+    runs_through_sides(VANECITRON_ROUND_RUN);
+    measure(&single_round, next);
+    runs_through_sides(VANECITRON_RUN);
+    measure(&compare, same);
+    begin_input();
+    while (ask()) {
+    }
+    measure(&program, same);
+    begin_call();
+    while (ask()) {
+    }
+    measure(&program, "same 0");
+    char expected[32];
+    snprintf(expected, sizeof expected, "refused 1 %zu", input_length);
+    memset(input + input_length, 0, VANECITRON_INPUT - input_length);
+    input_length = VANECITRON_INPUT;
+    measure(&program, expected);
+}
+
+/* the most lines of the program, the longest mark, and the longest next runs: one step is answered by 63 more */
+static void limits(void)
+{
+    book_of("");
+    begin_call();
+    measure(&check, "rules 0");
+    measure(&cut_sheet, "rules 0");
+    begin_input();
+    while (ask()) {
+    }
+    measure(&program, "same 0");
+    runs_of_step(1, VANECITRON_ROUND_RUN, VANECITRON_ROUND_RUN, VANECITRON_ROUND_MARK);
+    measure(&single_round, "next 4159 4159 63");
+
+    uint8_t sides[4][VANECITRON_SIDE];
+    memset(sides, 4, sizeof sides);
+    for (uint8_t i = 0; i < 4; i++) {
+        sides[i][0] = i;
+    }
+    begin_book(5);
+    add_rule(sides[0], 1, sides[1], VANECITRON_SIDE);
+    add_rule(sides[2], 1, sides[3], VANECITRON_SIDE);
+    runs_of_step(0, VANECITRON_ROUND_RUN, VANECITRON_ROUND_RUN, 0);
+    measure(&single_round, "next 4222 4222 -");
+    runs_of_step(0, VANECITRON_RUN, VANECITRON_RUN, 0);
+    measure_comparison("same 262144");
+}
+
+/* a full book whose last rule, or the side that ends it, is at fault; the place of the rule is 4159, and the side is the last of 64 */
+static void spoiled_book(uint32_t refusal)
+{
+    full_random_book();
+    uint8_t *rule = book + book_length - RULE, *side = book + book_length - VANECITRON_SIDE;
+    switch (refusal) {
+    case VANECITRON_SHORT: book_length--; break;
+    case VANECITRON_KIND: rule[2] = 1; break;
+    case VANECITRON_LENGTH: rule[4]++; break;
+    case VANECITRON_RANGE: rule[4]++, rule[5]--; break;
+    case VANECITRON_UNKNOWN_STEP: side[VANECITRON_SIDE - 1] = VANECITRON_LETTERS; break;
+    case VANECITRON_THICK: add_rule(side, VANECITRON_SIDE, side, VANECITRON_SIDE); break;
+    case VANECITRON_TWICE: memcpy(side, full_side(0), VANECITRON_SIDE); break;
+    case VANECITRON_LOOSE: memset(side, 0, VANECITRON_SIDE); break;
+    default: abort();
+    }
+}
+
+/* refusals 1 to 8 in each function that has them; the program prints them */
+static void refused_books(void)
+{
+    static const char *const expected[] = {"refused 1 4159", "refused 2 4159", "refused 3 4159", "refused 4 4159",
+                                           "refused 5 4159", "refused 6 4293", "refused 7 63",   "refused 8 63"};
+    for (uint32_t refusal = VANECITRON_SHORT; refusal <= VANECITRON_LOOSE; refusal++) {
+        spoiled_book(refusal);
+        runs_of("a", "a", "a");
+        begin_input();
+        for (size_t i = 0; i < sizeof functions / sizeof functions[0]; i++) {
+            measure(functions[i], expected[refusal - 1]);
+        }
+    }
+}
+
+/* refusals 9 to 11: each given run too long, each with a stranger, and an allowance used up */
+static void refused_runs(void)
+{
+    full_random_book();
+    runs_of_step(0, VANECITRON_ROUND_RUN + 1, 0, 0);
+    measure(&single_round, "refused 9 0");
+    runs_of_step(0, VANECITRON_ROUND_RUN, VANECITRON_ROUND_RUN + 1, 0);
+    measure(&single_round, "refused 9 5000");
+    runs_of_step(0, VANECITRON_ROUND_RUN, VANECITRON_ROUND_RUN, VANECITRON_ROUND_MARK + 1);
+    measure(&single_round, "refused 9 10000");
+    runs_of_step(0, VANECITRON_RUN + 1, 0, 0);
+    measure_comparison("refused 9 0");
+    runs_of_step(0, VANECITRON_RUN, VANECITRON_RUN + 1, 0);
+    measure_comparison("refused 9 5000");
+    runs_of("a~", "a", "a");
+    measure(&single_round, "refused 10 1");
+    measure_comparison("refused 10 1");
+    runs_of("a", "aa~", "a");
+    measure(&single_round, "refused 10 5002");
+    measure_comparison("refused 10 5002");
+    runs_of("a", "a", "~");
+    measure(&single_round, "refused 10 10000");
+    runs_through_sides(VANECITRON_RUN);
+    allowance = 1;
+    measure_comparison("refused 11 1");
+}
+
+/* refusal 12: each lent buffer one byte short */
+static void narrow_buffers(void)
+{
+    const struct {
+        size_t *room;
+        struct function *function;
+        const char *expected;
+    } buffers[] = {
+        {&sheet_room, &cut_sheet, "refused 12 0"},     {&next_u_room, &single_round, "refused 12 0"}, {&next_v_room, &single_round, "refused 12 1"},
+        {&next_p_room, &single_round, "refused 12 2"}, {&output_room, &program, "refused 12 0"},
+    };
+    full_random_book();
+    begin_input();
+    for (size_t i = 0; i < sizeof buffers / sizeof buffers[0]; i++) {
+        begin_call();
+        --*buffers[i].room;
+        measure(buffers[i].function, buffers[i].expected);
+    }
+}
+
+/* what the program alone refuses: an input over the limit, and records behind the book that are cut off, of another kind, or of a wrong length */
+static void refused_inputs(void)
+{
+    full_random_book();
+    begin_call();
+    begin_input();
+    input_length = VANECITRON_INPUT + 1;
+    measure(&program, "refused 13 60000");
+    begin_input();
+    ask();
+    input_length--;
+    measure(&program, "refused 1 4293");
+    begin_input();
+    ask();
+    ask();
+    input[input_length - 12 + 2] = 2;
+    measure(&program, "refused 2 4305");
+    begin_input();
+    ask();
+    input[input_length - 4] = 1;
+    measure(&program, "refused 3 4293");
 }
 
 int main(void)
 {
-    static const struct {
-        const char *name;
-        void (*call)(void);
-    } calls[] = {{"check", check}, {"cut_sheet", cut_sheet}, {"round", single_round}, {"compare", compare}, {"program", program}};
-    static const unsigned books[][2] = {{0, 0}, {1, 64}, {32, 64}, {8, 32}};
-    size_t way = used(nothing);
-    int failed = 0;
-    for (size_t i = 0; i < sizeof calls / sizeof calls[0]; i++) {
-        size_t most = 0;
-        for (size_t b = 0; b < sizeof books / sizeof books[0]; b++) {
-            make_book(books[b][0], books[b][1]);
-            make_words();
-            size_t bytes = used(calls[i].call) - way;
-            if (refusal != 0) {
-                printf("vanecitron_%s refuses book %zu by %llu\n", calls[i].name, b, (unsigned long long)refusal);
-                failed = 1;
-            }
-            most = bytes > most ? bytes : most;
+    rows();
+    rows_of_full_book();
+    comparisons();
+    full_calls(full_random_book, "next 4098 4098 -", "same 176");
+    full_calls(full_shared_book, "next 4126 4126 -", "same 1988");
+    limits();
+    refused_books();
+    refused_runs();
+    narrow_buffers();
+    refused_inputs();
+    for (size_t i = 0; i < sizeof functions / sizeof functions[0]; i++) {
+        printf("vanecitron_%-10s %6zu bytes of stack, the most of %u calls\n", functions[i]->name, functions[i]->most, functions[i]->calls);
+        if (functions[i]->most > VANECITRON_STACK) {
+            printf("vanecitron_%s needs more than VANECITRON_STACK, %u bytes\n", functions[i]->name, VANECITRON_STACK);
+            failed = 1;
         }
-        printf("vanecitron_%-10s %6zu bytes of stack\n", calls[i].name, most);
-        failed |= most > VANECITRON_STACK;
     }
     return failed;
 }

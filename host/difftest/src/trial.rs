@@ -1,6 +1,7 @@
 //! One call of the unit beside the reference, for each entry. A difference ends the trial with the call as it is recorded in vectors/entries.txt.
 
 use reference::{Accepted, Refusal};
+use vectors::hex;
 
 use crate::lent::Lent;
 use crate::tally::Tally;
@@ -14,13 +15,6 @@ pub type Known = Result<Accepted, Refusal>;
 
 fn of_reference(refusal: Refusal) -> Refused {
     (refusal.number, refusal.place)
-}
-
-pub fn hex(bytes: &[u8]) -> String {
-    if bytes.is_empty() {
-        return "-".to_string();
-    }
-    bytes.iter().map(|byte| format!("{byte:02x}")).collect()
 }
 
 /// A unit under trial, and what was met so far.
@@ -96,13 +90,12 @@ impl<'a> Trial<'a> {
     pub fn round(&mut self, book: &[u8], known: &Known, words: [&[u8]; 3], sizes: [usize; 3]) -> Option<[Vec<u8>; 3]> {
         let [u, v, p] = words;
         let mut written = sizes.map(|size| vec![0; size]);
-        let [next_u, next_v, next_p] = &mut written;
         let expected = match known {
             Err(refusal) => Err(of_reference(*refusal)),
-            Ok(accepted) => match reference::round_under(accepted, u, v, p, next_u, next_v, next_p) {
+            Ok(accepted) => match reference::round_under(accepted, words, written.each_mut().map(|next| &mut next[..])) {
                 Ok(reference::RoundEnd::Same) => Ok(Rounded::Same),
                 Ok(reference::RoundEnd::Different) => Ok(Rounded::Different),
-                Ok(reference::RoundEnd::Next { u, v, p }) => Ok(Rounded::Next([u, v, p])),
+                Ok(reference::RoundEnd::Next(lengths)) => Ok(Rounded::Next(lengths)),
                 Err(refusal) => Err(of_reference(refusal)),
             },
         };

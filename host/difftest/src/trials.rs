@@ -65,11 +65,23 @@ pub fn every_byte(trial: &mut Trial, chance: &mut Chance, cases: usize) {
             let known = trial.check(&changed);
             every_entry(trial, &changed, &known, &u, &v);
         }
-        let cut_off = damage::truncations(&input).map(<[u8]>::to_vec);
-        for changed in cut_off.chain(damage::changes(&input)) {
+        for cut_off in damage::truncations(&input) {
+            let told = trial.program(cut_off, 0);
+            // cut off in the first comparison, its kind there: the book has ended before it, and the comparison is refused
+            if inside_record(&input, bytes.len(), cut_off.len()) {
+                assert_eq!(told, format!("book {}\nrefused 1 {}\n", book.relations(), bytes.len()));
+            }
+        }
+        for changed in damage::changes(&input) {
             trial.program(&changed, 0);
         }
     }
+}
+
+/// The position is inside the record that begins at a place, behind its kind field.
+fn inside_record(input: &[u8], at: usize, position: usize) -> bool {
+    let length = u16::from_le_bytes([input[at], input[at + 1]]) as usize;
+    (at + 4..at + 4 + length).contains(&position)
 }
 
 /// Books and inputs whose length fields say other numbers: L of each record, and m and n of each rule and comparison.
@@ -391,9 +403,7 @@ fn all_pairs(trial: &mut Trial, book: &Book, bytes: &[u8], known: &Known, most: 
 fn small_marked(chance: &mut Chance) -> Book {
     let relations = chance.between(1, 2);
     let stock = chance.words(3, 0, 2, 1);
-    let side = |own: u8, chance: &mut Chance| [chance.pick(&stock).clone(), vec![own], chance.pick(&stock).clone()].concat();
-    let words = (0..2 * relations as u8).map(|i| side(1 + i, chance)).collect();
-    Book::new(1 + 2 * relations as u8, words)
+    books::with_own_letters(chance, 1, relations, |chance, own| [&chance.pick(&stock)[..], &[own], &chance.pick(&stock)[..]].concat())
 }
 
 /// A number for each word, the same for two of them just where a chain joins them.

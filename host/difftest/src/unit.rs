@@ -54,11 +54,11 @@ impl Unit for Fast {
         fast::cut_sheet(book, sheet).map_err(of_fast)
     }
 
-    fn round(&self, book: &[u8], [u, v, p]: [&[u8]; 3], [next_u, next_v, next_p]: [&mut [u8]; 3]) -> Result<Rounded, Refused> {
-        match fast::round(book, u, v, p, next_u, next_v, next_p).map_err(of_fast)? {
+    fn round(&self, book: &[u8], words: [&[u8]; 3], next: [&mut [u8]; 3]) -> Result<Rounded, Refused> {
+        match fast::round(book, words, next).map_err(of_fast)? {
             fast::RoundEnd::Same => Ok(Rounded::Same),
             fast::RoundEnd::Different => Ok(Rounded::Different),
-            fast::RoundEnd::Next { u, v, p } => Ok(Rounded::Next([u, v, p])),
+            fast::RoundEnd::Next(lengths) => Ok(Rounded::Next(lengths)),
         }
     }
 

@@ -1,26 +1,9 @@
 //! The recorded calls and inputs, and document 01's bench cases, with answers that are written down: the reference has no part in these.
 
-use std::fs;
-use std::path::PathBuf;
-
 use difftest::unit::{Compared, Refused, Rounded};
 use difftest::{chosen, Unit};
 use gen::{books, Book};
-
-fn vectors() -> PathBuf {
-    PathBuf::from(env!("CARGO_MANIFEST_DIR")).join("../vectors")
-}
-
-fn bytes(text: &str) -> Vec<u8> {
-    if text == "-" {
-        return Vec::new();
-    }
-    (0..text.len()).step_by(2).map(|i| u8::from_str_radix(&text[i..i + 2], 16).expect("hexadecimal")).collect()
-}
-
-fn hex(bytes: &[u8]) -> String {
-    difftest::trial::hex(bytes)
-}
+use vectors::{bytes, hex, Call};
 
 fn refused((number, place): Refused) -> String {
     format!("refused {number} {place}")
@@ -34,20 +17,17 @@ fn compared(answer: Result<Compared, Refused>) -> String {
     }
 }
 
-/// A call as it is recorded: its entry, the book, and what else it takes.
-fn call(unit: &dyn Unit, fields: &[&str]) -> String {
-    let number = |i: usize| fields[i].parse::<usize>().expect("a number");
-    let words = |i: usize| bytes(fields[i]);
-    let book = words(1);
-    match fields[0] {
-        "compare" => compared(unit.compare(&book, &words(2), &words(3), fields[4].parse().expect("an allowance"))),
-        "sheet" => {
-            let mut sheet = vec![0xaa; number(2)];
-            unit.cut_sheet(&book, &mut sheet).map_or_else(refused, |_| format!("sheet {}", hex(&sheet)))
+/// The answer to a call as it is recorded.
+fn answer(unit: &dyn Unit, call: &Call) -> String {
+    match call {
+        Call::Compare { book, u, v, allowance } => compared(unit.compare(book, u, v, *allowance)),
+        Call::Sheet { book, size } => {
+            let mut sheet = vec![0xaa; *size];
+            unit.cut_sheet(book, &mut sheet).map_or_else(refused, |_| format!("sheet {}", hex(&sheet)))
         }
-        "round" => {
-            let mut next = [5, 6, 7].map(|i| vec![0xaa; number(i)]);
-            match unit.round(&book, [&words(2), &words(3), &words(4)], next.each_mut().map(|buffer| &mut buffer[..])) {
+        Call::Round { book, words, sizes } => {
+            let mut next = sizes.map(|size| vec![0xaa; size]);
+            match unit.round(book, words.each_ref().map(|word| &word[..]), next.each_mut().map(|buffer| &mut buffer[..])) {
                 Ok(Rounded::Same) => "end same".to_string(),
                 Ok(Rounded::Different) => "end different".to_string(),
                 Ok(Rounded::Next(lengths)) => {
@@ -57,7 +37,6 @@ fn call(unit: &dyn Unit, fields: &[&str]) -> String {
                 Err(refusal) => refused(refusal),
             }
         }
-        other => panic!("no entry {other}"),
     }
 }
 
@@ -69,26 +48,16 @@ fn printed(unit: &dyn Unit, input: &[u8]) -> String {
 
 #[test]
 fn recorded_calls() {
-    let text = fs::read_to_string(vectors().join("entries.txt")).expect("the recorded calls");
-    for line in text.lines() {
-        let (left, right) = line.split_once(" => ").expect("a call and its answer");
-        assert_eq!(call(&chosen(), &left.split(' ').collect::<Vec<_>>()), right, "{line}");
+    for recorded in vectors::calls() {
+        assert_eq!(answer(&chosen(), &recorded.call), recorded.answer, "{}", recorded.line);
     }
-    assert_eq!(text.lines().count(), 381);
 }
 
 #[test]
 fn recorded_inputs_of_the_program() {
-    let mut inputs = 0;
-    for entry in fs::read_dir(vectors().join("program")).expect("the recorded inputs") {
-        let path = entry.expect("an entry").path();
-        if path.extension().is_some_and(|extension| extension == "in") {
-            let output = fs::read_to_string(path.with_extension("out")).expect("its output");
-            assert_eq!(printed(&chosen(), &fs::read(&path).expect("an input")), output, "{}", path.display());
-            inputs += 1;
-        }
+    for run in vectors::runs() {
+        assert_eq!(printed(&chosen(), &run.input), run.output, "{}", run.name);
     }
-    assert_eq!(inputs, 54);
 }
 
 fn word(text: &str) -> Vec<u8> {

@@ -294,17 +294,17 @@ pub fn compare(book: &[u8], u: &[u8], v: &[u8], allowance: u32) -> Result<Compar
 pub enum RoundEnd {
     Same,
     Different,
-    Next { u: u64, v: u64, p: u64 },
+    Next([u64; 3]),
 }
 
 /// One round under a book. An end and a refusal write nothing.
-pub fn round(book: &[u8], u: &[u8], v: &[u8], p: &[u8], next_u: &mut [u8], next_v: &mut [u8], next_p: &mut [u8]) -> Result<RoundEnd, Refusal> {
+pub fn round(book: &[u8], words: [&[u8]; 3], next: [&mut [u8]; 3]) -> Result<RoundEnd, Refusal> {
+    let [u, v, p] = words;
     let ready = Ready::new(book)?;
     check_word(u, 0, ROUND_WORD, ready.laid.letters)?;
     check_word(v, 1, ROUND_WORD, ready.laid.letters)?;
     check_word(p, 2, ROUND_MARK, ready.laid.letters)?;
-    let sizes = [next_u.len(), next_v.len(), next_p.len()];
-    if let Some(buffer) = (0..3).find(|&i| sizes[i] < NEXT[i]) {
+    if let Some(buffer) = (0..3).find(|&i| next[i].len() < NEXT[i]) {
         return refuse(12, buffer);
     }
     match ready.plan(Parts { a: &[], b: u }, Parts { a: &[], b: v }, p) {
@@ -312,9 +312,9 @@ pub fn round(book: &[u8], u: &[u8], v: &[u8], p: &[u8], next_u: &mut [u8], next_
         Plan::End(false) => Ok(RoundEnd::Different),
         Plan::Drop => {
             let one = Change { from: 0, to: 0, cut: 1 };
-            write_all(&ready, [u, v, p], [one, one, Change { cut: p.len().min(1), ..one }], [next_u, next_v, next_p])
+            write_all(&ready, words, [one, one, Change { cut: p.len().min(1), ..one }], next)
         }
-        Plan::Go(change_u, change_v, change_p) => write_all(&ready, [u, v, p], [change_u, change_v, change_p], [next_u, next_v, next_p]),
+        Plan::Go(change_u, change_v, change_p) => write_all(&ready, words, [change_u, change_v, change_p], next),
     }
 }
 
@@ -324,7 +324,7 @@ fn write_all(ready: &Ready, old: [&[u8]; 3], changes: [Change; 3], [next_u, next
     let u = write(text, old[0], changes[0], next_u);
     let v = write(text, old[1], changes[1], next_v);
     let p = write(text, old[2], changes[2], next_p);
-    Ok(RoundEnd::Next { u, v, p })
+    Ok(RoundEnd::Next([u, v, p]))
 }
 
 /// Writes the word after a change at the start of a buffer, and gives its length.

@@ -1,9 +1,7 @@
 //! Agrees with the reference on generated books, words, rounds, damage and program inputs, and on the recorded vectors.
 
-use std::fs;
-use std::path::PathBuf;
-
 use gen::{books, damage, inputs, words, Chance};
+use vectors::Call;
 
 type Refused = (u32, u64);
 
@@ -38,25 +36,18 @@ fn compare(book: &[u8], accepted: &reference::Accepted, u: &[u8], v: &[u8], allo
 }
 
 /// The next u, v, p if there are.
-fn round(book: &[u8], accepted: &reference::Accepted, u: &[u8], v: &[u8], p: &[u8]) -> Option<[Vec<u8>; 3]> {
+fn round(book: &[u8], accepted: &reference::Accepted, state: [&[u8]; 3]) -> Option<[Vec<u8>; 3]> {
     let mut one = [vec![170; 4_224], vec![170; 4_224], vec![170; 64]];
     let mut two = one.clone();
-    let [a, b, c] = &mut one;
-    let answer = fast::round(book, u, v, p, a, b, c).map_err(ours);
-    let [a, b, c] = &mut two;
-    let expected = reference::round_under(accepted, u, v, p, a, b, c).map_err(theirs);
-    assert_eq!(format!("{answer:?}"), format!("{expected:?}"), "{book:?} {u:?} {v:?} {p:?}");
-    assert_eq!(one, two, "{book:?} {u:?} {v:?} {p:?}");
-    match expected {
-        Ok(reference::RoundEnd::Next { u, v, p }) => {
-            let [mut next_u, mut next_v, mut next_p] = two;
-            next_u.truncate(u as usize);
-            next_v.truncate(v as usize);
-            next_p.truncate(p as usize);
-            Some([next_u, next_v, next_p])
-        }
-        _ => None,
+    let answer = fast::round(book, state, one.each_mut().map(|buffer| &mut buffer[..])).map_err(ours);
+    let expected = reference::round_under(accepted, state, two.each_mut().map(|buffer| &mut buffer[..])).map_err(theirs);
+    assert_eq!(format!("{answer:?}"), format!("{expected:?}"), "{book:?} {state:?}");
+    assert_eq!(one, two, "{book:?} {state:?}");
+    let Ok(reference::RoundEnd::Next(lengths)) = expected else { return None };
+    for (next, length) in two.iter_mut().zip(lengths) {
+        next.truncate(length as usize);
     }
+    Some(two)
 }
 
 fn program(input: &[u8]) {
@@ -94,14 +85,14 @@ fn on_rounds_with_marks() {
         let bytes = book.bytes();
         let Some(accepted) = check(&bytes) else { continue };
         for _ in 0..4 {
-            let (mut u, mut v) = words::pair(&mut chance, &book, 100);
-            let mut p = words::mark(&mut chance, &book);
+            let (u, v) = words::pair(&mut chance, &book, 100);
+            let mut state = [u, v, words::mark(&mut chance, &book)];
             for _ in 0..6 {
-                let Some([next_u, next_v, next_p]) = round(&bytes, &accepted, &u, &v, &p) else { break };
+                let Some(after) = round(&bytes, &accepted, state.each_ref().map(|word| &word[..])) else { break };
                 next += 1;
-                (u, v, p) = (next_u, next_v, next_p);
+                state = after;
                 if chance.once_in(4) {
-                    p = words::mark(&mut chance, &book);
+                    state[2] = words::mark(&mut chance, &book);
                 }
             }
         }
@@ -158,24 +149,19 @@ fn on_program_inputs() {
 
 #[test]
 fn on_recorded_vectors() {
-    let vectors = PathBuf::from(env!("CARGO_MANIFEST_DIR")).join("../vectors");
-    for entry in fs::read_dir(vectors.join("program")).expect("the recorded inputs") {
-        program(&fs::read(entry.expect("an entry").path()).expect("its bytes"));
+    for run in vectors::runs() {
+        program(&run.input);
     }
-    let bytes = |text: &str| -> Vec<u8> {
-        let digits = if text == "-" { "" } else { text };
-        (0..digits.len()).step_by(2).map(|i| u8::from_str_radix(&digits[i..i + 2], 16).expect("hexadecimal")).collect()
-    };
-    for line in fs::read_to_string(vectors.join("entries.txt")).expect("the recorded calls").lines() {
-        let fields: Vec<&str> = line.split(' ').collect();
-        let book = bytes(fields[1]);
-        sheet(&book);
-        let Some(accepted) = check(&book) else { continue };
-        let word = |i: usize| bytes(fields[i]);
-        match fields[0] {
-            "compare" => assert!(compare(&book, &accepted, &word(2), &word(3), fields[4].parse().expect("an allowance")) == line.contains("=> same")),
-            "round" => drop(round(&book, &accepted, &word(2), &word(3), &word(4))),
-            _ => {}
+    for recorded in vectors::calls() {
+        let (Call::Compare { book, .. } | Call::Sheet { book, .. } | Call::Round { book, .. }) = &recorded.call;
+        sheet(book);
+        let Some(accepted) = check(book) else { continue };
+        match &recorded.call {
+            Call::Compare { u, v, allowance, .. } => {
+                assert_eq!(compare(book, &accepted, u, v, *allowance), recorded.answer.starts_with("same"), "{}", recorded.line)
+            }
+            Call::Round { words, .. } => drop(round(book, &accepted, words.each_ref().map(|word| &word[..]))),
+            Call::Sheet { .. } => {}
         }
     }
 }

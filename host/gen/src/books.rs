@@ -92,49 +92,38 @@ pub fn marked(chance: &mut Chance) -> Book {
     let most = *chance.pick(&[2, 5, 12, 31]);
     let count = chance.between(1, 5);
     let stock = chance.words(count, 0, most, common);
+    let part = |chance: &mut Chance| if chance.once_in(4) { Vec::new() } else { chance.pick(&stock).clone() };
+    with_own_letters(chance, common, relations, |chance, own| [part(chance), vec![own], part(chance)].concat())
+}
+
+/// A book in which each side is made around a letter of its own, behind the letters that they have in common.
+pub fn with_own_letters(chance: &mut Chance, common: u8, relations: usize, side: impl Fn(&mut Chance, u8) -> Vec<u8>) -> Book {
     let letters = common + 2 * relations as u8;
-    let words = (0..2 * relations)
-        .map(|i| {
-            let own = common + i as u8;
-            let part = |chance: &mut Chance| if chance.once_in(4) { Vec::new() } else { chance.pick(&stock).clone() };
-            [part(chance), vec![own], part(chance)].concat()
-        })
-        .collect();
-    Book::new(letters, words)
+    Book::new(letters, (common..letters).map(|own| side(chance, own)).collect())
 }
 
 /// Sides of a short period around letters of their own.
 pub fn periodic(chance: &mut Chance) -> Book {
     let relations = chance.between(1, 5);
-    let letters = 2 + 2 * relations as u8;
     let length = chance.between(1, 3);
     let period = chance.word(length, 2);
-    let words = (0..2 * relations)
-        .map(|i| {
-            let (before, behind) = (chance.below(30), chance.below(30));
-            let mut word: Vec<u8> = period.iter().cycle().skip(chance.below(3)).take(before).copied().collect();
-            word.push(2 + i as u8);
-            word.extend(period.iter().cycle().skip(chance.below(3)).take(behind));
-            word
-        })
-        .collect();
-    Book::new(letters, words)
+    with_own_letters(chance, 2, relations, |chance, own| {
+        let (before, behind) = (chance.below(30), chance.below(30));
+        let mut part = |length: usize| -> Vec<u8> { period.iter().cycle().skip(chance.below(3)).take(length).copied().collect() };
+        [part(before), vec![own], part(behind)].concat()
+    })
 }
 
 /// Sides that begin with one long word and part late.
 pub fn shared_fronts(chance: &mut Chance) -> Book {
     let relations = chance.between(1, 8);
-    let letters = 3 + 2 * relations as u8;
     let length = chance.between(1, 60);
     let front = chance.word(length, 3);
-    let words = (0..2 * relations)
-        .map(|i| {
-            let kept = if chance.once_in(3) { chance.below(front.len() + 1) } else { front.len() };
-            let rest = chance.below(4);
-            [&front[..kept], &[3 + i as u8], &chance.word(rest, 3)[..]].concat()
-        })
-        .collect();
-    Book::new(letters, words)
+    with_own_letters(chance, 3, relations, |chance, own| {
+        let kept = if chance.once_in(3) { chance.below(front.len() + 1) } else { front.len() };
+        let rest = chance.below(4);
+        [&front[..kept], &[own], &chance.word(rest, 3)[..]].concat()
+    })
 }
 
 /// Sides whose ends are other sides' beginnings, so that their places in a word overlap and fronts are often not clean.
@@ -168,8 +157,7 @@ pub fn linked(chance: &mut Chance) -> Book {
     let count = chance.between(1, 4);
     let mut stock: Vec<Vec<u8>> = chance.words(count, 0, 2, common).into_iter().map(|front| [front, end.clone()].concat()).collect();
     stock.push(Vec::new());
-    let words = (0..2 * relations as u8).map(|i| [&chance.pick(&stock)[..], &[common + i], &chance.pick(&stock)[..]].concat()).collect();
-    Book::new(common + 2 * relations as u8, words)
+    with_own_letters(chance, common, relations, |chance, own| [&chance.pick(&stock)[..], &[own], &chance.pick(&stock)[..]].concat())
 }
 
 /// One or two short relations over two to six letters, for breadth-first search.

@@ -48,39 +48,31 @@ fn check_word(word: &[u8], number: usize, limit: usize, letters: u8) -> Result<(
 pub enum RoundEnd {
     Same,
     Different,
-    Next { u: u64, v: u64, p: u64 },
+    Next([u64; 3]),
 }
 
 /// One round under a book. An end and a refusal write nothing.
-pub fn round(book: &[u8], u: &[u8], v: &[u8], p: &[u8], next_u: &mut [u8], next_v: &mut [u8], next_p: &mut [u8]) -> Result<RoundEnd, Refusal> {
-    round_under(&accept(book)?, u, v, p, next_u, next_v, next_p)
+pub fn round(book: &[u8], words: [&[u8]; 3], next: [&mut [u8]; 3]) -> Result<RoundEnd, Refusal> {
+    round_under(&accept(book)?, words, next)
 }
 
 /// The same under a book that is accepted already.
-pub fn round_under(
-    book: &Accepted,
-    u: &[u8],
-    v: &[u8],
-    p: &[u8],
-    next_u: &mut [u8],
-    next_v: &mut [u8],
-    next_p: &mut [u8],
-) -> Result<RoundEnd, Refusal> {
+pub fn round_under(book: &Accepted, [u, v, p]: [&[u8]; 3], next: [&mut [u8]; 3]) -> Result<RoundEnd, Refusal> {
     check_word(u, 0, ROUND_WORD, book.letters)?;
     check_word(v, 1, ROUND_WORD, book.letters)?;
     check_word(p, 2, ROUND_MARK, book.letters)?;
-    let sizes = [next_u.len(), next_v.len(), next_p.len()];
-    if let Some(buffer) = (0..3).find(|&i| sizes[i] < NEXT[i]) {
+    if let Some(buffer) = (0..3).find(|&i| next[i].len() < NEXT[i]) {
         return refuse(12, buffer);
     }
     match rows::round(&book.cuts, u, v, p) {
         Next::Same => Ok(RoundEnd::Same),
         Next::Different => Ok(RoundEnd::Different),
         Next::Go { u, v, p } => {
-            next_u[..u.len()].copy_from_slice(&u);
-            next_v[..v.len()].copy_from_slice(&v);
-            next_p[..p.len()].copy_from_slice(&p);
-            Ok(RoundEnd::Next { u: u.len() as u64, v: v.len() as u64, p: p.len() as u64 })
+            let words = [u, v, p];
+            for (buffer, word) in next.into_iter().zip(&words) {
+                buffer[..word.len()].copy_from_slice(word);
+            }
+            Ok(RoundEnd::Next(words.map(|word| word.len() as u64)))
         }
     }
 }

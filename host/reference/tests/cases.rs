@@ -175,8 +175,7 @@ fn records_are_refused_in_the_order_of_the_paper() {
 
 fn single(bytes: &[u8], u: &[u8], v: &[u8], p: &[u8], sizes: [usize; 3]) -> (Result<RoundEnd, Refusal>, [Vec<u8>; 3]) {
     let mut next = sizes.map(|size| vec![170; size]);
-    let [next_u, next_v, next_p] = &mut next;
-    let end = round(bytes, u, v, p, next_u, next_v, next_p);
+    let end = round(bytes, [u, v, p], next.each_mut().map(|buffer| &mut buffer[..]));
     (end, next)
 }
 
@@ -186,7 +185,7 @@ fn rounds_refuse_and_write_as_the_paper_says() {
     let untouched = enough.map(|size| vec![170; size]);
     let (end, next) = single(&q(), &word("abdc"), &word("cadb"), &[], enough);
     // row 4: the remainder of u is empty and so not active for c; the other tail is b
-    assert_eq!(end, Ok(RoundEnd::Next { u: 1, v: 1, p: 0 }));
+    assert_eq!(end, Ok(RoundEnd::Next([1, 1, 0])));
     assert_eq!((next[0][0], next[1][0], next[0][1], next[1][1]), (1, 1, 170, 170));
     assert_eq!(next[2], untouched[2]);
     let (end, next) = single(&q(), &[], &[], &[], enough);

@@ -87,6 +87,7 @@ pub fn cut_sheet(book: &[u8]) -> Result<Vec<Cut>, Refusal> {
 }
 
 /// An allowance that no comparison of a first word of this length uses up: (k + 2) times the length, where k is the longest Z of the sheet.
+/// Plain Rust, outside the proof.
 pub fn ample_allowance(sheet: &[Cut], first_length: usize) -> u32 {
     let k = sheet.iter().map(|cut| cut.z as u64).max().unwrap_or(0);
     u32::try_from((k + 2) * first_length as u64).unwrap_or(u32::MAX)

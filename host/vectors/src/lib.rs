@@ -1,0 +1,83 @@
+//! The recorded calls of the entries (`entries.txt`) and the recorded inputs and outputs of the program (`program/`), as tests read them.
+//! Their answers are written down, so no implementation has a part in this crate.
+
+use std::fs;
+use std::path::PathBuf;
+
+/// A call of an entry, with what it takes; lent buffers by their sizes.
+pub enum Call {
+    Compare { book: Vec<u8>, u: Vec<u8>, v: Vec<u8>, allowance: u32 },
+    Sheet { book: Vec<u8>, size: usize },
+    Round { book: Vec<u8>, words: [Vec<u8>; 3], sizes: [usize; 3] },
+}
+
+/// A line of entries.txt: the call, and the answer as it is written there.
+pub struct Recorded {
+    pub line: String,
+    pub call: Call,
+    pub answer: String,
+}
+
+/// An input of the program and its output, by the name of the file.
+pub struct Run {
+    pub name: String,
+    pub input: Vec<u8>,
+    pub output: String,
+}
+
+/// All recorded calls.
+pub fn calls() -> Vec<Recorded> {
+    let text = fs::read_to_string(directory().join("entries.txt")).expect("the recorded calls");
+    let calls: Vec<Recorded> = text.lines().map(recorded).collect();
+    assert_eq!(calls.len(), 381, "recorded calls");
+    calls
+}
+
+/// All recorded inputs of the program.
+pub fn runs() -> Vec<Run> {
+    let entries = fs::read_dir(directory().join("program")).expect("the recorded inputs");
+    let paths = entries.map(|entry| entry.expect("an entry").path());
+    let run = |path: PathBuf| Run {
+        name: path.display().to_string(),
+        input: fs::read(&path).expect("an input"),
+        output: fs::read_to_string(path.with_extension("out")).expect("its output"),
+    };
+    let runs: Vec<Run> = paths.filter(|path| path.extension().is_some_and(|extension| extension == "in")).map(run).collect();
+    assert_eq!(runs.len(), 56, "recorded inputs");
+    runs
+}
+
+/// Bytes as they are written in entries.txt.
+pub fn hex(bytes: &[u8]) -> String {
+    if bytes.is_empty() {
+        return "-".to_string();
+    }
+    bytes.iter().map(|byte| format!("{byte:02x}")).collect()
+}
+
+/// The bytes that `hex` writes so.
+pub fn bytes(text: &str) -> Vec<u8> {
+    if text == "-" {
+        return Vec::new();
+    }
+    (0..text.len()).step_by(2).map(|i| u8::from_str_radix(&text[i..i + 2], 16).expect("hexadecimal")).collect()
+}
+
+fn directory() -> PathBuf {
+    PathBuf::from(env!("CARGO_MANIFEST_DIR"))
+}
+
+fn recorded(line: &str) -> Recorded {
+    let (left, answer) = line.split_once(" => ").expect("a call and its answer");
+    let fields: Vec<&str> = left.split(' ').collect();
+    let word = |i: usize| bytes(fields[i]);
+    let number = |i: usize| fields[i].parse().expect("a number");
+    let book = word(1);
+    let call = match fields[0] {
+        "compare" => Call::Compare { book, u: word(2), v: word(3), allowance: fields[4].parse().expect("an allowance") },
+        "sheet" => Call::Sheet { book, size: number(2) },
+        "round" => Call::Round { book, words: [2, 3, 4].map(word), sizes: [5, 6, 7].map(number) },
+        other => panic!("no entry {other}"),
+    };
+    Recorded { line: line.to_string(), call, answer: answer.to_string() }
+}
