@@ -2,7 +2,7 @@
 use Prim.Native.Nat.{ℕ}
 use mathlib.Core.Bool.{Bool, true, false, cond}
 use mathlib.Core.List.{List}
-use mathlib.Core.Path.{_≡_, refl, sym, ap, _∙_}
+use mathlib.Core.Path.{_≡_, refl, sym, ap, _∙_, subst}
 use borrow.Author.Needs.{needs}
 use mir.Val.{boolByte}
 use Rattle.words.specs.Words.{Word}
@@ -100,7 +100,11 @@ round-passes book u v p a₀ b₀ c₀ a b c round r e f = rw (f, ← e)
 
 pub compare-passes : (book : List ℕ) (u v : Word) (allowance : ℕ) (comparison : Comparison) (r : CompareResult)
     → Compared book u v allowance (ofComparison comparison) → r ≡ compareResult (ofComparison comparison) → ComparedNumbers book u v allowance r
-compare-passes book u v allowance comparison r d f = record { answer = ofComparison comparison; is = f; compared = d }
+compare-passes book u v allowance comparison r d f =
+    record {
+      is = f ∙ ap compareResult (d .is);
+      compared = subst (λ (a : Answer). Compared book u v allowance a) (d .is) d;
+    }
 
 pub program-passes : (input old output : List ℕ) (printed : Printed) (r : ProgramResult) → OutputOutcome.after (ofPrinted printed) output ≡ outputOf input old
     → r ≡ programResult (ofPrinted printed) → ProgramNumbers.after r output ≡ programNumbers (outputOf input old)

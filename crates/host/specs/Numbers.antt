@@ -5,7 +5,7 @@ use mathlib.Core.List.{List}
 use mathlib.Core.Path.{_≡_}
 use Rattle.words.specs.Words.{Word}
 use Rattle.unit.specs.Answers.{Answer, accepted, ended, next, same, different, wrote, refused}
-use Rattle.unit.specs.Entries.{SheetOutcome, RoundOutcome, OutputOutcome}
+use Rattle.unit.specs.Entries.{SheetOutcome, RoundOutcome, compareOf, OutputOutcome}
 use Rattle.unit.specs.Demands.{Compared}
 use Rattle.host.specs.declared.CheckResult.{CheckResult}
 use Rattle.host.specs.declared.RoundResult.{RoundResult}
@@ -65,11 +65,10 @@ abbrev pub compareResult : Answer → CompareResult
 compareResult a =
     record { refusal = numbers a .refusal; place = numbers a .place; outcome = numbers a .outcome; rounds = numbers a .first }
 
--- the numbers are those of an answer of which all is promised that the entry promises
+-- the numbers are those of the definition's answer, of which all is promised that the entry promises
 pub record ComparedNumbers (book : List ℕ) (u v : Word) (allowance : ℕ) (r : CompareResult) : Type 0 where
-  pub answer : Answer
-  pub is : r ≡ compareResult answer
-  pub compared : Compared book u v allowance answer
+  pub is : r ≡ compareResult (compareOf book u v allowance)
+  pub compared : Compared book u v allowance (compareOf book u v allowance)
 
 -- what the program returns for an answer
 abbrev pub programResult : Answer → ProgramResult

@@ -1,15 +1,16 @@
--- What is owed of the entries (the three demands), said of their answers in the words of the papers: of the check and the cut sheet (demand 2) and of the
--- comparison (demand 3).
+-- What is owed of the entries, said of their answers in the words of the papers: of the check and of the cut sheet (demand 2) and of the comparison (demand 3).
+-- Demand 1 (safety, refusals, lent buffers) has no record here: every function's check and the equalities with specs/Entries.antt are its statement.
 use Prim.Native.Nat.{ℕ, _+_, _*_, _<_, _≤_}
 use mathlib.Core.Bool.{Bool}
-use mathlib.Core.List.{List, []}
+use mathlib.Core.List.{List, [], _++_}
 use mathlib.Core.Logic.{_↔_, _⊎_}
 use mathlib.Core.Path.{_≡_}
-use lib.ListN.{length}
+use lib.ListN.{length, getD}
 use Rattle.words.specs.Words.{Word}
 use Rattle.words.specs.Relations.{Relation, sides}
-use Rattle.overlap.specs.Pieces.{C4}
+use Rattle.overlap.specs.Pieces.{word, IsPiece, C4}
 use Rattle.overlap.specs.Cuts.{kOf}
+use Rattle.overlap.specs.Maximal.{MaximalPiecePrefix, MaximalPieceSuffix}
 use Rattle.overlap.specs.Verdict.{Repeats, FewPieces, Lowest, Distinct}
 use Rattle.congruence.specs.Congruence.{Congruent}
 use Rattle.congruence.specs.Rounds.{Rounds}
@@ -18,7 +19,7 @@ use Rattle.presentation.specs.Loading.{BookLoading, loadBook}
 use Rattle.given.specs.declared.Given.the-variants as Words
 use Rattle.given.specs.Given.{pairOf}
 use Rattle.unit.specs.Answers.{Answer, accepted, same, different, refused}
-use Rattle.unit.specs.Entries.{checkOf, compareOf}
+use Rattle.unit.specs.Entries.{checkOf, SheetOutcome, sheetOf, compareOf}
 
 -- demand 2, of a book that is well formed and within the limits: it is accepted exactly when it meets C(4); else it is refused by 7 at the lowest
 -- relation word that equals an earlier one, or by 8 at the lowest that is a product of three or fewer pieces
@@ -29,6 +30,36 @@ pub record Accepts (relations : List Relation) (answer : Answer) : Type 0 where
 
 abbrev pub Acceptance : Type 0
 Acceptance = (book : List ℕ) (letters : ℕ) (relations : List Relation) → readBook book ≡ BookReading.read letters relations → Accepts relations (checkOf book)
+
+-- demand 2, of relation word i and its three bytes on a sheet: they are the lengths of its maximal piece prefix X, its middle word Y and its maximal piece
+-- suffix Z, where Y is not empty and no piece
+pub record Reports (B : List Word) (sheet : List ℕ) (i : ℕ) : Type 0 where
+  pub x : Word
+  pub y : Word
+  pub z : Word
+  pub whole : x ++ (y ++ z) ≡ word B i
+  pub first : MaximalPiecePrefix B i x
+  pub last : MaximalPieceSuffix B i z
+  pub some : 0 < length y
+  pub middle : ¬ IsPiece B y
+  pub xByte : getD sheet (3 * i) 0 ≡ length x
+  pub yByte : getD sheet (3 * i + 1) 0 ≡ length y
+  pub zByte : getD sheet (3 * i + 2) 0 ≡ length z
+
+-- of the outcome for a lent buffer: the cuts of all relation words are at its start, and its length and the bytes behind them are the old ones
+pub record Sheeted (relations : List Relation) (old : List ℕ) (outcome : SheetOutcome) : Type 0 where
+  pub sheet : List ℕ
+  pub is : outcome ≡ SheetOutcome.after (accepted (length relations)) sheet
+  pub reports : (i : ℕ) → i < length (sides relations) → Reports (sides relations) sheet i
+  pub kept : length sheet ≡ length old
+  pub behind : (j : ℕ) → 3 * length (sides relations) ≤ j → getD sheet j 0 ≡ getD old j 0
+
+-- of every accepted book: the sheet is in the buffer exactly when that has three bytes for each relation word, else 12 and the old buffer
+pub record CutsReported : Type 0 where
+  pub roomy : (book old : List ℕ) (letters : ℕ) (relations : List Relation) → loadBook book ≡ BookLoading.loaded letters relations
+      → 3 * length (sides relations) ≤ length old → Sheeted relations old (sheetOf book old)
+  pub narrow : (book old : List ℕ) (letters : ℕ) (relations : List Relation) → loadBook book ≡ BookLoading.loaded letters relations
+      → length old < 3 * length (sides relations) → sheetOf book old ≡ SheetOutcome.after (refused 12 0) old
 
 -- demand 3, of two words under relation words B, an allowance and an answer
 pub record Decides (B : List Word) (u v : Word) (allowance : ℕ) (answer : Answer) : Type 0 where

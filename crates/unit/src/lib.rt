@@ -1,5 +1,6 @@
-// The public entries: what a customer calls. None has a `requires`; each promise is an equality with a definition of specs/Entries.antt, refusals in
-// document 01's order and lent buffers included. The demands are spelled out in specs/Demands.antt.
+// The public entries: what a customer calls. None has a `requires`; each promises that its answer equals a definition's of specs/Entries.antt, refusals in
+// document 01's order and lent buffers included: as an equality, or, of `compare`, as the field `is` of the record `Compared`, which holds demand 3 beside it.
+// The demands are spelled out in specs/Demands.antt; the last two functions do nothing and carry demand 2 as theorems on these definitions.
 ghost use mathlib.Core.Path.{_≡_};
 ghost use Prim.Native.Nat.{_*_, _≤_};
 ghost use lib.ListN.{length};
@@ -8,7 +9,7 @@ ghost use Rattle.comparison.specs.State.{Ready};
 ghost use Rattle.unit.specs.Answers.{ofVerdict, ofRound, ofComparison, ofPrinted};
 ghost use Rattle.unit.specs.Entries.{checkOf, SheetOutcome as Sheets, sheetOf, RoundOutcome as Rounds, roundOf, roomOf, askedOf, OutputOutcome as Outputs, outputOf};
 ghost use Rattle.unit.specs.Parts.{SheetReady, acceptedSheet, steppedRound, loadedRound};
-ghost use Rattle.unit.specs.Demands.{Acceptance, Compared};
+ghost use Rattle.unit.specs.Demands.{Acceptance, CutsReported, Compared};
 use comparison::Comparison;
 use format::Reading;
 use format::Refusal;
@@ -209,4 +210,9 @@ pub fn print_program(input: &[u8], out: &mut [u8]) -> Printed
 // The demands on acceptance, as a theorem on the check's definition.
 pub fn acceptance_is_c4()
     ensures { λ _. ⌜ Acceptance ⌝ }
+{}
+
+// The demands on the cut sheet, as a theorem on its definition.
+pub fn sheet_reports_cuts()
+    ensures { λ _. ⌜ CutsReported ⌝ }
 {}
