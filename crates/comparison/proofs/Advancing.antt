@@ -1,22 +1,24 @@
 -- One change of a state's words is the change of the words that it stands for, and keeps their shape.
 use Prim.Native.Nat.{ℕ, _+_, _-_, _<_, _≤_}
-use mathlib.Core.Bool.{Bool, true, false, cond}
+use mathlib.Core.Bool.{Bool, true, false}
 use mathlib.Core.List.{List, [], _++_, append-nil}
-use mathlib.Core.Path.{_≡_, refl, sym, ap, _∙_, subst}
+use mathlib.Core.Path.{_≡_, refl, sym, _∙_}
 use native.Mathlib.Omega.{arith}
-use borrow.Author.Tests.{lt-ltb, le-ltb, ltb-true, ltb-false}
+use borrow.Author.Tests.{ltb-true, ltb-false}
 use lib.Dec.{ltb}
-use lib.ListN.{length, take, drop, length-append, length-drop}
-use lib.Seq.{drop-append-le}
+use lib.ListN.{length, drop, length-append, length-drop}
+use lib.Seq.{drop-append-le, drop-drop}
 use Rattle.words.specs.Words.{Word}
-use Rattle.congruence.proofs.ShapeQuiet.{Cut4, Quiet, quiet-nil, quiet-drop, quiet-z, front-past-quiet}
+use Rattle.words.proofs.Lists.{drop-past}
+use Rattle.congruence.proofs.Heads.{Facts}
+use Rattle.congruence.proofs.ShapeQuiet.{quiet-nil, quiet-drop, quiet-z, front-past-quiet}
 use Rattle.layout.specs.Layout.{part}
+use Rattle.layout.proofs.Parts.{part-length, part-none, part-drop}
 use Rattle.rounds.specs.declared.Change.{Change}
 use Rattle.rounds.specs.Plans.{applied, Fit, MarkFit}
 use Rattle.comparison.specs.declared.Held.{Held}
 use Rattle.comparison.specs.declared.Mark.{Mark}
 use Rattle.comparison.specs.State.{heldWord, markWord, HeldFit, MarkHeld, advancedOf, advancedMark}
-use Rattle.comparison.proofs.Parts.{length-part, part-none, drop-part, drop-past}
 
 -- a held word that stands for w
 pub record Holds (text : List ℕ) (B : List Word) (run w : Word) (h : Held) : Type 0 where
@@ -27,13 +29,13 @@ pub record MarkHolds (text : List ℕ) (p : Word) (m : Mark) : Type 0 where
   pub fit : MarkHeld text m
   pub same : markWord text m ≡ p
 
-module _ (text : List ℕ) (B : List Word) (cut4 : Cut4 B) (run : Word) (h : Held) (f : HeldFit text B run h) (c : Change) (g : Fit text B (heldWord text run h) c) where
+module _ (text : List ℕ) (B : List Word) (cut4 : Facts B) (run : Word) (h : Held) (f : HeldFit text B run h) (c : Change) (g : Fit text B (heldWord text run h) c) where
   z : Word
   z = part text (h .at) (h .to)
 
   z-length : length z ≡ h .to - h .at
   unfolding z
-  z-length = length-part text (h .at) (h .to) (f .inside)
+  z-length = part-length text (h .at) (h .to) (f .inside)
 
   -- what is cut lies in the two parts of the word
   cut-within : c .cut ≤ (h .to - h .at) + (length run - h .from)
@@ -42,14 +44,17 @@ module _ (text : List ℕ) (B : List Word) (cut4 : Cut4 B) (run : Word) (h : Hel
       let l = z-length in
       omega (arith, g .within, length-append (part text (h .at) (h .to)) (drop (h .from) run), length-drop (h .from) run)
 
+  -- what is left where the part of the text is cut away whole
+  rest : length z ≤ c .cut → drop (c .cut) (z ++ drop (h .from) run) ≡ drop (h .from + (c .cut - (h .to - h .at))) run
+  rest k = drop-past z (drop (h .from) run) (c .cut) k ∙ drop-drop (c .cut - length z) (h .from) run ∙ rw z-length
+
   -- a new part of the text: the old one is cut away whole
   replaced : c .from < c .to → Holds text B run (applied text c (heldWord text run h)) (record { at = c .from; to = c .to; from = h .from + (c .cut - (h .to - h .at)) })
   unfolding z
   replaced l =
       let t = g .tailed l in
       let past : length z < c .cut = omega (arith, front-past-quiet B cut4 z (drop (h .from) run) (t .by) (f .quiet) (t .there) (t .front), t .taken) in
-      let e : drop (c .cut) (z ++ drop (h .from) run) ≡ drop (h .from + (c .cut - (h .to - h .at))) run =
-      drop-past z (c .cut) (h .from) run (omega arith) ∙ rw z-length in
+      let e = rest (omega arith) in
       record {
         fit = record {
           up = g .up;
@@ -66,14 +71,14 @@ module _ (text : List ℕ) (B : List Word) (cut4 : Cut4 B) (run : Word) (h : Hel
   unfolding z
   shortened l k =
       let e : drop (c .cut) (z ++ drop (h .from) run) ≡ part text (h .at + c .cut) (h .to) ++ drop (h .from) run =
-      drop-append-le (c .cut) z (drop (h .from) run) (omega (arith, z-length)) ∙ rw (drop-part text (h .at) (h .to) (c .cut)) in
+      drop-append-le (c .cut) z (drop (h .from) run) (omega (arith, z-length)) ∙ rw (part-drop text (h .at) (h .to) (c .cut)) in
       record {
         fit = record {
           up = omega arith;
           inside = f .inside;
           short = omega (arith, f .short);
           within = f .within;
-          quiet = rw (drop-part text (h .at) (h .to) (c .cut)) at (quiet-drop B z (c .cut) (f .quiet));
+          quiet = rw (part-drop text (h .at) (h .to) (c .cut)) at (quiet-drop B z (c .cut) (f .quiet));
         };
         same = rw (part-none text (c .from) (c .to) l, e);
       }
@@ -83,8 +88,7 @@ module _ (text : List ℕ) (B : List Word) (cut4 : Cut4 B) (run : Word) (h : Hel
       → Holds text B run (applied text c (heldWord text run h)) (record { at = h .to; to = h .to; from = h .from + (c .cut - (h .to - h .at)) })
   unfolding z
   emptied l k =
-      let e : drop (c .cut) (z ++ drop (h .from) run) ≡ drop (h .from + (c .cut - (h .to - h .at))) run =
-      drop-past z (c .cut) (h .from) run (omega (arith, z-length)) ∙ rw z-length in
+      let e = rest (omega (arith, z-length)) in
       let n : part text (h .to) (h .to) ≡ [] = part-none text (h .to) (h .to) (omega arith) in
       record {
         fit = record {
@@ -109,7 +113,7 @@ module _ (text : List ℕ) (B : List Word) (cut4 : Cut4 B) (run : Word) (h : Hel
 
 module _ (text : List ℕ) (B : List Word) (m : Mark) (f : MarkHeld text m) (c : Change) (g : MarkFit text B (markWord text m) c) where
   mark-length : length (markWord text m) ≡ m .to - m .at
-  mark-length = length-part text (m .at) (m .to) (f .inside)
+  mark-length = part-length text (m .at) (m .to) (f .inside)
 
   pub mark-advanced : MarkHolds text (applied text c (markWord text m)) (advancedMark m c)
   unfolding advancedMark
@@ -117,11 +121,11 @@ module _ (text : List ℕ) (B : List Word) (m : Mark) (f : MarkHeld text m) (c :
     where
       go : (a : Bool) → ltb (c .from) (c .to) ≡ a → MarkHolds text (applied text c (markWord text m)) (advancedMark m c)
       go true e =
-          let n : drop (c .cut) (markWord text m) ≡ [] = drop-part text (m .at) (m .to) (c .cut) ∙ part-none text (m .at + c .cut) (m .to) (omega (arith, mark-length, g .whole (ltb-true _ _ e))) in
+          let n : drop (c .cut) (markWord text m) ≡ [] = part-drop text (m .at) (m .to) (c .cut) ∙ part-none text (m .at + c .cut) (m .to) (omega (arith, mark-length, g .whole (ltb-true _ _ e))) in
           rw e (record { fit = record { up = g .up; inside = g .inside; short = g .short }; same = sym (rw n (append-nil (part text (c .from) (c .to)))) })
       go false e =
           rw e
           (record {
             fit = record { up = omega (arith, mark-length, g .within, f .up); inside = f .inside; short = omega (arith, f .short) };
-            same = rw (part-none text (c .from) (c .to) (ltb-false _ _ e), drop-part text (m .at) (m .to) (c .cut));
+            same = rw (part-none text (c .from) (c .to) (ltb-false _ _ e), part-drop text (m .at) (m .to) (c .cut));
           })

@@ -4,30 +4,31 @@ use mathlib.Core.Bool.{Bool, true, false}
 use mathlib.Core.List.{List, [], _++_}
 use mathlib.Core.Path.{_≡_, refl, sym, ap, _∙_, subst}
 use native.Mathlib.Omega.{arith}
-use native.Mathlib.Numerals.{add-one}
 use borrow.Author.Needs.{needs}
-use borrow.Author.Tests.{lt-ltb, le-ltb, ltb-true, ltb-false}
-use lib.Dec.{ltb}
+use borrow.Author.Tests.{lt-ltb, le-ltb}
 use lib.ListN.{length, take, drop, length-append, length-drop}
 use lib.Seq.{take-all}
 use Rattle.words.specs.Words.{Word}
 use Rattle.overlap.proofs.Facts.{rigid-of-c4}
 use Rattle.congruence.specs.Rows.{Next, round}
 use Rattle.congruence.specs.Rows.Next.{end, go}
-use Rattle.congruence.specs.Rounds.{Answer, ending, answerFrom, compareUnder}
-use Rattle.congruence.specs.Rounds.Answer.{same, different, spent}
-use Rattle.congruence.proofs.ShapeQuiet.{Cut4, quiet-nil}
+use Rattle.congruence.specs.Rounds.{answerFrom, compareUnder}
+use Rattle.congruence.specs.Rounds.Answer.{same}
+use Rattle.congruence.proofs.Heads.{Facts}
+use Rattle.congruence.proofs.ShapeQuiet.{quiet-nil}
 use Rattle.layout.specs.Layout.{part, wordsIn}
+use Rattle.layout.proofs.Parts.{part-length}
 use Rattle.rounds.specs.declared.Change.{Change}
 use Rattle.rounds.specs.declared.Plan.{Plan}
 use Rattle.rounds.specs.declared.Plan.the-variants as Plans
 use Rattle.rounds.specs.Plans.{planned, Fit, MarkFit, PlanFit, Decided, Paired}
-use Rattle.rounds.specs.Plans.PlanFit.{ends, goes}
+use Rattle.rounds.specs.Plans.PlanFit.{goes}
 use Rattle.format.specs.declared.Refusal.{Refusal}
-use Rattle.format.specs.declared.Refusal.the-variants.{Spent, Long}
+use Rattle.format.specs.declared.Refusal.the-variants.{Spent}
 use Rattle.given.specs.declared.Given.{Given}
 use Rattle.given.specs.declared.Given.the-variants as Words
 use Rattle.given.specs.Given.{givenOf, pairOf}
+use Rattle.given.proofs.Laws.{fine-short, fine-both}
 use Rattle.format.specs.Limits.{comparedMost}
 use Rattle.comparison.specs.declared.Held.{Held}
 use Rattle.comparison.specs.declared.Mark.{Mark}
@@ -38,11 +39,10 @@ use Rattle.comparison.specs.declared.Progress.{Progress}
 use Rattle.comparison.specs.declared.Progress.the-variants.{Ended, Paused}
 use Rattle.comparison.specs.declared.Comparison.{Comparison}
 use Rattle.comparison.specs.declared.Comparison.the-variants.{Same, Different, Refused}
-use Rattle.comparison.specs.State.{heldWord, markWord, HeldFit, MarkHeld, Standing, beyondOf, Movable, MarkMovable, advancedOf, advancedMark, advancedState, steppedOf, Applicable, Ready, Fitting, Poised, stepNext, StepStands, Stepping}
-use Rattle.comparison.specs.Runs.{Ran, ended, paused, onRound, runFrom, answered, ranOf, ProgressStands, Progressed}
+use Rattle.comparison.specs.State.{heldWord, markWord, HeldFit, MarkHeld, beyondOf, Movable, MarkMovable, advancedOf, advancedMark, steppedOf, Applicable, Ready, Fitting, Poised, StepStands, Stepping}
+use Rattle.comparison.specs.Runs.{Ran, ended, paused, runFrom, answered, ranOf, Progressed}
 use Rattle.comparison.specs.Comparing.{answerOf, comparisonOf}
-use Rattle.comparison.proofs.Parts.{length-part}
-use Rattle.comparison.proofs.Advancing.{Holds, MarkHolds, holds-advanced, mark-advanced}
+use Rattle.comparison.proofs.Advancing.{holds-advanced, mark-advanced}
 
 -- the word after a change
 module _ (h : Held) (c : Change) (r : ℕ) (e : r ≡ beyondOf (c .cut) (h .to - h .at)) where
@@ -133,14 +133,14 @@ module _ (text table : List ℕ) (n : ℕ) (first second : Word) (s : State) (p 
   words : List Word
   words = wordsIn text table n
 
-  cuts : Cut4 words
+  cuts : Facts words
   unfolding words
   cuts = rigid-of-c4 (wordsIn text table n) (p .fitting .ready .paired .checked .accepted)
 
   movable-of-fit : (run : Word) → length run ≤ 65536 → (h : Held) → HeldFit text words run h → (c : Change) → Fit text words (heldWord text run h) c → Movable h c
   movable-of-fit run k h f c g =
       let l = length-append (part text (h .at) (h .to)) (drop (h .from) run) in
-      let m = length-part text (h .at) (h .to) (f .inside) in
+      let m = part-length text (h .at) (h .to) (f .inside) in
       let d = length-drop (h .from) run in
       record {
         up = f .up;
@@ -151,7 +151,7 @@ module _ (text table : List ℕ) (n : ℕ) (first second : Word) (s : State) (p 
 
   mark-of-fit : (m : Mark) → MarkHeld text m → (c : Change) → MarkFit text words (markWord text m) c → MarkMovable m c
   mark-of-fit m f c g =
-      let l = length-part text (m .at) (m .to) (f .inside) in
+      let l = part-length text (m .at) (m .to) (f .inside) in
       record { low = omega (arith, f .up, f .inside, p .fitting .ready .text-short); small = omega (arith, g .within, f .inside, p .fitting .ready .text-short) }
 
   applicable : (plan : Plan) → PlanFit text words (heldWord text first (s .u)) (heldWord text second (s .v)) (markWord text (s .mark)) plan → Applicable s plan
@@ -290,31 +290,6 @@ module _ (text table : List ℕ) (n : ℕ) (u v : Word) (allowance : ℕ) (r : P
 
 pub ruleset comparisons = (whole-poised, compared-same, compared-different, compared-spent, needs)
 
--- a word that is fine is within its limit
-fine-short : (number most letters : ℕ) (w : Word) → givenOf number most letters w ≡ Words.Fine → length w ≤ most
-unfolding givenOf
-fine-short number most letters w e = go (ltb most (length w)) refl
-  where
-    go : (t : Bool) → ltb most (length w) ≡ t → length w ≤ most
-    go true q =
-        let d : Words.Refused (Long number) ≡ Words.Fine = rw q at e in
-        let z : _≡_ {A = ℕ} 0 1 = cc in
-        absurd (omega arith)
-    go false q = ltb-false most (length w) q
-
--- where both are fine, each is
-fine-both : (letters : ℕ) (u v : Word) → pairOf letters u v ≡ Words.Fine
-    → (givenOf 0 comparedMost letters u ≡ Words.Fine) × (givenOf 1 comparedMost letters v ≡ Words.Fine)
-unfolding pairOf
-fine-both letters u v e = go (givenOf 0 comparedMost letters u) refl
-  where
-    go : (g : Given) → givenOf 0 comparedMost letters u ≡ g → (givenOf 0 comparedMost letters u ≡ Words.Fine) × (givenOf 1 comparedMost letters v ≡ Words.Fine)
-    go Words.Fine q = (q, rw q at e)
-    go (Words.Refused r) q =
-        let d : Words.Refused r ≡ Words.Fine = rw q at e in
-        let z : _≡_ {A = ℕ} 0 1 = cc in
-        absurd (omega arith)
-
 -- given words
 module _ (text table : List ℕ) (n letters : ℕ) (u v : Word) (allowance : ℕ) (g : Given) (e : g ≡ pairOf letters u v) where
   pub given-refused : (r : Refusal) → g ≡ Words.Refused r → Refused r ≡ comparisonOf letters (wordsIn text table n) u v allowance
@@ -326,8 +301,9 @@ module _ (text table : List ℕ) (n letters : ℕ) (u v : Word) (allowance : ℕ
   given-compared x f h = rw (← e, f) h
 
 pub given-fitting : (text table : List ℕ) (n letters : ℕ) (u v : Word) (g : Given) → Ready text table n → g ≡ pairOf letters u v → g ≡ Words.Fine → Fitting text table n u v
+unfolding pairOf
 given-fitting text table n letters u v g r e f =
-    let b = fine-both letters u v (sym e ∙ f) in
+    let b = fine-both (givenOf 0 comparedMost letters u) (givenOf 1 comparedMost letters v) (sym e ∙ f) in
     record {
       ready = r;
       first-short = omega (arith, fine-short 0 comparedMost letters u (b .0));

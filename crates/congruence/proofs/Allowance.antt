@@ -8,14 +8,14 @@ use native.Mathlib.Omega.{arith}
 use native.Mathlib.Decide.{decLt}
 use lib.ListN.{length}
 use Rattle.words.specs.Words.{Word}
+use Rattle.words.proofs.Relations.{Even}
 use Rattle.overlap.specs.Cuts.{kOf}
 use Rattle.congruence.specs.Rows.{Next, round}
 use Rattle.congruence.specs.Rows.Next.{end, go}
 use Rattle.congruence.specs.Rounds.{Rounds, Answer, ending, answerFrom, compareUnder}
 use Rattle.congruence.specs.Rounds.Rounds.{ended, goes}
 use Rattle.congruence.specs.Rounds.Answer.{same, different, spent}
-use Rattle.congruence.proofs.ShapeQuiet.{Cut4}
-use Rattle.congruence.proofs.ShapeRows.{Paired}
+use Rattle.congruence.proofs.Heads.{Facts}
 use Rattle.congruence.proofs.Bound.{rounds-unique, rounds-exist}
 
 -- where the allowance is at least the number of rounds, the rows' end is the answer, with all rounds counted
@@ -137,12 +137,12 @@ pub count-alone : (B : List Word) (a a′ : ℕ) (u v : Word) (d d′ : Bool) (k
 count-alone B a a′ u v d d′ k k′ e e′ = rounds-unique (rounds-of-answer B a u v d k e .0) (rounds-of-answer B a′ u v d′ k′ e′ .0)
 
 -- every two words under a presentation that satisfies C(4) have their answer under every allowance
-pub every-answer-fits : (B : List Word) (c : Cut4 B) (e : Paired B) (u v : Word) (allowance : ℕ)
+pub every-answer-fits : (B : List Word) (c : Facts B) (e : Even B) (u v : Word) (allowance : ℕ)
     → AnswerFits B u v (rounds-exist B c e u v .count) (rounds-exist B c e u v .same) allowance
 every-answer-fits B c e u v allowance = answer-fits (rounds-exist B c e u v .rounds) allowance
 
 -- an allowance of (k + 1) |u|, or of (k + 1) |v|, is never spent
-pub ended-of-plenty : (B : List Word) (c : Cut4 B) (e : Paired B) (u v : Word) (allowance : ℕ) → min ((kOf B + 1) * length u) ((kOf B + 1) * length v) ≤ allowance
+pub ended-of-plenty : (B : List Word) (c : Facts B) (e : Even B) (u v : Word) (allowance : ℕ) → min ((kOf B + 1) * length u) ((kOf B + 1) * length v) ≤ allowance
     → compareUnder B allowance u v ≡ ending (rounds-exist B c e u v .same) (rounds-exist B c e u v .count)
 ended-of-plenty B c e u v allowance h =
     let r = rounds-exist B c e u v in

@@ -6,13 +6,13 @@ use mathlib.Core.Path.{_≡_, refl, sym, ap, _∙_, subst}
 use native.Mathlib.Omega.{arith}
 use lib.ListN.{length}
 use Rattle.words.specs.Words.{Word}
+use Rattle.words.proofs.Relations.{Even}
 use Rattle.overlap.specs.Cuts.{kOf}
 use Rattle.congruence.specs.Rows.{Next, round}
 use Rattle.congruence.specs.Rows.Next.{end, go}
 use Rattle.congruence.specs.Rounds.{Rounds}
 use Rattle.congruence.specs.Rounds.Rounds.{ended, goes}
-use Rattle.congruence.proofs.ShapeQuiet.{Cut4}
-use Rattle.congruence.proofs.ShapeRows.{Paired}
+use Rattle.congruence.proofs.Heads.{Facts}
 use Rattle.congruence.proofs.Shape.{Held, weight, tailed-whole, held-start, round-lightens}
 
 -- what n rounds that end with d say of what the first of them gives
@@ -42,7 +42,7 @@ pub record Ends (B : List Word) (u v p : Word) (a b : ℕ) : Type 0 where
   pub first : count ≤ a
   pub second : count ≤ b
 
-module _ (B : List Word) (c : Cut4 B) (e : Paired B) (u₀ v₀ : Word) where
+module _ (B : List Word) (c : Facts B) (e : Even B) (u₀ v₀ : Word) where
   ends-below : (fuel : ℕ) (u v p : Word) (h : Held B u₀ v₀ u v p) → weight B u₀ u (h .first) < fuel
       → Ends B u v p (weight B u₀ u (h .first)) (weight B v₀ v (h .second))
   ends-below zero u v p h l = absurd (omega arith)
@@ -72,7 +72,7 @@ pub record RoundsOf (B : List Word) (u v : Word) : Type 0 where
   pub first : count ≤ (kOf B + 1) * length u
   pub second : count ≤ (kOf B + 1) * length v
 
-pub rounds-exist : (B : List Word) → Cut4 B → Paired B → (u v : Word) → RoundsOf B u v
+pub rounds-exist : (B : List Word) → Facts B → Even B → (u v : Word) → RoundsOf B u v
 unfolding held-start tailed-whole
 rounds-exist B c e u v =
     let r = ends-held B c e u v u v [] (held-start B u v) in
@@ -90,7 +90,7 @@ rounds-exist B c e u v =
     weight-whole k l n h = let m = ap (λ x. (k + 1) * x) {x = l - 0} {y = l} (omega arith) in omega arith
 
 -- any count of the rounds of two words is bounded by either word
-pub rounds-within : (B : List Word) → Cut4 B → Paired B → (u v : Word) (n : ℕ) (b : Bool) → Rounds B u v [] n b
+pub rounds-within : (B : List Word) → Facts B → Even B → (u v : Word) (n : ℕ) (b : Bool) → Rounds B u v [] n b
     → (n ≤ (kOf B + 1) * length u) × (n ≤ (kOf B + 1) * length v)
 rounds-within B c e u v n b r =
     let x = rounds-exist B c e u v in
@@ -98,5 +98,5 @@ rounds-within B c e u v n b r =
     (subst (λ m. m ≤ (kOf B + 1) * length u) q (x .first), subst (λ m. m ≤ (kOf B + 1) * length v) q (x .second))
 
 -- the bound of document 003, Lemma 6
-pub rounds-at-most : (B : List Word) → Cut4 B → Paired B → (u v : Word) (n : ℕ) (b : Bool) → Rounds B u v [] n b → n ≤ (kOf B + 2) * length u
+pub rounds-at-most : (B : List Word) → Facts B → Even B → (u v : Word) (n : ℕ) (b : Bool) → Rounds B u v [] n b → n ≤ (kOf B + 2) * length u
 rounds-at-most B c e u v n b r = let m = rounds-within B c e u v n b r .0 in omega arith

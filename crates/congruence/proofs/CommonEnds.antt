@@ -17,14 +17,15 @@ use Rattle.congruence.proofs.CleanFronts.{LongestEnd}
 front-whole : (x y : Word) → length x ≡ length y → front x y ≡ true → x ≡ y
 front-whole x y l e = sym (append-nil x) ∙ ap (x ++_) (sym (drop-of-length-le y {i = length x} (omega arith))) ∙ front-split x y e
 
-common-bound : (a b : Word) → commonEnd a b ≤ min (length a) (length b)
+-- the common end lies in both words
+pub end-within : (a b : Word) → (commonEnd a b ≤ length a) × (commonEnd a b ≤ length b)
 unfolding commonEnd
-common-bound a b = greatest-bound (min (length a) (length b)) (λ n. front (lastLetters n a) (lastLetters n b))
+end-within a b = let g = greatest-bound (min (length a) (length b)) (λ n. front (lastLetters n a) (lastLetters n b)) in omega arith
 
 common-same : (a b : Word) → lastLetters (commonEnd a b) a ≡ lastLetters (commonEnd a b) b
 unfolding commonEnd
 common-same a b =
-    let l = common-bound a b in
+    let l = end-within a b in
     let x = length-drop (length a - commonEnd a b) a in
     let y = length-drop (length b - commonEnd a b) b in
     by-cases (decLt 0 (commonEnd a b))
@@ -52,7 +53,7 @@ longest-end a b =
       right = sym (ap (λ (n : ℕ). take (length b - commonEnd a b) b ++ drop n a) la ∙ ap (take (length b - commonEnd a b) b ++_) (common-same a b) ∙ take-append-drop (length b - commonEnd a b) b);
       most = λ c d x e f.
           let m = common-most a b c d x e f in
-          let l = common-bound a b in
+          let l = end-within a b in
           let y = length-drop (length (take (length a - commonEnd a b) a)) a in
           omega (arith, la);
     }

@@ -48,9 +48,6 @@ same-lefts a s t = same-via (same-left a s) (same-sym (same-left a t)) (omega ar
 pub xy-z : (B : List Word) (i : ℕ) (t : Word) → xyOf B i ++ (zOf B i ++ t) ≡ word B i ++ t
 xy-z B i t = sym (append-assoc (xyOf B i) (zOf B i) t) ∙ ap (_++ t) (take-append-drop (xylen B i) (word B i))
 
-pub length-xy : (B : List Word) (i : ℕ) → length (xyOf B i) ≡ xylen B i
-length-xy B i = length-take-le (xylen B i) (word B i) (omega arith)
-
 -- a place cuts a word
 pub cut-at : (u : Word) (p : ℕ) → p ≤ length u → (w : Word) × (s : Word) × (u ≡ w ++ s) × (length w ≡ p) × (s ≡ drop p u)
 cut-at u p h = (take p u, drop p u, sym (take-append-drop p u), length-take-le p u h, refl)

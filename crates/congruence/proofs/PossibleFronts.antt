@@ -7,12 +7,13 @@ use mathlib.Core.Logic.{by-cases, ⊎-elim, _⊎_, inl, inr, _↔_}
 use native.Mathlib.Omega.{arith}
 use native.Mathlib.Decide.{decLe}
 use lib.ListN.{length, drop, take-append-drop}
-use lib.Seq.{length-take-le, take-take}
+use lib.Seq.{take-take}
 use Rattle.words.specs.Words.{Word, front}
 use Rattle.words.proofs.Segments.{Same, same-sym, same-via}
 use Rattle.words.proofs.Fronts.{front-split, same-front}
 use Rattle.overlap.specs.Pieces.{word}
 use Rattle.overlap.specs.Cuts.{xlen, xylen, xOf, xyOf, zOf}
+use Rattle.overlap.proofs.Facts.{length-x}
 use Rattle.congruence.proofs.Heads.{Facts, Front, Clean}
 use Rattle.congruence.proofs.RowTests.{same-take}
 use Rattle.congruence.proofs.Places.{same-left, xy-z, front-in-product}
@@ -55,7 +56,7 @@ module _ {B : List Word} (R : Facts B) where
       (λ a.
       let g = f .long in
       let y : Same p 0 (word B j) 0 (length p) = same-via (same-sym (same-left p w)) (same-sym (f .same)) (omega arith) in
-      let x = length-take-le (xlen B j) (word B j) (omega arith) in
+      let x = length-x B j in
       same-front p (xOf B j) 0 (omega arith) (same-via y (same-sym (same-take (word B j) (xlen B j))) (omega arith)))
       (λ a.
       let g = f .long in

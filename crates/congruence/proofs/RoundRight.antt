@@ -10,6 +10,7 @@ use lib.Dec.{eqb, ltb}
 use borrow.Author.Tests.{eqb-true, eq-eqb, ltb-true, ltb-false}
 use lib.ListN.{length}
 use Rattle.words.specs.Words.{Word}
+use Rattle.words.proofs.Relations.{Even}
 use Rattle.congruence.specs.Congruence.{Congruent}
 use Rattle.congruence.specs.Congruence.Congruent.{done}
 use Rattle.congruence.specs.Rows.{Next, cleanFront, dropFirst, fromFront, round}
@@ -17,15 +18,15 @@ use Rattle.congruence.specs.Rows.Next.{end, go}
 use Rattle.congruence.specs.Rounds.{Rounds}
 use Rattle.congruence.specs.Rounds.Rounds.{ended, goes}
 use Rattle.congruence.proofs.Heads.{Facts, Clean}
-use Rattle.congruence.proofs.RowTests.{cleanFront-clean, cleanFront-none}
+use Rattle.congruence.proofs.RowTests.{by-choose, cleanFront-clean, cleanFront-none}
 use Rattle.congruence.proofs.Chains.{chain-sym}
 use Rattle.congruence.proofs.Chains.Chain.{stop}
 use Rattle.congruence.proofs.Activity.{Ending, ending-rest}
 use Rattle.congruence.proofs.Activity.Ending.{nothing}
 use Rattle.congruence.proofs.CleanFronts.{PossibleFront}
 use Rattle.congruence.proofs.PossibleFronts.{possible-nothing, chain-of-rests, possible-of-rests, empty-stays}
-use Rattle.congruence.proofs.Sides.{half, Even, chain-of-congruent, congruent-of-chain}
-use Rattle.congruence.proofs.RowsRight.{Both, Says, by-choose, row3-says}
+use Rattle.congruence.proofs.Sides.{half, chain-of-congruent, congruent-of-chain}
+use Rattle.congruence.proofs.RowsRight.{Both, Says, row3-says}
 
 -- p is a possible front of u (document 003: a possible prefix): p w is congruent to u for some word w
 pub record Possible (B : List Word) (p u : Word) : Type 0 where

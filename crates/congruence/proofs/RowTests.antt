@@ -11,27 +11,41 @@ use borrow.Author.Tests.{leb-true, le-leb, not-true}
 use lib.ListN.{length, getD, take, drop}
 use lib.Seq.{getD-take, length-take-le, take-length}
 use Rattle.words.specs.Words.{Word, front}
+use Rattle.words.proofs.Tests.{false-of}
 use Rattle.words.proofs.Segments.{Same, same-sym, same-via}
 use Rattle.words.proofs.Fronts.{front-same, front-fits, same-front}
 use Rattle.words.proofs.Searching.{any-of, any-found, least-passes, least-first, least-bound}
 use Rattle.overlap.specs.Pieces.{word}
 use Rattle.overlap.specs.Cuts.{len, xlen, xylen, xyOf}
-use Rattle.congruence.specs.Rows.{standsAt, crowded, clean, cleanFront, active}
-use Rattle.congruence.proofs.Heads.{Facts, Head, Front, Whole, Clean, behind}
+use Rattle.congruence.specs.Rows.{choose, standsAt, crowded, clean, cleanFront, active}
+use Rattle.congruence.proofs.Heads.{Facts, Head, Front, Whole, Clean, one-word, behind}
 
--- a test passes or fails
-pub true-or-false : (b : Bool) → (b ≡ true) ⊎ (b ≡ false)
-true-or-false true = inl refl
-true-or-false false = inr refl
+-- a property of both choices, each where it is chosen
+pub by-choose : {A : Type 0} (P : A → Type 0) (b : Bool) (x y : Unit {0} → A) → (b ≡ true → P (x tt)) → (b ≡ false → P (y tt)) → P (choose b x y)
+by-choose P true x y f g = f refl
+by-choose P false x y f g = g refl
 
--- a test that passes where it cannot fails
-pub false-of-not : (b : Bool) → (b ≡ true → ⊥) → b ≡ false
-false-of-not true h = absurd (h refl)
-false-of-not false h = refl
+-- standsAt: X and Y of some relation word are a front of what is left behind q
+pub stands-of-test : (B : List Word) (u : Word) (q j : ℕ) → j < length B → front (xyOf B j) (drop q u) ≡ true → standsAt B u q ≡ true
+unfolding standsAt
+stands-of-test B u q j h e = any-of (length B) (λ j. front (xyOf B j) (drop q u)) j h e
+
+pub test-of-stands : (B : List Word) (u : Word) (q : ℕ) → standsAt B u q ≡ true → (j : ℕ) × (j < length B) × (front (xyOf B j) (drop q u) ≡ true)
+unfolding standsAt
+test-of-stands B u q e = any-found (length B) (λ j. front (xyOf B j) (drop q u)) e
 
 -- a front of a word, by position
 pub same-take : (w : Word) (n : ℕ) → Same (take n w) 0 w 0 n
 same-take w n = record { at = λ k h. ap (λ m. getD (take n w) m 0) (omega arith) ∙ getD-take n w k 0 h ∙ ap (λ m. getD w m 0) (omega arith) }
+
+-- a clean front is a front, and cleanFront gives one
+pub front-of-clean : (B : List Word) (u : Word) (i : ℕ) → clean B u i ≡ true → front (xyOf B i) u ≡ true
+unfolding clean
+front-of-clean B u i e = (simp and-eq-true-iff at e) .0
+
+pub cleanFront-passes : (B : List Word) (u : Word) → cleanFront B u < length B → clean B u (cleanFront B u) ≡ true
+unfolding cleanFront
+cleanFront-passes B u h = least-passes (length B) (clean B u) h
 
 module _ {B : List Word} where
   -- the first n letters of relation word i are a front of what is left of u behind q
@@ -65,14 +79,16 @@ module _ {B : List Word} where
     whole-of-test u q i h e =
         let a = R .some i h in head-of-test u q i (len B i) (omega arith) (subst (λ (w : Word). front w (drop q u) ≡ true) (sym (take-length (word B i))) e)
 
-    -- standsAt: some XY stands there
+    -- X and Y of one relation word at most are a front of w
+    pub one-front : (w : Word) (i j : ℕ) → i < length B → j < length B → front (xyOf B i) w ≡ true → front (xyOf B j) w ≡ true → i ≡ j
+    one-front w i j h l e f = one-word R (front-of-test w 0 i h e) (front-of-test w 0 j l f)
+
+    -- some XY stands there, by position
     pub stands-found : (u : Word) (q : ℕ) → standsAt B u q ≡ true → (j : ℕ) × Front B u q j
-    unfolding standsAt
-    stands-found u q e = let f = any-found (length B) (λ j. front (xyOf B j) (drop q u)) e in (f .0, front-of-test u q (f .0) (f .1) (f .2))
+    stands-found u q e = let f = test-of-stands B u q e in (f .0, front-of-test u q (f .0) (f .1) (f .2))
 
     pub stands-of-front : {u : Word} {q j : ℕ} → Front B u q j → standsAt B u q ≡ true
-    unfolding standsAt
-    stands-of-front {u} {q} {j} h = any-of (length B) (λ j. front (xyOf B j) (drop q u)) j (h .there) (test-of-head h)
+    stands-of-front {u} {q} {j} h = stands-of-test B u q j (h .there) (test-of-head h)
 
     -- crowded: some XY begins from lo on and below hi
     pub crowded-found : (u : Word) (lo hi : ℕ) → crowded B u lo hi ≡ true → (q : ℕ) × (j : ℕ) × (lo ≤ q) × (q < hi) × Front B u q j
@@ -108,15 +124,14 @@ module _ {B : List Word} where
 
     pub test-of-clean : {u : Word} {i : ℕ} → Clean B u 0 i → clean B u i ≡ true
     unfolding clean
-    test-of-clean {u} {i} h = simp and-eq-true-iff (test-of-head (h .at), ap not (false-of-not (crowded B u (xlen B i + 1) (xylen B i)) none))
+    test-of-clean {u} {i} h = simp and-eq-true-iff (test-of-head (h .at), ap not (false-of (crowded B u (xlen B i + 1) (xylen B i)) none))
       where
         none : crowded B u (xlen B i + 1) (xylen B i) ≡ true → ⊥
         none e = let f = crowded-found u (xlen B i + 1) (xylen B i) e in h .only (f .0) (f .1) (omega (arith, f .2)) (omega (arith, f .3)) (f .4)
 
     -- cleanFront: the one clean front, if there is one
     pub cleanFront-clean : (u : Word) → cleanFront B u < length B → Clean B u 0 (cleanFront B u)
-    unfolding cleanFront
-    cleanFront-clean u h = clean-of-test u (cleanFront B u) h (least-passes (length B) (clean B u) h)
+    cleanFront-clean u h = clean-of-test u (cleanFront B u) h (cleanFront-passes B u h)
 
     pub cleanFront-none : (u : Word) → (cleanFront B u < length B → ⊥) → (i : ℕ) → Clean B u 0 i → ⊥
     unfolding cleanFront

@@ -9,15 +9,18 @@ use borrow.Author.Tests.{not-true}
 use lib.ListN.{length, take, drop}
 use Rattle.words.specs.Words.{Word, front, commonEnd}
 use Rattle.words.specs.Relations.{other}
+use Rattle.words.proofs.Relations.{Even, other-differs}
+use Rattle.words.proofs.Tests.{true-or-false, false-of, or-found}
 use Rattle.words.proofs.Picks.{or-left, or-right}
 use Rattle.words.proofs.Fronts.{front-split, front-append}
 use Rattle.overlap.specs.Pieces.{word}
 use Rattle.overlap.specs.Cuts.{len, xylen, xOf, xyOf, zOf}
+use Rattle.overlap.proofs.Facts.{length-xy}
 use Rattle.congruence.specs.Rows.{Next, choose, active, row3, row4, row5, row6, row7, row8}
 use Rattle.congruence.specs.Rows.Next.{end, go}
 use Rattle.congruence.proofs.Heads.{Facts, Front, Clean}
-use Rattle.congruence.proofs.RowTests.{true-or-false, false-of-not, test-of-head, active-found, active-none}
-use Rattle.congruence.proofs.Places.{xy-z, length-xy}
+use Rattle.congruence.proofs.RowTests.{by-choose, test-of-head, active-found, active-none}
+use Rattle.congruence.proofs.Places.{xy-z}
 use Rattle.congruence.proofs.Chains.{Kin, Chain, kin-refl, chain-sym, chain-behind, chain-from, chain-to, chain-turn}
 use Rattle.congruence.proofs.Activity.{Ending, ending-z, ending-rest, hangs-of-front, hangs-or-quiet}
 use Rattle.congruence.proofs.Activity.Ending.{nothing}
@@ -25,7 +28,7 @@ use Rattle.congruence.proofs.Merges.{Meets, Unlike, reached, chain-of-a
 use Rattle.congruence.proofs.CleanFronts.{PossibleFront, Parted, meets-of-wholes, rests-of-same, rests-of-left, rests-of-right, parted-of-unlikes}
 use Rattle.congruence.proofs.PossibleFronts.{possible-nothing, possible-along, possible-of-x, x-of-possible, possible-of-turn}
 use Rattle.congruence.proofs.CommonEnds.{longest-end}
-use Rattle.congruence.proofs.Sides.{half, Even, kin-other, kin-two, other-differs}
+use Rattle.congruence.proofs.Sides.{half, kin-other, kin-two}
 
 -- the question of a round
 abbrev pub Both : List Word → Word → Word → Word → Type 0
@@ -36,15 +39,6 @@ abbrev pub Says : List Word → Word → Word → Word → Next → Type 0
 Says B u v p (end true) = Both B u v p
 Says B u v p (end false) = Both B u v p → ⊥
 Says B u v p (go u′ v′ p′) = (Both B u v p ↔ Both B u′ v′ p′) × Ending B p′
-
-pub by-choose : {A : Type 0} (P : A → Type 0) (b : Bool) (x y : Unit {0} → A) → (b ≡ true → P (x tt)) → (b ≡ false → P (y tt)) → P (choose b x y)
-by-choose P true x y f g = f refl
-by-choose P false x y f g = g refl
-
--- a disjunction of tests
-pub or-found : (a b : Bool) → (a || b) ≡ true → (a ≡ true) ⊎ (b ≡ true)
-or-found true b e = inl refl
-or-found false b e = inr e
 
 -- a word that does not pass the test begins otherwise
 pub unlike-of-test : (z s : Word) → front z s ≡ false → Unlike z s
@@ -160,15 +154,15 @@ module _ {B : List Word} (R : Facts B) (even : Even B) (i : ℕ) (u v p : Word) 
   unfolding row7
   row7-says x y a b = by-choose (Says B u v p) (front (word B i) u && not (front (zOf B j) t)) _ _
       (λ q. let r = simp and-eq-true-iff at q in goes (r .0) (not-true (front (zOf B j) t) (r .1)))
-      (λ q. row8-says x y (unlike-of-test (zOf B i) s (left-unlike q)) (unlike-of-word B j v t v-is (false-of-not (front (word B j) v) (b (λ o. true≢false (sym o ∙ left-unlike q))))))
+      (λ q. row8-says x y (unlike-of-test (zOf B i) s (left-unlike q)) (unlike-of-word B j v t v-is (false-of (front (word B j) v) (b (λ o. true≢false (sym o ∙ left-unlike q))))))
     where
       v-is : v ≡ xyOf B j ++ t
       v-is = cut-xy B j v y
 
       left-unlike : (front (word B i) u && not (front (zOf B j) t)) ≡ false → front (zOf B i) s ≡ false
-      left-unlike q = false-of-not (front (zOf B i) s) (λ o.
+      left-unlike q = false-of (front (zOf B i) s) (λ o.
           let w = word-of-z B i u s u-is o in
-          let m : front (zOf B j) t ≡ false = false-of-not (front (zOf B j) t) (λ r. a w (word-of-z B j v t v-is r)) in
+          let m : front (zOf B j) t ≡ false = false-of (front (zOf B j) t) (λ r. a w (word-of-z B j v t v-is r)) in
           let yes-7 : (front (word B i) u && not (front (zOf B j) t)) ≡ true = simp and-eq-true-iff (w, ap not m) in
           true≢false (sym yes-7 ∙ q))
 
@@ -193,7 +187,7 @@ module _ {B : List Word} (R : Facts B) (even : Even B) (i : ℕ) (u v p : Word) 
   row6-says x y a = by-choose (Says B u v p) (not (front (zOf B i) s) && front (word B j) v) _ _
       (λ q. let r = simp and-eq-true-iff at q in goes (not-true (front (zOf B i) s) (r .0)) (r .1))
       (λ q. row7-says x y a (λ o w.
-      let m : front (zOf B i) s ≡ false = false-of-not (front (zOf B i) s) o in
+      let m : front (zOf B i) s ≡ false = false-of (front (zOf B i) s) o in
       let yes-6 : (not (front (zOf B i) s) && front (word B j) v) ≡ true = simp and-eq-true-iff (ap not m, w) in
       true≢false (sym yes-6 ∙ q)))
     where
@@ -243,7 +237,7 @@ module _ {B : List Word} (R : Facts B) (even : Even B) (i : ℕ) (u v p : Word) 
 
           unlike : Unlike (zOf B i) s ⊎ Unlike (zOf B i) (drop (xylen B i) v)
           unlike = ⊎-elim
-              (λ w. inr (unlike-of-word B i v (drop (xylen B i) v) v-is (false-of-not (front (word B i) v) (a w))))
+              (λ w. inr (unlike-of-word B i v (drop (xylen B i) v) v-is (false-of (front (word B i) v) (a w))))
               (λ w. inl (unlike-of-word B i u s u-is w))
               (true-or-false (front (word B i) u))
 

@@ -11,12 +11,14 @@ use native.Mathlib.Decide.{ℕ-discrete}
 use lib.ListN.{length, drop, length-append, length-drop}
 use lib.Seq.{drop-nil, drop-drop, drop-append-add}
 use Rattle.words.specs.Words.{Word, front}
+use Rattle.words.proofs.Relations.{Even}
 use Rattle.overlap.specs.Cuts.{xyOf, kOf}
 use Rattle.congruence.specs.Rows.{round}
-use Rattle.congruence.specs.Rows.Next.{end, go}
-use Rattle.congruence.proofs.ShapeQuiet.{Cut4, TailEnd, tail-drop, quiet-tail, tail-at-most, front-past-quiet}
+use Rattle.congruence.specs.Rows.Next.{go}
+use Rattle.congruence.proofs.Heads.{Facts}
+use Rattle.congruence.proofs.ShapeQuiet.{TailEnd, tail-drop, quiet-tail, tail-at-most, front-past-quiet}
 use Rattle.congruence.proofs.ShapeQuiet.TailEnd.{void}
-use Rattle.congruence.proofs.ShapeRows.{Recut, Moves, Paired, round-moves}
+use Rattle.congruence.proofs.ShapeRows.{Recut, Moves, round-moves}
 use Rattle.congruence.proofs.ShapeRows.Moves.{drops, cuts}
 
 -- u is `tail`, an end of a Z or nothing, and then u₀ without its first `from` letters
@@ -100,7 +102,7 @@ module _ (B : List Word) (u₀ u u′ : Word) (t : Tailed B u₀ u) where
       }
 
   -- an X and Y, and perhaps more, is cut and an end of a Z put before the rest
-  cut-lighter : Cut4 B → {z : Word} → Recut B u z u′ → Lighter B u₀ u u′ t z
+  cut-lighter : Facts B → {z : Word} → Recut B u z u′ → Lighter B u₀ u u′ t z
   cut-lighter c {z} r =
       let l = tailed-length B u₀ u t in
       let w = t .within in
@@ -132,7 +134,7 @@ pub record Lightened (B : List Word) (u₀ v₀ u v p u′ v′ p′ : Word) (h 
   pub first : weight B u₀ u′ (next .first) < weight B u₀ u (h .first)
   pub second : weight B v₀ v′ (next .second) < weight B v₀ v (h .second)
 
-module _ (B : List Word) (c : Cut4 B) (u₀ v₀ u v p u′ v′ p′ : Word) (h : Held B u₀ v₀ u v p) where
+module _ (B : List Word) (c : Facts B) (u₀ v₀ u v p u′ v′ p′ : Word) (h : Held B u₀ v₀ u v p) where
   moves-lighten : Moves B u v p u′ v′ p′ → Lightened B u₀ v₀ u v p u′ v′ p′ h
   moves-lighten (drops hu hv eu ev ep) =
       let a = drop-lighter B u₀ u u′ (h .first) hu eu in
@@ -158,9 +160,9 @@ module _ (B : List Word) (c : Cut4 B) (u₀ v₀ u v p u′ v′ p′ : Word) (h
         second = b .less;
       }
 
-  pub round-lightens : Paired B → round B u v p ≡ go u′ v′ p′ → Lightened B u₀ v₀ u v p u′ v′ p′ h
+  pub round-lightens : Even B → round B u v p ≡ go u′ v′ p′ → Lightened B u₀ v₀ u v p u′ v′ p′ h
   round-lightens e r = moves-lighten (round-moves B c e r)
 
   -- the shape is kept by every round
-  pub held-round : Paired B → round B u v p ≡ go u′ v′ p′ → Held B u₀ v₀ u′ v′ p′
+  pub held-round : Even B → round B u v p ≡ go u′ v′ p′ → Held B u₀ v₀ u′ v′ p′
   held-round e r = round-lightens e r .next

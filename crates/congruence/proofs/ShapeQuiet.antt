@@ -1,50 +1,31 @@
 -- Words in which no X and Y stands: ends of a Z are such words, so a front XY of z r reaches past z (document 003, Lemma 6).
-use Prim.Native.Nat.{ℕ, zero, suc, _+_, _-_, _≤_, _<_}
-use mathlib.Core.Bool.{Bool, true, false, true≢false}
+use Prim.Native.Nat.{ℕ, zero, suc, _+_, _≤_, _<_}
+use mathlib.Core.Bool.{true, false, true≢false}
 use mathlib.Core.Logic.{by-cases}
 use mathlib.Core.List.{List, [], _++_}
 use mathlib.Core.Path.{_≡_, refl, sym, ap, _∙_, subst}
 use native.Mathlib.Omega.{arith}
 use native.Mathlib.Decide.{decLt}
 use lib.ListN.{length, getD, drop, length-drop, List·getD-append}
-use lib.Seq.{length-take-le, drop-nil, drop-drop, getD-take, getD-drop}
+use lib.Seq.{drop-nil, drop-drop, getD-take, getD-drop}
 use Rattle.words.specs.Words.{Word, front}
-use Rattle.words.proofs.Searching.{any-of, any-found, greatest-bound}
+use Rattle.words.proofs.Tests.{false-of}
 use Rattle.words.proofs.Segments.{Same}
 use Rattle.words.proofs.Fronts.{front-at, at-front, front-same, front-fits}
 use Rattle.overlap.specs.Pieces.{word}
-use Rattle.overlap.specs.Cuts.{pieceAt, len, xlen, zlen, xylen, xyOf, zOf, zmost, kOf}
-use Rattle.overlap.proofs.Rigid.{Rigid}
+use Rattle.overlap.specs.Cuts.{len, zlen, xylen, xyOf, zOf, zmost, kOf}
+use Rattle.overlap.proofs.Facts.{z-bound, length-xy, length-z}
 use Rattle.congruence.specs.Rows.{standsAt}
-
--- the record of facts at the cut of the presentation itself
-abbrev pub Cut4 : List Word → Type 0
-Cut4 B = Rigid B (xlen B) (xylen B)
+use Rattle.congruence.proofs.Heads.{Facts}
+use Rattle.congruence.proofs.RowTests.{stands-of-test, test-of-stands}
 
 -- X and Y of no relation word stand anywhere in z
 pub record Quiet (B : List Word) (z : Word) : Type 0 where
   pub nowhere : (q : ℕ) → standsAt B z q ≡ false
 
--- a front at a place stands there
-pub stands-of-front : (B : List Word) (w : Word) (q j : ℕ) → j < length B → front (xyOf B j) (drop q w) ≡ true → standsAt B w q ≡ true
-unfolding standsAt
-stands-of-front B w q j h e = any-of (length B) (λ j. front (xyOf B j) (drop q w)) j h e
-
--- what stands at a place is a front there
-pub front-of-stands : (B : List Word) (w : Word) (q : ℕ) → standsAt B w q ≡ true → (j : ℕ) × (j < length B) × (front (xyOf B j) (drop q w) ≡ true)
-unfolding standsAt
-front-of-stands B w q e = any-found (length B) (λ j. front (xyOf B j) (drop q w)) e
-
 -- a front of z r that fits in z is a front of z
 pub front-of-part : (a z r : Word) → length a ≤ length z → front a (z ++ r) ≡ true → front a z ≡ true
 front-of-part a z r h e = at-front a z h (λ k l. front-at a (z ++ r) e k l ∙ List·getD-append z r 0 k (omega arith))
-
--- the lengths of X with Y and of Z
-pub xy-length : (B : List Word) → Cut4 B → (i : ℕ) → i < length B → length (xyOf B i) ≡ xylen B i
-xy-length B c i h = let w = c .within i h in length-take-le (xylen B i) (word B i) (omega arith)
-
-pub z-length : (B : List Word) → Cut4 B → (i : ℕ) → i < length B → xylen B i + length (zOf B i) ≡ len B i
-z-length B c i h = let w = c .within i h in let d = length-drop (xylen B i) (word B i) in omega arith
 
 -- no Z is longer than document 01's k
 z-most : (B : List Word) (n i : ℕ) → i < n → zlen B i ≤ zmost B n
@@ -55,33 +36,32 @@ z-most B (suc n) i h = by-cases (decLt i n)
     (λ a. let e : zlen B i ≡ zlen B n = ap (zlen B) (omega arith) in omega arith)
 
 pub z-at-most : (B : List Word) (i : ℕ) → i < length B → length (zOf B i) ≤ kOf B
-z-at-most B i h = let m = z-most B (length B) i h in let d = length-drop (xylen B i) (word B i) in omega arith
+z-at-most B i h = let m = z-most B (length B) i h in let d = length-z B i in omega arith
 
 -- k is at most the length of the longest relation word
 most-at-most : (B : List Word) (n m : ℕ) → ((i : ℕ) → i < n → len B i ≤ m) → zmost B n ≤ m
-unfolding zmost zlen
+unfolding zmost
 most-at-most B zero m f = omega arith
 most-at-most B (suc n) m f =
     let r = most-at-most B n m (λ i h. f i (omega arith)) in
     let l = f n (omega arith) in
-    let g = greatest-bound (len B n) (λ k. pieceAt B n (len B n - k) k) in
+    let g = z-bound B n in
     omega arith
 
 pub k-at-most : (B : List Word) (m : ℕ) → ((i : ℕ) → i < length B → len B i ≤ m) → kOf B ≤ m
 k-at-most B m f = most-at-most B (length B) m f
 
 -- nothing stands in the empty word
-pub quiet-nil : (B : List Word) → Cut4 B → Quiet B []
-quiet-nil B c = record { nowhere = λ q. go q (standsAt B [] q) refl }
+pub quiet-nil : (B : List Word) → Facts B → Quiet B []
+quiet-nil B c = record { nowhere = λ q. false-of (standsAt B [] q) (none q) }
   where
-    go : (q : ℕ) (t : Bool) → standsAt B [] q ≡ t → t ≡ false
-    go q false e = refl
-    go q true e =
-        let f = front-of-stands B [] q e in
-        let l = xy-length B c (f .0) (f .1) in
+    none : (q : ℕ) → standsAt B [] q ≡ true → ⊥
+    none q e =
+        let f = test-of-stands B [] q e in
+        let l = length-xy B (f .0) in
         let s = c .some (f .0) (f .1) in
         let r = front-fits (xyOf B (f .0)) [] q (omega arith) (f .2) in
-        absurd (omega arith)
+        omega arith
 
 -- nothing stands in an end of a word in which nothing stands
 pub quiet-drop : (B : List Word) (z : Word) (a : ℕ) → Quiet B z → Quiet B (drop a z)
@@ -89,19 +69,19 @@ unfolding standsAt
 quiet-drop B z a h = record { nowhere = λ q. rw drop-drop (h .nowhere (a + q)) }
 
 -- nothing stands in a Z: X and Y stand at the start of their own relation word only
-pub quiet-z : (B : List Word) → Cut4 B → (i : ℕ) → i < length B → Quiet B (zOf B i)
-quiet-z B c i h = record { nowhere = λ q. go q (standsAt B (zOf B i) q) refl }
+pub quiet-z : (B : List Word) → Facts B → (i : ℕ) → i < length B → Quiet B (zOf B i)
+quiet-z B c i h = record { nowhere = λ q. false-of (standsAt B (zOf B i) q) (none q) }
   where
-    go : (q : ℕ) (t : Bool) → standsAt B (zOf B i) q ≡ t → t ≡ false
-    go q false e = refl
-    go q true e =
-        let f = front-of-stands B (zOf B i) q e in
-        let l = xy-length B c (f .0) (f .1) in
+    none : (q : ℕ) → standsAt B (zOf B i) q ≡ true → ⊥
+    none q e =
+        let f = test-of-stands B (zOf B i) q e in
+        let l = length-xy B (f .0) in
         let s = c .some (f .0) (f .1) in
         let s′ = c .some i h in
         let w = c .within (f .0) (f .1) in
         let w′ = c .within i h in
-        let z = z-length B c i h in
+        let z = length-z B i in
+        let y = z-bound B i in
         let r = front-fits (xyOf B (f .0)) (zOf B i) q (omega arith) (f .2) in
         let m = front-same (xyOf B (f .0)) (zOf B i) q (f .2) in
         let n : Same (word B (f .0)) 0 (word B i) (xylen B i + q) (xylen B (f .0)) =
@@ -111,7 +91,7 @@ quiet-z B c i h = record { nowhere = λ q. go q (standsAt B (zOf B i) q) refl }
         }
         in
         let p = c .marker (f .0) i (xylen B i + q) (xylen B (f .0)) (f .1) h (omega arith) (omega arith) (omega arith) n in
-        absurd (omega arith)
+        omega arith
 
 -- a word that is empty or an end of a Z
 pub data TailEnd (B : List Word) (z : Word) : Type 0 where
@@ -128,7 +108,7 @@ tail-drop B z n (void e) = void (rw e (drop-nil n))
 tail-drop B z n (endOf i a h e) = endOf i (a + n) h (rw e (drop-drop n a (zOf B i)))
 
 -- X and Y stand in none
-pub quiet-tail : (B : List Word) → Cut4 B → (z : Word) → TailEnd B z → Quiet B z
+pub quiet-tail : (B : List Word) → Facts B → (z : Word) → TailEnd B z → Quiet B z
 quiet-tail B c z (void e) = subst (Quiet B) (sym e) (quiet-nil B c)
 quiet-tail B c z (endOf i a h e) = subst (Quiet B) (sym e) (quiet-drop B (zOf B i) a (quiet-z B c i h))
 
@@ -138,7 +118,7 @@ tail-at-most B z (void e) = rw e (omega arith)
 tail-at-most B z (endOf i a h e) = let m = z-at-most B i h in let d = length-drop a (zOf B i) in rw e (omega arith)
 
 -- a front XY of z r, nothing standing in z, is longer than z
-pub front-past-quiet : (B : List Word) → Cut4 B → (z r : Word) (j : ℕ) → Quiet B z → j < length B → front (xyOf B j) (z ++ r) ≡ true → length z < xylen B j
+pub front-past-quiet : (B : List Word) → Facts B → (z r : Word) (j : ℕ) → Quiet B z → j < length B → front (xyOf B j) (z ++ r) ≡ true → length z < xylen B j
 front-past-quiet B c z r j s h e = by-cases (decLt (length z) (xylen B j)) (λ a. a) (λ a.
-    let l = xy-length B c j h in
-    absurd (true≢false (sym (stands-of-front B z 0 j h (front-of-part (xyOf B j) z r (omega arith) e)) ∙ s .nowhere 0)))
+    let l = length-xy B j in
+    absurd (true≢false (sym (stands-of-test B z 0 j h (front-of-part (xyOf B j) z r (omega arith) e)) ∙ s .nowhere 0)))

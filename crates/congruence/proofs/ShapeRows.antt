@@ -1,9 +1,9 @@
 -- What a round makes of its three words, whichever row fits: it drops a letter of each (row 2), or it cuts at least an X and Y from u and from v
 -- and puts an end of a Z before what is left (rows 4 to 8).
-use Prim.Native.Nat.{ℕ, _+_, _-_, _%_, _≤_, _<_}
-use mathlib.Core.Bool.{Bool, true, false, _&&_, _||_, not, true≢false, and-eq-true-iff}
+use Prim.Native.Nat.{ℕ, _+_, _-_, _≤_, _<_}
+use mathlib.Core.Bool.{Bool, true, _&&_, _||_, not, and-eq-true-iff}
 use mathlib.Core.Logic.{_⊎_, inl, inr}
-use mathlib.Core.List.{List, [], _∷_, _++_}
+use mathlib.Core.List.{List, [], _++_}
 use mathlib.Core.Path.{_≡_, refl, _∙_, subst}
 use native.Mathlib.Omega.{arith}
 use lib.Dec.{ltb}
@@ -11,14 +11,19 @@ use borrow.Author.Tests.{ltb-true}
 use lib.ListN.{length, take, drop, length-take, length-drop}
 use lib.Seq.{drop-drop, getD-take}
 use Rattle.words.specs.Words.{Word, isEmpty, front, commonEnd}
-use Rattle.words.specs.Relations.{Relation, sides, other}
-use Rattle.words.proofs.Searching.{least-passes}
+use Rattle.words.specs.Relations.{other}
+use Rattle.words.proofs.Tests.{or-second, or-neither}
+use Rattle.words.proofs.Lists.{some-letter}
+use Rattle.words.proofs.Relations.{Even, other-there}
 use Rattle.words.proofs.Fronts.{front-length, front-at, at-front}
 use Rattle.overlap.specs.Pieces.{word}
 use Rattle.overlap.specs.Cuts.{len, xylen, xOf, xyOf, zOf}
+use Rattle.overlap.proofs.Facts.{length-xy}
 use Rattle.congruence.specs.Rows.{Next, choose, clean, cleanFront, active, dropFirst, alike, row3, row4, row5, row6, row7, row8, fromFront, round}
 use Rattle.congruence.specs.Rows.Next.{end, go}
-use Rattle.congruence.proofs.ShapeQuiet.{Cut4, TailEnd, tail-of-z, tail-drop, xy-length}
+use Rattle.congruence.proofs.Heads.{Facts}
+use Rattle.congruence.proofs.RowTests.{by-choose, front-of-clean, cleanFront-passes}
+use Rattle.congruence.proofs.ShapeQuiet.{TailEnd, tail-of-z, tail-drop}
 use Rattle.congruence.proofs.ShapeQuiet.TailEnd.{void}
 
 -- u begins with an X and Y; `size` letters, these among them, are cut from it, and u′ is z, an end of a Z, and what is left
@@ -42,16 +47,6 @@ pub data MovesTo (B : List Word) (u v p : Word) : Next → Type 0 where
   ends : {b : Bool} → MovesTo B u v p (end b)
   moves : {u′ v′ p′ : Word} → Moves B u v p u′ v′ p′ → MovesTo B u v p (go u′ v′ p′)
 
--- a property of both choices, each where it is chosen
-pub by-choose : {A : Type 0} (P : A → Type 0) (b : Bool) (x y : Unit {0} → A) → (b ≡ true → P (x tt)) → (b ≡ false → P (y tt)) → P (choose b x y)
-by-choose P true x y f g = f refl
-by-choose P false x y f g = g refl
-
--- of two tests, one of which holds, the second holds where the first does not
-pub or-second : (a b : Bool) → (a || b) ≡ true → a ≡ false → b ≡ true
-or-second true b h e = absurd (true≢false e)
-or-second false b h e = h
-
 -- a front of a front
 pub front-take : (n : ℕ) (a u : Word) → front a u ≡ true → front (take n a) u ≡ true
 front-take n a u e =
@@ -59,12 +54,7 @@ front-take n a u e =
     let t = length-take n a in
     at-front (take n a) u (omega arith) (λ k h. getD-take n a k 0 (omega arith) ∙ front-at a u e k (omega arith))
 
--- a word that is not empty has a letter
-some-letter : (u : Word) → isEmpty u ≡ false → 0 < length u
-some-letter [] e = absurd (true≢false e)
-some-letter (x ∷ u) e = omega arith
-
-module _ (B : List Word) (c : Cut4 B) where
+module _ (B : List Word) (c : Facts B) where
   -- a word that begins with a whole relation word, cut by it
   cut-whole : (i : ℕ) (u z : Word) → i < length B → TailEnd B z → front (word B i) u ≡ true → Recut B u z (z ++ drop (len B i) u)
   cut-whole i u z h t e =
@@ -95,11 +85,11 @@ module _ (B : List Word) (c : Cut4 B) where
       }
 
   cut-xy : (i : ℕ) (u : Word) → i < length B → front (xyOf B i) u ≡ true → Recut B u [] (drop (xylen B i) u)
-  cut-xy i u h e = let l = front-length (xyOf B i) u e in let m = xy-length B c i h in cut-front i 0 u h (omega arith) e
+  cut-xy i u h e = let l = front-length (xyOf B i) u e in let m = length-xy B i in cut-front i 0 u h (omega arith) e
 
   fits-front : (i : ℕ) (e u : Word) → i < length B → front (xyOf B i) u ≡ true → front e (drop (xylen B i) u) ≡ true → length e + xylen B i ≤ length u
   fits-front i e u h f g =
-      let l = xy-length B c i h in
+      let l = length-xy B i in
       let m = front-length (xyOf B i) u f in
       let k = front-length e (drop (xylen B i) u) g in
       let d = length-drop (xylen B i) u in
@@ -177,49 +167,22 @@ unfolding dropFirst
 drop-moves B u v p hu hv =
     by-choose (MovesTo B u v p) (alike u v && (isEmpty p || alike p u)) _ _ (λ h. moves (drops hu hv refl refl refl)) (λ h. ends)
 
--- a clean front is a front
-front-of-clean : (B : List Word) (u : Word) (i : ℕ) → clean B u i ≡ true → front (xyOf B i) u ≡ true
-unfolding clean
-front-of-clean B u i e = (simp and-eq-true-iff at e) .0
-
--- the relation word that cleanFront gives has a clean front
-clean-front : (B : List Word) (u : Word) → cleanFront B u < length B → clean B u (cleanFront B u) ≡ true
-unfolding cleanFront
-clean-front B u h = least-passes (length B) (clean B u) h
-
--- relation words come in twos
-abbrev pub Paired : List Word → Type 0
-Paired B = length B % 2 ≡ 0
-
-pub sides-paired : (rs : List Relation) → Paired (sides rs)
-unfolding sides
-sides-paired [] = refl
-sides-paired (r ∷ rs) = let e = sides-paired rs in omega arith
-
-pub other-there : (B : List Word) → Paired B → (i : ℕ) → i < length B → other i < length B
-other-there B e i h = omega arith
-
-from-moves : (B : List Word) → Cut4 B → Paired B → (u v p : Word) (i : ℕ) → 0 < length u → 0 < length v → (i < length B → clean B u i ≡ true) → MovesTo B u v p (fromFront B u v p i)
+from-moves : (B : List Word) → Facts B → Even B → (u v p : Word) (i : ℕ) → 0 < length u → 0 < length v → (i < length B → clean B u i ≡ true) → MovesTo B u v p (fromFront B u v p i)
 unfolding fromFront
 from-moves B c e u v p i hu hv f =
     by-choose (MovesTo B u v p) (ltb i (length B)) _ _
-    (λ h. let l = ltb-true i (length B) h in row3-moves B c i (other i) l (other-there B e i l) u v p (front-of-clean B u i (f l)))
+    (λ h. let l = ltb-true i (length B) h in row3-moves B c i (other i) l (other-there (length B) i e l) u v p (front-of-clean B u i (f l)))
     (λ h. drop-moves B u v p hu hv)
 
--- neither of two tests holds
-or-neither : (a b : Bool) → (a || b) ≡ false → (a ≡ false) × (b ≡ false)
-or-neither true b h = absurd (true≢false h)
-or-neither false b h = (refl, h)
-
-pub round-moves-to : (B : List Word) → Cut4 B → Paired B → (u v p : Word) → MovesTo B u v p (round B u v p)
+pub round-moves-to : (B : List Word) → Facts B → Even B → (u v p : Word) → MovesTo B u v p (round B u v p)
 unfolding round
 round-moves-to B c e u v p =
     by-choose (MovesTo B u v p) (isEmpty u || isEmpty v) _ _ (λ h. ends) (λ h.
     let n = or-neither (isEmpty u) (isEmpty v) h in
-    from-moves B c e u v p (cleanFront B u) (some-letter u (n .0)) (some-letter v (n .1)) (clean-front B u))
+    from-moves B c e u v p (cleanFront B u) (some-letter u (n .0)) (some-letter v (n .1)) (cleanFront-passes B u))
 
 -- every round that goes on makes one of the two changes
-pub round-moves : (B : List Word) → Cut4 B → Paired B → {u v p u′ v′ p′ : Word} → round B u v p ≡ go u′ v′ p′ → Moves B u v p u′ v′ p′
+pub round-moves : (B : List Word) → Facts B → Even B → {u v p u′ v′ p′ : Word} → round B u v p ≡ go u′ v′ p′ → Moves B u v p u′ v′ p′
 round-moves B c e {u} {v} {p} {u′} {v′} {p′} r = moved (subst (MovesTo B u v p) r (round-moves-to B c e u v p))
   where
     moved : MovesTo B u v p (go u′ v′ p′) → Moves B u v p u′ v′ p′

@@ -1,13 +1,14 @@
 -- Families of two: the two sides of a relation are numbers 2k and 2k + 1 (document 01, "Book bytes"). Rewrite steps of relations and steps of these families join the same words.
-use Prim.Native.Nat.{ℕ, _/_, _%_, _<_}
-use mathlib.Core.List.{List, [], _∷_, _++_}
-use mathlib.Core.Path.{_≡_, refl, sym, ap, _∙_, subst}
+use Prim.Native.Nat.{ℕ, _/_, _<_}
+use mathlib.Core.List.{List, _++_}
+use mathlib.Core.Path.{_≡_, sym, ap, _∙_, subst}
 use mathlib.Core.Logic.{by-cases, ⊎-elim, _⊎_, inl, inr}
 use native.Mathlib.Omega.{arith}
 use native.Mathlib.Decide.{ℕ-discrete}
 use lib.ListN.{length}
 use Rattle.words.specs.Words.{Word}
-use Rattle.words.specs.Relations.{Relation, sides, other}
+use Rattle.words.specs.Relations.{other}
+use Rattle.words.proofs.Relations.{Even, other-there}
 use Rattle.overlap.specs.Pieces.{word}
 use Rattle.congruence.specs.Congruence.{Congruent}
 use Rattle.congruence.specs.Congruence.Congruent.{done, then}
@@ -18,21 +19,9 @@ use Rattle.congruence.proofs.Chains.Chain.{stop, step}
 abbrev pub half : ℕ → ℕ
 half i = i / 2
 
--- every relation word has its other side
-abbrev pub Even : List Word → Type 0
-Even B = length B % 2 ≡ 0
-
-pub even-sides : (rs : List Relation) → Even (sides rs)
-unfolding sides
-even-sides [] = refl
-even-sides (r ∷ rs) = let e = even-sides rs in omega arith
-
-pub other-differs : (i : ℕ) → i ≡ other i → ⊥
-other-differs i e = omega arith
-
 module _ {B : List Word} where
   pub kin-other : (i : ℕ) → Even B → i < length B → Kin B half i (other i)
-  kin-other i e h = record { here = h; there = omega arith; same = omega arith }
+  kin-other i e h = record { here = h; there = other-there (length B) i e h; same = omega arith }
 
   pub kin-two : {i j : ℕ} → Kin B half i j → (i ≡ j) ⊎ (j ≡ other i)
   kin-two {i} {j} k = let s = k .same in by-cases (ℕ-discrete i j) inl (λ n. inr (omega arith))

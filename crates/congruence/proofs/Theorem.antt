@@ -1,28 +1,27 @@
 -- The rows decide congruence, put together: that they end and how soon (Bound), what they say (RoundRight), and the allowance (Allowance).
-use Prim.Native.Nat.{ℕ, _≤_, _<_}
+use Prim.Native.Nat.{ℕ, _≤_}
 use mathlib.Core.Bool.{Bool, true, false, true≢false, false≢true}
 use mathlib.Core.List.{List, []}
 use mathlib.Core.Logic.{_↔_}
-use mathlib.Core.Path.{_≡_, refl, sym, ap, _∙_, subst}
-use native.Mathlib.Omega.{arith}
+use mathlib.Core.Path.{_≡_, refl}
 use Rattle.words.specs.Words.{Word}
-use Rattle.words.specs.Relations.{Relation, sides}
-use Rattle.overlap.specs.Pieces.{C4}
+use Rattle.words.specs.Relations.{sides}
+use Rattle.words.proofs.Relations.{Even, even-sides}
 use Rattle.overlap.proofs.Facts.{rigid-of-c4}
 use Rattle.congruence.specs.Congruence.{Congruent}
-use Rattle.congruence.specs.Rounds.{Rounds, Answer, ending, compareUnder}
-use Rattle.congruence.specs.Rounds.Answer.{same, different, spent}
+use Rattle.congruence.specs.Rounds.{Rounds, compareUnder}
+use Rattle.congruence.specs.Rounds.Answer.{same, different}
 use Rattle.congruence.specs.Theorem.{Decided, RowsDecide, Reached, EndOfTail, TailThenRest, ComparisonShape}
 use Rattle.congruence.specs.Theorem.Reached.{begun, on}
-use Rattle.congruence.proofs.ShapeQuiet.{TailEnd, Cut4}
+use Rattle.congruence.proofs.Heads.{Facts}
+use Rattle.congruence.proofs.ShapeQuiet.{TailEnd}
 use Rattle.congruence.proofs.ShapeQuiet.TailEnd.{void, endOf}
-use Rattle.congruence.proofs.ShapeRows.{Paired, sides-paired}
 use Rattle.congruence.proofs.Shape.{Tailed, Held, held-start, held-round}
-use Rattle.congruence.proofs.Bound.{RoundsOf, rounds-exist, rounds-unique, rounds-at-most}
+use Rattle.congruence.proofs.Bound.{rounds-exist, rounds-unique, rounds-at-most}
 use Rattle.congruence.proofs.Allowance.{ended-iff, enough-of-ended, spent-iff}
 use Rattle.congruence.proofs.RoundRight.{rounds-right}
 
-module _ (B : List Word) (c : Cut4 B) (even : Paired B) (u v : Word) where
+module _ (B : List Word) (c : Facts B) (even : Even B) (u v : Word) where
   -- a result that both says and denies
   says : {n : ℕ} (b : Bool) → Rounds B u v [] n b → ((b ≡ true) ↔ Congruent B u v) × ((b ≡ false) ↔ (¬ Congruent B u v))
   says true r = let s = rounds-right c even r in (((λ e. s .0 e), (λ _. refl)), ((λ e. absurd (true≢false e)), (λ f. absurd (f (s .0 refl)))))
@@ -66,10 +65,10 @@ module _ (B : List Word) (c : Cut4 B) (even : Paired B) (u v : Word) where
       }
 
 pub rows-decide : RowsDecide
-rows-decide relations c u v = decided (sides relations) (rigid-of-c4 (sides relations) c) (sides-paired relations) u v
+rows-decide relations c u v = decided (sides relations) (rigid-of-c4 (sides relations) c) (even-sides relations) u v
 
 -- the shape, along the rounds
-held-reached : (B : List Word) → Cut4 B → Paired B → (u v : Word) {u₁ v₁ p₁ : Word} → Reached B u v u₁ v₁ p₁ → Held B u v u₁ v₁ p₁
+held-reached : (B : List Word) → Facts B → Even B → (u v : Word) {u₁ v₁ p₁ : Word} → Reached B u v u₁ v₁ p₁ → Held B u v u₁ v₁ p₁
 held-reached B c even u v begun = held-start B u v
 held-reached B c even u v (on {u₁ = u₁} {v₁ = v₁} {p₁ = p₁} {u₂ = u₂} {v₂ = v₂} {p₂ = p₂} r e) =
     held-round B c u v u₁ v₁ p₁ u₂ v₂ p₂ (held-reached B c even u v r) even e
@@ -83,5 +82,5 @@ tail-then-rest t = record { tail = t .tail; from = t .from; ends = end-of-tail (
 
 pub comparison-shape : ComparisonShape
 comparison-shape relations c u v u₁ v₁ p₁ r =
-    let h = held-reached (sides relations) (rigid-of-c4 (sides relations) c) (sides-paired relations) u v r in
+    let h = held-reached (sides relations) (rigid-of-c4 (sides relations) c) (even-sides relations) u v r in
     (tail-then-rest (h .first), tail-then-rest (h .second), end-of-tail (h .mark))

@@ -11,9 +11,10 @@ use Rattle.words.specs.Words.{Word}
 use Rattle.words.proofs.Segments.{Same, same-sym, same-sub}
 use Rattle.overlap.specs.Pieces.{word}
 use Rattle.overlap.specs.Cuts.{xylen, xyOf, zOf}
+use Rattle.overlap.proofs.Facts.{length-xy}
 use Rattle.congruence.proofs.Heads.{Facts, Front, Whole, Clean, head-move, one-word, clean-of-whole, front-of-whole}
 use Rattle.congruence.proofs.RowTests.{clean-or-crowded}
-use Rattle.congruence.proofs.Places.{split-longer, split-same, same-lefts, xy-z, length-xy, whole-in-product}
+use Rattle.congruence.proofs.Places.{split-longer, split-same, same-lefts, xy-z, whole-in-product}
 use Rattle.congruence.proofs.Chains.{Kin, Step, Chain, kin-refl, kin-trans, chain-join, chain-behind, chain-from, chain-to, chain-turn, chain-of-eq}
 use Rattle.congruence.proofs.Chains.Chain.{stop, step}
 use Rattle.congruence.proofs.Guards.{Guard, guard-move, none-before, guard-further}

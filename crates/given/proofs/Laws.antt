@@ -1,4 +1,4 @@
--- A law for each way that the checks of given words can go.
+-- A law for each way that the checks of given words can go, and what words that are fine are.
 use Prim.Native.Nat.{ℕ, _<_, _≤_}
 use mathlib.Core.Bool.{Bool, true, false}
 use mathlib.Core.Path.{_≡_, refl, sym, _∙_}
@@ -19,7 +19,7 @@ use Rattle.format.specs.Limits.{comparedMost, roundMost, markMost, wordOf}
 use Rattle.format.specs.Book.{firstUnknown}
 use Rattle.given.specs.declared.Given.{Given}
 use Rattle.given.specs.declared.Given.the-variants.{Fine, Refused}
-use Rattle.given.specs.Given.{givenOf, pairOf, tripleOf}
+use Rattle.given.specs.Given.{givenOf, andThen, pairOf, tripleOf}
 
 -- what the word's constructor answers
 module _ (most n : ℕ) where
@@ -95,3 +95,20 @@ module _ (letters : ℕ) (u v p : Word) (a : Given) (e : a ≡ givenOf 0 roundMo
     triple-third c k l = rw (← e, f, ← g, k) l
 
 pub ruleset triples = (triple-first, triple-second, triple-third, needs)
+
+-- a word that is fine is within its limit
+pub fine-short : (number most letters : ℕ) (w : Word) → givenOf number most letters w ≡ Fine → length w ≤ most
+unfolding givenOf
+fine-short number most letters w e = go (ltb most (length w)) refl
+  where
+    go : (t : Bool) → ltb most (length w) ≡ t → length w ≤ most
+    go true q =
+        let d : Refused (Long number) ≡ Fine = rw q at e in
+        let z : _≡_ {A = ℕ} 0 1 = cc in
+        absurd (omega arith)
+    go false q = ltb-false most (length w) q
+
+-- where both are fine, each is
+pub fine-both : (g h : Given) → andThen g h ≡ Fine → (g ≡ Fine) × (h ≡ Fine)
+fine-both Fine h e = (refl, e)
+fine-both (Refused r) h e = let z : _≡_ {A = ℕ} 0 1 = cc in absurd (omega arith)

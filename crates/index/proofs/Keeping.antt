@@ -1,14 +1,13 @@
 -- A table whose index changes keeps its relation words, their positions and their cuts.
-use Prim.Native.Nat.{ℕ, zero, suc, _+_, _*_, _-_, _≤_, _<_}
-use mathlib.Core.Bool.{Bool, true, false, cond}
-use mathlib.Core.List.{List, [], _∷_, _++_}
-use mathlib.Core.Path.{_≡_, refl, sym, ap, _∙_, subst}
+use Prim.Native.Nat.{ℕ, _+_, _*_, _≤_, _<_}
+use mathlib.Core.List.{List}
+use mathlib.Core.Path.{_≡_, refl, sym, _∙_, subst}
 use native.Mathlib.Omega.{arith}
-use lib.ListN.{length, getD, set, length-set}
-use lib.Seq.{getD-set-other, getD-set-same}
-use Rattle.overlap.specs.Cuts.{xlen, zlen}
-use Rattle.layout.specs.Layout.{startOf, xEndOf, zStartOf, endOf, part, wordsIn, Laid, Cut, Checked}
+use lib.ListN.{set, length-set}
+use lib.Seq.{getD-set-other}
+use Rattle.layout.specs.Layout.{startOf, endOf, wordsIn, Laid, Cut, Checked}
 use Rattle.overlap.specs.Pieces.{C4}
+use Rattle.layout.proofs.Placed.{words-of-places, laid-of-places}
 use Rattle.index.specs.Making.{Kept, IndexMade}
 
 pub kept-refl : (t : List ℕ) → Kept t t
@@ -28,41 +27,10 @@ module _ (t u : List ℕ) (g : Kept t u) where
   end-kept k h = g .same (4 * k + 3) (omega arith)
 
   pub laid-kept : (text : List ℕ) (n : ℕ) → Laid text t n → Laid text u n
-  laid-kept text n l =
-      let f = l .few in
-      let e = g .long in
-      let s = start-kept n f in
-      record {
-        few = f;
-        room = omega (arith, l .room);
-        inside = omega (arith, l .inside);
-        first = start-kept 0 (omega arith) ∙ l .first;
-        next = λ i h.
-            let a = start-kept (i + 1) (omega arith) in
-            let b = end-kept i (omega arith) in
-            let c = l .next i h in
-            omega arith;
-        some = λ i h.
-            let a = start-kept i (omega arith) in
-            let b = end-kept i (omega arith) in
-            let c = l .some i h in
-            omega arith;
-        short = λ i h.
-            let a = start-kept i (omega arith) in
-            let b = end-kept i (omega arith) in
-            let c = l .short i h in
-            omega arith;
-        letters = λ i q h x y.
-            let a = start-kept i (omega arith) in
-            let b = end-kept i (omega arith) in
-            l .letters i q h (omega arith) (omega arith);
-        fence = λ i h. rw (end-kept i (omega arith)) (l .fence i h);
-      }
+  laid-kept text n l = laid-of-places text t u n (λ i h. start-kept i (omega (arith, l .few))) (λ i h. end-kept i (omega (arith, l .few))) (g .long) l
 
   pub words-kept : (text : List ℕ) (n : ℕ) → n ≤ 64 → wordsIn text u n ≡ wordsIn text t n
-  unfolding wordsIn
-  words-kept text zero h = refl
-  words-kept text (suc n) h = rw (words-kept text n (omega arith), start-kept n (omega arith), end-kept n (omega arith))
+  words-kept text n f = words-of-places text t u n (λ i h. start-kept i (omega arith)) (λ i h. end-kept i (omega arith))
 
   pub cut-kept : (text : List ℕ) (n : ℕ) → n ≤ 64 → Cut text t n → Cut text u n
   cut-kept text n f c =

@@ -1,21 +1,23 @@
 -- The laws of reading and comparing a word that is given as two slices.
-use Prim.Native.Nat.{ℕ, zero, suc, _+_, _-_, _≤_, _<_, min}
-use mathlib.Core.Bool.{Bool, true, false, _&&_}
-use mathlib.Core.List.{List, [], _∷_, _++_}
-use mathlib.Core.Path.{_≡_, refl, sym, ap, _∙_, subst}
+use Prim.Native.Nat.{ℕ, _+_, _-_, _≤_, _<_, min}
+use mathlib.Core.Bool.{true, false}
+use mathlib.Core.List.{_++_}
+use mathlib.Core.Path.{_≡_, sym, ap, _∙_, subst}
 use mathlib.Core.Logic.{by-cases}
 use native.Mathlib.Omega.{arith}
-use native.Mathlib.Decide.{decLt, decLe, ℕ-discrete}
+use native.Mathlib.Decide.{decLt, ℕ-discrete}
 use lib.Dec.{eqb, ltb}
 use borrow.Author.Needs.{needs}
-use borrow.Author.Tests.{lt-ltb, le-ltb, eqb-true, eqb-false, eq-eqb, ne-eqb}
-use lib.ListN.{length, getD, take, drop, length-append, length-take, length-drop, List·getD-append, drop-of-length-le}
-use lib.Seq.{take-nil, getD-take, getD-drop, getD-append-add, drop-drop, drop-append-le, drop-append-add}
+use borrow.Author.Tests.{lt-ltb, le-ltb, eq-eqb, ne-eqb}
+use lib.ListN.{length, getD, drop, length-append, length-drop, List·getD-append, drop-of-length-le}
+use lib.Seq.{getD-drop, getD-append-add, drop-append-le}
 use mir.Syntax.{w64}
 use mir.Val.{Fits}
 use Rattle.words.specs.Words.{Word, front, common}
-use Rattle.words.proofs.Commons.{common-within, common-at, common-most, common-differ, common-is, common-front, common-no-front, front-common, common-before, common-through, common-reaches, common-shorter, common-empty}
+use Rattle.words.proofs.Lists.{drop-past}
+use Rattle.words.proofs.Commons.{common-within, common-at, common-most, common-is, common-front, common-no-front, common-before, common-through, common-reaches, common-shorter, common-empty}
 use Rattle.layout.specs.Layout.{part}
+use Rattle.layout.proofs.Parts.{part-length, part-at, part-drop}
 use Rattle.index.specs.Index.{hasPlace, hasLetter, Span, Agreed}
 
 -- the letter of a ++ b at a place of a, and at a place of b
@@ -51,16 +53,6 @@ letter-none a b q x h k = let l = length-append a b in rw (le-ltb q (length (a +
 
 pub ruleset letters = (left-at, right-at, place-left, place-right, letter-left, letter-right, letter-none, needs)
 
--- the letters and the length of a part of the text
-pub part-at : (text : Word) (from to k : ℕ) → k < to - from → getD (part text from to) k 0 ≡ getD text (from + k) 0
-part-at text from to k h = getD-take (to - from) (drop from text) k 0 h ∙ getD-drop from text k 0
-
-pub part-length : (text : Word) (from to : ℕ) → Span text from to → length (part text from to) ≡ to - from
-part-length text from to s =
-    let l = length-take (to - from) (drop from text) in
-    let d = length-drop from text in
-    omega (arith, s .upwards, s .inside)
-
 -- i letters of the part agree with s at place q, and at most n can
 pub record Along (text : Word) (from to : ℕ) (s : Word) (q n i : ℕ) : Type 0 where
   pub upwards : from ≤ to
@@ -78,7 +70,7 @@ module _ (text : Word) (from to : ℕ) (s : Word) (q : ℕ) where
 
   module _ (n i : ℕ) (a : Along text from to s q n i) where
     bounds : (length (part text from to) ≡ to - from) × (length (drop q s) ≡ length s - q)
-    bounds = (part-length text from to (record { upwards = a .upwards; inside = a .inside }), length-drop q s)
+    bounds = (part-length text from to (a .inside), length-drop q s)
 
     pub along-stop : i < n → (getD text (from + i) 0 ≡ getD s (q + i) 0 → ⊥) → i ≡ common (part text from to) (drop q s)
     along-stop h d =
@@ -107,30 +99,13 @@ module _ (text : Word) (from to : ℕ) (s : Word) (q : ℕ) where
 
 pub ruleset alongs = (along-past, along-start, along-stop, along-more, along-end, needs)
 
--- a word behind its first part
-drop-right : (a b : Word) (q : ℕ) → length a ≤ q → drop q (a ++ b) ≡ drop (q - length a) b
-drop-right a b q h =
-    let e : length a + (q - length a) ≡ q = omega arith in
-    sym (ap (λ n. drop n (a ++ b)) e) ∙ drop-append-add a b (q - length a)
-
-drop-take : (k n : ℕ) (l : Word) → drop k (take n l) ≡ take (n - k) (drop k l)
-drop-take zero n l = let e : n ≡ n - 0 = omega arith in ap (λ j. take j l) e
-drop-take (suc k) n [] = rw (take-nil n) (sym (take-nil (n - suc k)))
-drop-take (suc k) zero (x ∷ l) = let e : 0 - suc k ≡ 0 = omega arith in rw e
-drop-take (suc k) (suc n) (x ∷ l) = let e : n - k ≡ suc n - suc k = omega arith in drop-take k n l ∙ ap (λ j. take j (drop k l)) e
-
-pub part-drop : (text : Word) (from to k : ℕ) → drop k (part text from to) ≡ part text (from + k) to
-part-drop text from to k =
-    let e : to - from - k ≡ to - (from + k) = omega arith in
-    drop-take k (to - from) (drop from text) ∙ rw (drop-drop k from text, e)
-
 -- the cases of the comparison with a word in two slices: it begins in the second, runs from the first into the second, or stays in the first
 module _ (text : Word) (from to : ℕ) (a b : Word) (q m : ℕ) (g : Agreed text from to (a ++ b) q m) where
   pub agreed-right : length a ≤ q → Agreed text from to b (q - length a) m
-  agreed-right h = record { span = g .span; passed = rw (← drop-right a b q h) (g .passed) }
+  agreed-right h = record { span = g .span; passed = rw (← drop-past a b q h) (g .passed) }
 
   pub agree-right : (r : ℕ) → length a ≤ q → r ≡ common (part text from to) (drop (q - length a) b) → r ≡ common (part text from to) (drop q (a ++ b))
-  agree-right r h e = rw (drop-right a b q h) e
+  agree-right r h e = rw (drop-past a b q h) e
 
   module _ (h : q < length a) where
     -- the word at place q, and how long its first part is
@@ -148,13 +123,13 @@ module _ (text : Word) (from to : ℕ) (a b : Word) (q m : ℕ) (g : Agreed text
     span-next : length a - q ≤ common (part text from to) (drop q a) → Span text (from + (length a - q)) to
     span-next l =
         let w = common-within (part text from to) (drop q a) in
-        let p = part-length text from to (g .span) in
+        let p = part-length text from to (g .span .inside) in
         record { upwards = omega (arith, g .span .upwards); inside = g .span .inside }
 
     fits-sum : (n : ℕ) → n ≡ common (part text from to) (drop q (a ++ b)) → Fits w64 to → Fits w64 n
     fits-sum n e f =
         let w = common-within (part text from to) (drop q (a ++ b)) in
-        let p = part-length text from to (g .span) in
+        let p = part-length text from to (g .span .inside) in
         record { fits = omega (arith, f .fits) }
 
     far : length a - q ≤ m → length a - q ≤ common (part text from to) (drop q a)
@@ -206,7 +181,7 @@ agreed-none text from to w q s = record { span = s; passed = omega arith }
 pub begins-all : (text : Word) (from to : ℕ) (w : Word) (q r : ℕ) → Span text from to → r ≡ common (part text from to) (drop q w)
     → eqb r (to - from) ≡ front (part text from to) (drop q w)
 begins-all text from to w q r s e =
-    let p = part-length text from to s in
+    let p = part-length text from to (s .inside) in
     let c = common-within (part text from to) (drop q w) in
     by-cases (ℕ-discrete r (to - from))
     (λ y. eq-eqb r (to - from) y ∙ sym (common-front (part text from to) (drop q w) (omega arith)))

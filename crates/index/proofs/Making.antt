@@ -1,28 +1,28 @@
 -- The making of the index: words are counted by their first letters, so every place exists, and a word that is inserted moves others and loses none.
 use Prim.Native.Nat.{ℕ, zero, suc, _+_, _*_, _-_, _^_, _≤_, _<_}
-use mathlib.Core.Bool.{Bool, true, false, cond, _&&_, true≢false, and-eq-true-iff}
-use mathlib.Core.List.{List, [], _∷_, _++_}
+use mathlib.Core.Bool.{Bool, true, false, and-eq-true-iff}
+use mathlib.Core.List.{List}
 use mathlib.Core.Path.{_≡_, refl, sym, ap, _∙_, subst}
 use mathlib.Core.Logic.{by-cases}
 use native.Mathlib.Omega.{arith}
 use native.Mathlib.Numerals.{add-one}
-use native.Mathlib.Decide.{decLt, decLe, ℕ-discrete}
+use native.Mathlib.Decide.{decLt, ℕ-discrete}
 use lib.Dec.{eqb, ltb}
 use borrow.Author.Needs.{needs}
-use borrow.Author.Tests.{lt-ltb, le-ltb, ltb-true, ltb-false, eq-eqb, ne-eqb, eqb-true, eqb-false}
-use lib.ListN.{length, getD, take, drop, set, length-set, length-take, length-drop}
-use lib.Seq.{getD-set-other, getD-set-same, getD-drop, drop-cons}
-use mir.Syntax.{w16, w64}
+use borrow.Author.Tests.{lt-ltb, le-ltb, ltb-true, eq-eqb, ne-eqb, eqb-true, eqb-false}
+use lib.ListN.{length, getD, drop, set, length-set, length-drop}
+use lib.Seq.{getD-set-other, getD-set-same, getD-drop}
+use mir.Syntax.{w64}
 use mir.Val.{Fits}
-use Rattle.words.specs.Words.{Word, common}
-use Rattle.words.proofs.Commons.{common-within, common-at, common-most, common-differ, common-is}
+use Rattle.words.specs.Words.{common}
+use Rattle.words.proofs.Commons.{common-within, common-at, common-differ, common-is}
 use Rattle.overlap.specs.Pieces.{word}
-use Rattle.overlap.specs.Cuts.{len}
-use Rattle.layout.specs.Layout.{startOf, endOf, part, wordsIn, firstOf, orderOf, sharedOf, Laid, Indexed}
-use Rattle.index.specs.Index.{Span, Agreed}
+use Rattle.layout.specs.Layout.{startOf, endOf, part, wordsIn, firstOf, orderOf, sharedOf, Laid}
+use Rattle.layout.proofs.Parts.{part-length, part-at}
+use Rattle.layout.proofs.Placed.{word-part, end-inside, word-length}
+use Rattle.index.specs.Index.{Agreed}
 use Rattle.index.specs.Making.{letterOf, count, earlier, sinksOf, Kept, Unlisted, One, Two, Sinking, Lists, Gathering, Listable, Looked, Begun, Neighbours, Gathered, AllListed, IndexMade}
-use Rattle.index.proofs.Laws.{part-at, part-length}
-use Rattle.index.proofs.Laying.{words-at, end-inside, word-span, word-length}
+use Rattle.index.proofs.Laying.{word-span}
 use Rattle.index.proofs.Keeping.{kept-refl, kept-trans, kept-set, start-kept, laid-kept, words-kept}
 
 -- counting
@@ -86,13 +86,13 @@ fence-common : (text table : List ℕ) (n : ℕ) → Laid text table n → (h k 
 fence-common text table n l h k x y =
     let a = part text (startOf table h) (endOf table h) in
     let b = part text (startOf table k) (endOf table k) in
-    let la = part-length text (startOf table h) (endOf table h) (word-span text table n l h x) in
-    let lb = part-length text (startOf table k) (endOf table k) (word-span text table n l k y) in
+    let la = part-length text (startOf table h) (endOf table h) (word-span text table n l h x .inside) in
+    let lb = part-length text (startOf table k) (endOf table k) (word-span text table n l k y .inside) in
     let w = common-within a b in
     let d = length-drop (startOf table k) text in
     let i = end-inside text table n l k y in
     let s = l .some k y in
-    rw (words-at text table n h x, words-at text table n k y)
+    rw (word-part text table n h x, word-part text table n k y)
     (common-is a (drop (startOf table k) text) (common a b) (omega arith) (omega arith)
     (λ j c. common-at a b j c ∙ part-at text (startOf table k) (endOf table k) j (omega arith) ∙ sym (getD-drop (startOf table k) text j 0))
     (λ c e f.

@@ -1,32 +1,34 @@
 -- The walk through the words of one letter: where each parts from the word that is compared, and that at most one X and Y stand at a place.
-use Prim.Native.Nat.{ℕ, zero, suc, _+_, _*_, _-_, _≤_, _<_, min}
-use mathlib.Core.Bool.{Bool, true, false, cond, true≢false}
-use mathlib.Core.List.{List, [], _∷_, _++_}
+use Prim.Native.Nat.{ℕ, _+_, _*_, _-_, _≤_, _<_}
+use mathlib.Core.Bool.{Bool, true, false, true≢false}
+use mathlib.Core.List.{List, _++_}
 use mathlib.Core.Path.{_≡_, refl, sym, ap, _∙_, subst}
 use mathlib.Core.Logic.{by-cases}
 use native.Mathlib.Omega.{arith}
-use native.Mathlib.Decide.{decLt, decLe, ℕ-discrete}
-use lib.Dec.{eqb, ltb}
+use native.Mathlib.Decide.{decLt}
 use borrow.Author.Needs.{needs}
-use borrow.Author.Tests.{lt-ltb, le-ltb, ltb-true, ltb-false, eq-eqb, ne-eqb}
-use lib.ListN.{length, getD, take, drop, length-take, length-drop, length-append, drop-of-length-le}
-use lib.Seq.{getD-take, getD-drop}
-use Rattle.words.specs.Search.{least}
+use borrow.Author.Tests.{ltb-true, ltb-false, eq-eqb, ne-eqb}
+use lib.ListN.{length, getD, drop, length-take, length-drop, length-append}
+use lib.Seq.{getD-drop}
 use Rattle.words.specs.Words.{Word, front, common}
-use Rattle.words.proofs.Segments.{Same}
-use Rattle.words.proofs.Searching.{NoneBelow, least-is, least-none}
+use Rattle.words.proofs.Tests.{false-of}
+use Rattle.words.proofs.Searching.{least-is, least-none}
 use Rattle.words.proofs.Fronts.{front-length, front-at}
-use Rattle.words.proofs.Commons.{common-within, common-at, common-front, common-no-front, front-common, common-take, common-later, common-sooner, common-via, common-sym}
+use Rattle.words.proofs.Commons.{common-within, common-at, common-front, common-no-front, common-take, common-later, common-sooner, common-via}
 use Rattle.overlap.specs.Pieces.{word}
-use Rattle.overlap.specs.Cuts.{len, xlen, xylen, xyOf}
+use Rattle.overlap.specs.Cuts.{xlen, xylen, xyOf}
 use Rattle.overlap.proofs.Rigid.{Rigid}
-use Rattle.layout.specs.Layout.{startOf, zStartOf, endOf, part, wordsIn, firstOf, orderOf, sharedOf, Checked}
+use Rattle.overlap.proofs.Facts.{length-xy}
+use Rattle.congruence.proofs.RowTests.{one-front}
+use Rattle.layout.specs.Layout.{startOf, zStartOf, part, wordsIn, firstOf, orderOf, sharedOf, Checked}
+use Rattle.layout.proofs.Parts.{part-length, part-at}
+use Rattle.layout.proofs.Placed.{words-length}
+use Rattle.layout.proofs.CutPlaces.{xy-long, xy-part}
 use Rattle.index.specs.declared.Meeting.{Meeting}
 use Rattle.index.specs.declared.Meeting.the-variants.{Here, Past}
-use Rattle.index.specs.Index.{frontAt, hasPlace, Span, Agreed}
+use Rattle.index.specs.Index.{frontAt, hasPlace, Agreed}
 use Rattle.index.specs.Seek.{metOf, sharedFrom, Meets, AtLetter, Bucket, Turn}
-use Rattle.index.proofs.Laws.{part-length, part-at}
-use Rattle.index.proofs.Laying.{words-length, words-at, word-length, xy-span, xy-part, cuts-inside, checked-rigid}
+use Rattle.index.proofs.Laying.{xy-span, checked-rigid}
 
 -- where the front marker of words is rigid
 module _ (B : List Word) (g : Rigid B (xlen B) (xylen B)) where
@@ -37,42 +39,22 @@ module _ (B : List Word) (g : Rigid B (xlen B) (xylen B)) where
       let w = common-within (word B k) (word B i) in
       g .marker i k 0 (xylen B i) h l s (omega arith) (omega arith) (record { at = λ j c. let z : 0 + j ≡ j = omega arith in rw z (sym (common-at (word B k) (word B i) j (omega arith))) }) .0
 
-  -- X and Y in front of v are letters in common, and the other way
-  pub xy-common : (k : ℕ) (v : Word) → front (xyOf B k) v ≡ true → xylen B k ≤ common (word B k) v
-  xy-common k v e =
-      let c = common-take (xylen B k) (word B k) v (omega arith) in
-      let l = length-take (xylen B k) (word B k) in
-      let f = front-common (xyOf B k) v e in
-      omega arith
-
+  -- letters in common are X and Y in front of v, and the other way
   pub common-xy : (k : ℕ) (v : Word) → xylen B k ≤ common (word B k) v → front (xyOf B k) v ≡ true
   common-xy k v h =
       let c = common-take (xylen B k) (word B k) v (omega arith) in
-      let l = length-take (xylen B k) (word B k) in
+      let l = length-xy B k in
       common-front (xyOf B k) v (omega arith)
 
   pub common-not-xy : (k : ℕ) (v : Word) → common (word B k) v < xylen B k → front (xyOf B k) v ≡ false
   common-not-xy k v h =
       let c = common-take (xylen B k) (word B k) v (omega arith) in
-      let l = length-take (xylen B k) (word B k) in
+      let l = length-xy B k in
       common-no-front (xyOf B k) v (omega arith)
 
   pub not-xy-common : (k : ℕ) (v : Word) → front (xyOf B k) v ≡ false → common (word B k) v < xylen B k
   not-xy-common k v e =
       by-cases (decLt (common (word B k) v) (xylen B k)) (λ a. a) (λ a. absurd (true≢false (sym (common-xy k v (omega arith)) ∙ e)))
-
-  -- X and Y of one word at most stand in front of v
-  shorter-one : (v : Word) (i k : ℕ) → i < length B → k < length B → front (xyOf B i) v ≡ true → front (xyOf B k) v ≡ true → xylen B i ≤ xylen B k → i ≡ k
-  shorter-one v i k h l e f b =
-      let x = xy-common i v e in
-      let y = xy-common k v f in
-      let p = common-sym (word B i) v in
-      let q = common-sym (word B k) v in
-      marked i k h l (common-via v (word B k) (word B i) (xylen B i) (omega arith) (omega arith))
-
-  pub one-stands : (v : Word) (i k : ℕ) → i < length B → k < length B → front (xyOf B i) v ≡ true → front (xyOf B k) v ≡ true → i ≡ k
-  one-stands v i k h l e f =
-      by-cases (decLe (xylen B i) (xylen B k)) (λ b. shorter-one v i k h l e f b) (λ b. sym (shorter-one v k i l h f e (omega arith)))
 
   -- the one that stands is found
   pub found-one : (w : Word) (q k : ℕ) → k < length B → front (xyOf B k) (drop q w) ≡ true → k ≡ frontAt B w q
@@ -81,11 +63,7 @@ module _ (B : List Word) (g : Rigid B (xlen B) (xylen B)) where
       sym (least-is (length B) (λ j. front (xyOf B j) (drop q w)) k h (record { none = below }) e)
     where
       below : (i : ℕ) → i < k → front (xyOf B i) (drop q w) ≡ false
-      below i l = go (front (xyOf B i) (drop q w)) refl
-        where
-          go : (t : Bool) → front (xyOf B i) (drop q w) ≡ t → t ≡ false
-          go true f = let o = one-stands (drop q w) i k (omega arith) h f e in absurd (omega arith)
-          go false f = refl
+      below i l = false-of (front (xyOf B i) (drop q w)) (λ f. let o = one-front g (drop q w) i k (omega arith) h f e in absurd (omega arith))
 
   pub none-stands : (w : Word) (q : ℕ) → ((k : ℕ) → k < length B → front (xyOf B k) (drop q w) ≡ false) → length B ≡ frontAt B w q
   unfolding frontAt
@@ -144,8 +122,8 @@ module _ (text table : List ℕ) (n : ℕ) (w : Word) (q k m : ℕ) (g : Meets t
           let l = g .checked .laid in
           let t = g .checked .cut in
           let p = xy-part text table n l t k (g .known) in
-          let i = cuts-inside text table n l t k (g .known) in
-          (c ∙ rw (e, f, p), omega arith)
+          let i = xy-long text table n l t k (g .known) in
+          (c ∙ rw (e, f, ← p), omega arith)
 
       pub meets-here : r ≡ to - from → Here k ≡ metOf (wordsIn text table n) k (drop q w)
       unfolding metOf
@@ -244,7 +222,7 @@ module _ (text table : List ℕ) (n : ℕ) (w : Word) (q from j m : ℕ) (g : Tu
         let y = g .checked .indexed .known j (g .known) in
         let a = xy-span text table n (g .checked .laid) (g .checked .cut) (orderOf table j) y in
         let p = xy-part text table n (g .checked .laid) (g .checked .cut) (orderOf table j) y in
-        rw f (record { checked = g .checked; known = y; agreed = record { span = a; passed = rw p (on h i) } })
+        rw f (record { checked = g .checked; known = y; agreed = record { span = a; passed = rw (← p) (on h i) } })
 
   pub turn-met : (k : ℕ) → k ≡ orderOf table j → (x : Meeting) → x ≡ metOf (wordsIn text table n) k (drop q w) → x ≡ metOf (wordsIn text table n) (orderOf table j) (drop q w)
   turn-met k f x e = rw (← f) e
@@ -293,8 +271,8 @@ module _ (text table : List ℕ) (n : ℕ) (g : Checked text table n) (w : Word)
   pub stands-letter : getD text (startOf table k) 0 ≡ getD w q 0
   stands-letter =
       let s = some-xy in
-      let p = xy-part text table n (g .laid) (g .cut) k h in
-      let b = part-length text (startOf table k) (zStartOf table k) (xy-span text table n (g .laid) (g .cut) k h) in
+      let p = sym (xy-part text table n (g .laid) (g .cut) k h) in
+      let b = part-length text (startOf table k) (zStartOf table k) (xy-span text table n (g .laid) (g .cut) k h .inside) in
       let c : length (part text (startOf table k) (zStartOf table k)) ≡ length (xyOf (wordsIn text table n) k) = ap length p in
       let z : startOf table k + 0 ≡ startOf table k = omega arith in
       let y : q + 0 ≡ q = omega arith in
@@ -306,11 +284,7 @@ none-found : (text table : List ℕ) (n : ℕ) → Checked text table n → (w :
     → ((k : ℕ) → k < n → front (xyOf (wordsIn text table n) k) (drop q w) ≡ true → ⊥) → n ≡ frontAt (wordsIn text table n) w q
 none-found text table n g w q f =
     let l = words-length text table n in
-    sym l ∙ none-stands (wordsIn text table n) (checked-rigid text table n g) w q (λ k h. go k (omega arith) (front (xyOf (wordsIn text table n) k) (drop q w)) refl)
-  where
-    go : (k : ℕ) → k < n → (t : Bool) → front (xyOf (wordsIn text table n) k) (drop q w) ≡ t → t ≡ false
-    go k h true e = absurd (f k h e)
-    go k h false e = refl
+    sym l ∙ none-stands (wordsIn text table n) (checked-rigid text table n g) w q (λ k h. false-of (front (xyOf (wordsIn text table n) k) (drop q w)) (f k (omega arith)))
 
 -- the X and Y of no word listed below place j stand in w at place q, and the last of these words has m letters in common with w there
 pub record Seeking (text table : List ℕ) (n : ℕ) (w : Word) (q from to j m : ℕ) : Type 0 where

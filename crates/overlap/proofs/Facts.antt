@@ -8,11 +8,11 @@ use mathlib.Core.Logic.{by-cases}
 use native.Mathlib.Omega.{arith}
 use native.Mathlib.Decide.{decLt}
 use lib.ListN.{length, take, drop, length-drop, take-append-drop}
-use lib.Seq.{take-all, drop-drop}
+use lib.Seq.{take-all, drop-drop, length-take-le}
 use Rattle.words.specs.Words.{Word}
 use Rattle.words.proofs.Searching.{greatest-bound, greatest-passes, greatest-last}
 use Rattle.overlap.specs.Pieces.{word, IsPiece, IsProduct, C4}
-use Rattle.overlap.specs.Cuts.{len, pieceAt, xlen, zlen, xylen}
+use Rattle.overlap.specs.Cuts.{len, pieceAt, xlen, zlen, xylen, xOf, xyOf, zOf}
 use Rattle.overlap.proofs.Places.{Piece, nothing, piece-of-test, no-piece-of-test, piece-part, rigid}
 use Rattle.overlap.proofs.Occurrences.{is-piece-of-place}
 use Rattle.overlap.proofs.Rigid.{Rigid}
@@ -49,6 +49,9 @@ pub x-bound : (B : List Word) (i : ℕ) → xlen B i ≤ len B i
 unfolding xlen
 x-bound B i = greatest-bound (len B i) (pieceAt B i 0)
 
+pub length-x : (B : List Word) (i : ℕ) → length (xOf B i) ≡ xlen B i
+length-x B i = length-take-le (xlen B i) (word B i) (x-bound B i)
+
 pub x-piece : (B : List Word) (i : ℕ) → Piece B i 0 (xlen B i)
 unfolding xlen
 x-piece B i =
@@ -66,6 +69,12 @@ z-longest B i a h =
 pub z-bound : (B : List Word) (i : ℕ) → zlen B i ≤ len B i
 unfolding zlen
 z-bound B i = greatest-bound (len B i) (λ n. pieceAt B i (len B i - n) n)
+
+pub length-xy : (B : List Word) (i : ℕ) → length (xyOf B i) ≡ xylen B i
+length-xy B i = length-take-le (xylen B i) (word B i) (omega arith)
+
+pub length-z : (B : List Word) (i : ℕ) → length (zOf B i) ≡ zlen B i
+length-z B i = let b = z-bound B i in length-drop (xylen B i) (word B i) ∙ omega arith
 
 pub z-piece : (B : List Word) (i : ℕ) → Piece B i (xylen B i) (zlen B i)
 unfolding zlen

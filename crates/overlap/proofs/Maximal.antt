@@ -7,8 +7,8 @@ use mathlib.Core.Path.{_≡_, refl, sym, ap, _∙_, subst}
 use mathlib.Core.Logic.{by-cases, _↔_}
 use native.Mathlib.Omega.{arith}
 use native.Mathlib.Decide.{decLe}
-use lib.ListN.{length, take, drop, length-drop, length-append, take-append-drop}
-use lib.Seq.{length-take-le, length-slice, take-take, take-all, take-append-add, drop-append-le}
+use lib.ListN.{length, take, drop, length-append, take-append-drop}
+use lib.Seq.{length-slice, take-take, take-all, take-append-add, drop-append-le}
 use Rattle.words.specs.Words.{Word, front}
 use Rattle.words.proofs.Fronts.{front-append, front-split}
 use Rattle.overlap.specs.Pieces.{word, Occurs, IsPiece, C4}
@@ -16,7 +16,7 @@ use Rattle.overlap.specs.Cuts.{xlen, zlen, xylen, xOf, xyOf, zOf}
 use Rattle.overlap.specs.Maximal.{IsPrefix, IsSuffix, MaximalPiece, MaximalPiecePrefix, MaximalPieceSuffix, yOf}
 use Rattle.overlap.proofs.Places.{piece-part}
 use Rattle.overlap.proofs.Occurrences.{occurs-segment, occurs-once, is-piece-of-place, place-of-is-piece}
-use Rattle.overlap.proofs.Facts.{x-bound, x-piece, x-longest, z-bound, z-piece, z-longest, y-not-empty, y-no-piece}
+use Rattle.overlap.proofs.Facts.{x-bound, x-piece, x-longest, length-x, z-bound, z-piece, z-longest, length-xy, length-z, y-not-empty, y-no-piece}
 
 -- the test `front` says whether the word is a prefix
 pub front-iff-prefix : (a u : Word) → front a u ≡ true ↔ IsPrefix a u
@@ -56,7 +56,7 @@ x-maximal B i h =
 pub z-maximal : (B : List Word) (i : ℕ) → i < length B → MaximalPieceSuffix B i (zOf B i)
 z-maximal B i h =
     let b = z-bound B i in
-    let d = length-drop (xylen B i) (word B i) in
+    let d = length-z B i in
     record {
       piece = subst (λ w. IsPiece B w) (take-all (zlen B i) (drop (xylen B i) (word B i)) (omega arith)) (is-piece-of-place B i (xylen B i) (zlen B i) h (omega arith) (z-piece B i));
       part = (take (xylen B i) (word B i), take-append-drop (xylen B i) (word B i));
@@ -114,14 +114,14 @@ y-is-no-piece B c i h p =
     let l = y-not-empty B c i h in
     let m = length-y B i in
     let o : Occurs B (yOf B i) i (xlen B i) =
-    record { there = h; before = xOf B i; after = zOf B i; split = cut-whole B c i h; place = length-take-le (xlen B i) (word B i) (x-bound B i) } in
+    record { there = h; before = xOf B i; after = zOf B i; split = cut-whole B c i h; place = length-x B i } in
     y-no-piece B c i h (piece-part (place-of-is-piece o p) (omega arith))
 
 -- under C(4), X and Y together are no piece: they occur at the front of their relation word and nowhere else
 pub xy-is-no-piece : (B : List Word) → C4 B → (i : ℕ) → i < length B → ¬ IsPiece B (xyOf B i)
 xy-is-no-piece B c i h p =
     let l = y-not-empty B c i h in
-    let m = length-take-le (xylen B i) (word B i) (omega arith) in
+    let m = length-xy B i in
     x-longest B i (xylen B i) l (omega arith) (piece-part (place-of-is-piece (occurs-segment B i 0 (xylen B i) h (omega arith)) p) (omega arith))
 
 pub xy-occurs-once : (B : List Word) → C4 B → (i j p : ℕ) → i < length B → Occurs B (xyOf B i) j p → (i ≡ j) × (p ≡ 0)

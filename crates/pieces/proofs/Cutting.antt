@@ -1,31 +1,24 @@
 -- The cuts of the relation words: the loops that set them, and that they are the definition's.
-use Prim.Native.Nat.{ℕ, zero, suc, _+_, _*_, _-_, _<_, _≤_}
-use mathlib.Core.Bool.{Bool, true, false, true≢false}
+use Prim.Native.Nat.{ℕ, _+_, _*_, _-_, _<_, _≤_}
+use mathlib.Core.Bool.{Bool, true, false}
 use mathlib.Core.List.{List}
 use mathlib.Core.Logic.{by-cases}
 use mathlib.Core.Path.{_≡_, refl, sym, ap, _∙_, subst}
 use native.Mathlib.Omega.{arith}
-use native.Mathlib.Decide.{decLt, ℕ-discrete}
+use native.Mathlib.Decide.{ℕ-discrete}
 use borrow.Author.Needs.{needs}
 use borrow.Author.Tests.{le-leb, lt-leb}
 use lib.Dec.{leb}
 use lib.ListN.{length, getD, set, length-set}
 use lib.Seq.{getD-set-same, getD-set-other}
 use Rattle.words.specs.Search.{greatest}
-use Rattle.words.proofs.Searching.{greatest-bound, greatest-passes, greatest-last}
+use Rattle.words.proofs.Searching.{greatest-bound, greatest-passes, greatest-last, greatest-is}
 use Rattle.overlap.specs.Cuts.{pieceAt, xlen, zlen}
 use Rattle.layout.specs.Layout.{Laid, Cut, wordsIn, startOf, xEndOf, zStartOf, endOf}
+use Rattle.layout.proofs.Placed.{word-length, end-before, words-of-places, laid-of-places}
 use Rattle.pieces.specs.Longest.{longestAt, Tabled}
 use Rattle.pieces.specs.Judging.{Fenced, Placed, AllPlaced, xBy, tailBy, zBy, Tail, OnlyCuts, CutBy}
-use Rattle.pieces.proofs.Fences.{word-length, end-inside, longest-inside, piece-longest}
-
--- the greatest number that passes is m where m passes and nothing above it does
-pub greatest-is : (n : ℕ) (p : ℕ → Bool) (m : ℕ) → m ≤ n → (0 < m → p m ≡ true) → ((k : ℕ) → m < k → k ≤ n → p k ≡ false) → greatest n p ≡ m
-greatest-is n p m h y out = by-cases (decLt (greatest n p) m)
-    (λ l. absurd (true≢false (sym (y (omega (arith, l))) ∙ greatest-last n p m l h)))
-    (λ l. by-cases (decLt m (greatest n p))
-    (λ k. absurd (true≢false (sym (greatest-passes n p (omega (arith, k))) ∙ out (greatest n p) k (greatest-bound n p))))
-    (λ k. omega (arith, l, k)))
+use Rattle.pieces.proofs.Fences.{longest-inside, piece-longest}
 
 greatest-same : (n : ℕ) (f g : ℕ → Bool) → ((k : ℕ) → k ≤ n → f k ≡ g k) → greatest n f ≡ greatest n g
 greatest-same n f g h =
@@ -211,26 +204,13 @@ module _ (longest table : List ℕ) (n i : ℕ) (b : List ℕ) (s : Cutting long
 
 pub ruleset cuts = (cut-start, cut-placed, cut-more, cut-end, needs)
 
--- tables that differ in cuts alone have the same relation words
-pub words-kept : (text table after : List ℕ) (n m : ℕ) → OnlyCuts table n after → wordsIn text after m ≡ wordsIn text table m
-unfolding wordsIn
-words-kept text table after n zero k = refl
-words-kept text table after n (suc m) k = rw (words-kept text table after n m k, k .starts m, k .ends m)
+-- tables that differ in cuts alone have the same relation words, and they stay laid out
+module _ (text table after : List ℕ) (n : ℕ) (k : OnlyCuts table n after) where
+  pub words-kept : wordsIn text after n ≡ wordsIn text table n
+  words-kept = words-of-places text table after n (λ i h. k .starts i) (λ i h. k .ends i)
 
--- and they stay laid out
-pub laid-kept : (text table after : List ℕ) (n : ℕ) → OnlyCuts table n after → Laid text table n → Laid text after n
-laid-kept text table after n k f =
-    record {
-      few = f .few;
-      room = rw (k .long) (f .room);
-      inside = rw (k .starts n) (f .inside);
-      first = k .starts 0 ∙ f .first;
-      next = λ i h. k .starts (i + 1) ∙ f .next i h ∙ ap (λ x. x + 1) (sym (k .ends i));
-      some = λ i h. rw (k .starts i, k .ends i) (f .some i h);
-      short = λ i h. rw (k .starts i, k .ends i) (f .short i h);
-      letters = λ i q h l u. f .letters i q h (rw (k .starts i) at l) (rw (k .ends i) at u);
-      fence = λ i h. rw (k .ends i) (f .fence i h);
-    }
+  pub laid-kept : Laid text table n → Laid text after n
+  laid-kept f = laid-of-places text table after n (λ i h. k .starts i) (λ i h. k .ends i) (k .long) f
 
 -- the cuts by the table of longest pieces are the cuts of the relation words
 module _ (text table longest : List ℕ) (n : ℕ) (f : Fenced text table n) (t : Tabled text longest) (i : ℕ) (h : i < n) where
@@ -252,7 +232,7 @@ module _ (text table longest : List ℕ) (n : ℕ) (f : Fenced text table n) (t 
   unfolding xBy
   x-cut =
       let w = f .whole in
-      let g = end-inside text table n (f .laid) i h in
+      let g = end-before text table n (f .laid) i h in
       let s = f .laid .some i h in
       rw x-longest (ap (startOf table i +_) (t .at (startOf table i) (omega (arith, s, g, w))))
 
@@ -261,7 +241,7 @@ module _ (text table longest : List ℕ) (n : ℕ) (f : Fenced text table n) (t 
   z-cut =
       let l = word-length text table n (f .laid) i h in
       let w = f .whole in
-      let g = end-inside text table n (f .laid) i h in
+      let g = end-before text table n (f .laid) i h in
       let s = f .laid .some i h in
       rw l
       (greatest-same (endOf table i - startOf table i) _ _ (λ m u.
@@ -276,7 +256,7 @@ tail-bound longest start end = let b = greatest-bound (end - start) (λ m. leb m
 pub cut-true : (text table longest after : List ℕ) (n : ℕ) → Fenced text table n → Tabled text longest → CutBy longest table n after → Cut text after n
 cut-true text table longest after n f t c =
     let k = c .kept in
-    let w = words-kept text table after n n k in
+    let w = words-kept text table after n k in
     record {
       xEnd = λ i h. rw (w, k .starts i) (c .xEnd i h ∙ x-cut text table longest n f t i h);
       zStart = λ i h.

@@ -1,6 +1,6 @@
 -- The search for three pieces, by two cut points: what it knows at the head of each loop, and a law for each way on.
 use Prim.Native.Nat.{ℕ, _+_, _-_, _<_, _≤_}
-use mathlib.Core.Bool.{Bool, true, false, _&&_}
+use mathlib.Core.Bool.{Bool, true, false, _&&_, and-false}
 use mathlib.Core.List.{List}
 use mathlib.Core.Path.{_≡_, refl, sym, ap, _∙_, subst}
 use native.Mathlib.Omega.{arith}
@@ -12,10 +12,6 @@ use Rattle.words.specs.Search.{anyBelow}
 use Rattle.words.proofs.Searching.{NoneBelow, none-start, none-more, none-all, any-of}
 use Rattle.overlap.specs.Cuts.{three}
 use Rattle.pieces.specs.Longest.{held, Span, Parts}
-
-and-false : (a : Bool) → (a && false) ≡ false
-and-false true = refl
-and-false false = refl
 
 -- the second cut at b, where the first is at a
 abbrev pub second : List ℕ → ℕ → ℕ → ℕ → ℕ → Bool

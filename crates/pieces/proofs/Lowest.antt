@@ -13,9 +13,10 @@ use Rattle.words.specs.Search.{anyBelow, least}
 use Rattle.words.proofs.Searching.{NoneBelow, none-start, none-more, least-is, least-none}
 use Rattle.overlap.specs.Cuts.{pieceAt, three, loose, firstLoose}
 use Rattle.layout.specs.Layout.{wordsIn, startOf, endOf}
+use Rattle.layout.proofs.Placed.{words-length, word-length, end-before}
 use Rattle.pieces.specs.Longest.{held, Span, Space, Tabled}
 use Rattle.pieces.specs.Judging.{Fenced, Placed, AllPlaced, looseBy, lowestLoose, Measurable, Measured}
-use Rattle.pieces.proofs.Fences.{words-length, word-length, end-inside, longest-inside, text-bounded, text-short, piece-longest}
+use Rattle.pieces.proofs.Fences.{longest-inside, text-bounded, text-short, piece-longest}
 
 -- one word
 
@@ -94,7 +95,7 @@ module _ (text table longest : List ℕ) (n : ℕ) (f : Fenced text table n) (t 
   pub held-piece : (i a m : ℕ) → i < n → startOf table i + a + m ≤ endOf table i → held longest (startOf table i) a m ≡ pieceAt (wordsIn text table n) i a m
   held-piece i a m h u =
       let w = f .whole in
-      let g = end-inside text table n (f .laid) i h in
+      let g = end-before text table n (f .laid) i h in
       ap (leb m) (t .at (startOf table i + a) (omega (arith, u, g, w))) ∙ sym (piece-longest text table n f i a m h u)
 
   pub loose-table : (i : ℕ) → i < n → looseBy longest table i ≡ loose (wordsIn text table n) i
@@ -112,7 +113,7 @@ module _ (text table longest : List ℕ) (n : ℕ) (f : Fenced text table n) (t 
   all-placed = record {
     each = λ i h.
         let w = f .whole in
-        let g = end-inside text table n (f .laid) i h in
+        let g = end-before text table n (f .laid) i h in
         let s = f .laid .some i h in
         let r = f .laid .room in
         let k = text-short text table n f in

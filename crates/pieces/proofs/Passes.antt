@@ -1,6 +1,6 @@
 -- The loops that fill the table of longest pieces: one pass over the row, one place of the text, the whole table.
 use Prim.Native.Nat.{ℕ, zero, suc, _+_, _-_, _<_, _≤_, max}
-use mathlib.Core.List.{List, [], _∷_}
+use mathlib.Core.List.{List}
 use mathlib.Core.Logic.{by-cases}
 use mathlib.Core.Path.{_≡_, refl, sym, ap, _∙_, subst}
 use native.Mathlib.Omega.{arith}
@@ -13,6 +13,7 @@ use borrow.Author.Tests.{eq-eqb, ne-eqb}
 use lib.ListN.{length, getD, drop, set, replicate, length-set, length-replicate, getD-replicate, drop-of-length-le}
 use lib.Seq.{drop-cons, getD-set-same, getD-set-other}
 use Rattle.words.specs.Words.{common}
+use Rattle.words.proofs.Commons.{common-empty}
 use Rattle.pieces.specs.Longest.{most, shared, longestAt, next, run, Room, Passed, RowOf, Ready, Stepped, Space, Tabled}
 
 -- one letter more, or none
@@ -108,14 +109,9 @@ pub shared-next : (text : List ℕ) (p q : ℕ) → p < length text → q < leng
 unfolding shared next common
 shared-next text p q h k = rw (add-one p, add-one q, add-one (common (drop (suc p) text) (drop (suc q) text)), drop-cons text p 0 h, drop-cons text q 0 k)
 
-common-nil : (u : List ℕ) → common u [] ≡ 0
-unfolding common
-common-nil [] = refl
-common-nil (x ∷ u) = refl
-
 pub shared-past : (text : List ℕ) (p q : ℕ) → length text ≤ q → shared text p q ≡ 0
 unfolding shared
-shared-past text p q h = rw (drop-of-length-le text h) (common-nil (drop p text))
+shared-past text p q h = rw (drop-of-length-le text h) (common-empty (drop p text))
 
 pub shared-from-past : (text : List ℕ) (p q : ℕ) → length text ≤ p → shared text p q ≡ 0
 unfolding shared common

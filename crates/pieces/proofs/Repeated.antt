@@ -12,12 +12,12 @@ use lib.ListN.{length, getD}
 use Rattle.words.specs.Search.{least}
 use Rattle.words.specs.Words.{Word, front}
 use Rattle.words.proofs.Fronts.{front-at, at-front}
+use Rattle.words.proofs.Tests.{false-of}
 use Rattle.words.proofs.Searching.{NoneBelow, none-start, none-more, none-all, any-of, least-is, least-none}
-use Rattle.overlap.specs.Pieces.{word}
 use Rattle.overlap.specs.Verdict.{sameWord, repeated, firstRepeated}
 use Rattle.layout.specs.Layout.{Laid, wordsIn, part, startOf, endOf}
+use Rattle.layout.proofs.Placed.{words-length, word-part, end-before}
 use Rattle.pieces.specs.Judging.{Lying, BothLying, AllLying, sameParts, repeatedIn}
-use Rattle.pieces.proofs.Fences.{false-of, words-length, word-there, end-inside}
 use Rattle.pieces.proofs.Lowest.{any-same, least-same}
 
 -- the letters of two words
@@ -107,7 +107,7 @@ pub ruleset comparing = (compare-start, compare-lying, compare-more, compare-fou
 pub repeated-there : (text table : List ℕ) (n i : ℕ) → i < n → repeatedIn text table i ≡ repeated (wordsIn text table n) i
 unfolding repeatedIn repeated
 repeated-there text table n i h =
-    any-same i _ _ (λ j l. rw (word-there text table n i h, word-there text table n j (omega (arith, l, h))))
+    any-same i _ _ (λ j l. rw (word-part text table n i h, word-part text table n j (omega (arith, l, h))))
 
 pub record Recalling (text table : List ℕ) (n i : ℕ) : Type 0 where
   pub laid : Laid text table n
@@ -126,7 +126,7 @@ module _ (text table : List ℕ) (n i : ℕ) (s : Recalling text table n i) wher
   recall-lying h = record {
     each = λ k l.
         let f = s .laid in
-        let e = end-inside text table n f k (omega (arith, h, l)) in
+        let e = end-before text table n f k (omega (arith, h, l)) in
         let u = f .some k (omega (arith, h, l)) in
         let r = f .room in
         let t = f .inside in

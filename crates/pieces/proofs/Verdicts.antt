@@ -1,23 +1,23 @@
 -- The verdict on the relation words of a text: refusal 7, refusal 8, or the cuts.
-use Prim.Native.Nat.{ℕ, zero, suc, _-_, _<_, _≤_}
-use mathlib.Core.List.{List, [], _∷_}
+use Prim.Native.Nat.{ℕ, zero, suc, _<_, _≤_}
+use mathlib.Core.List.{List}
 use mathlib.Core.Path.{_≡_, refl, sym, ap, _∙_, subst}
 use native.Mathlib.Omega.{arith}
-use native.Mathlib.Nat.{sub-zero, zero-sub, suc-sub-suc}
 use borrow.Author.Needs.{needs}
 use borrow.Author.Tests.{lt-ltb, le-ltb}
-use lib.ListN.{length, take, drop, replicate, length-replicate}
-use lib.Seq.{getD-take, take-take, take-nil, length-take-le}
+use lib.ListN.{length, take, replicate, length-replicate}
+use lib.Seq.{getD-take, length-take-le}
 use Rattle.overlap.specs.Pieces.{C4}
 use Rattle.overlap.specs.Cuts.{firstLoose}
 use Rattle.overlap.specs.Verdict.{judge, firstRepeated}
 use Rattle.overlap.specs.Verdict.Verdict.{twice, loose}
 use Rattle.overlap.proofs.Verdicts.{judge-accepts-iff-c4}
-use Rattle.layout.specs.Layout.{Laid, Cut, wordsIn, part, startOf, endOf}
+use Rattle.layout.specs.Layout.{Laid, wordsIn, startOf, endOf}
+use Rattle.layout.proofs.Parts.{part-of-take}
+use Rattle.layout.proofs.Placed.{words-length, end-before}
 use Rattle.pieces.specs.declared.Judged.{Judged}
 use Rattle.pieces.specs.declared.Judged.the-variants.{Accepted, Repeated, Loose}
 use Rattle.pieces.specs.Judging.{Fenced, AllPlaced, Measurable, Measured, CutBy, Recut, Judging, verdictOf, looseVerdict}
-use Rattle.pieces.proofs.Fences.{words-length, end-inside}
 use Rattle.pieces.proofs.Lowest.{all-placed}
 use Rattle.pieces.proofs.Cutting.{cut-true, words-kept, laid-kept}
 
@@ -74,20 +74,11 @@ pub ruleset wholes = (whole-measurable, whole-placed, whole-loose, whole-cut, ne
 
 -- the text as far as the last fence
 
-drop-take : (a t : ℕ) (l : List ℕ) → drop a (take t l) ≡ take (t - a) (drop a l)
-drop-take zero t l = rw (sub-zero t)
-drop-take (suc a) zero l = rw (zero-sub (suc a))
-drop-take (suc a) (suc t) [] = sym (take-nil (suc t - suc a))
-drop-take (suc a) (suc t) (x ∷ l) = rw (suc-sub-suc t a) (drop-take a t l)
-
-part-take : (text : List ℕ) (t a b : ℕ) → b ≤ t → part (take t text) a b ≡ part text a b
-part-take text t a b h = rw (drop-take a t text) (take-take (b - a) (t - a) (drop a text) (omega (arith, h)))
-
 words-take : (text table : List ℕ) (t m : ℕ) → ((i : ℕ) → i < m → endOf table i ≤ t) → wordsIn (take t text) table m ≡ wordsIn text table m
 unfolding wordsIn
 words-take text table t zero h = refl
 words-take text table t (suc m) h =
-    rw (words-take text table t m (λ i l. h i (omega (arith, l))), part-take text t (startOf table m) (endOf table m) (h m (omega arith)))
+    rw (words-take text table t m (λ i l. h i (omega (arith, l))), part-of-take text t (startOf table m) (endOf table m) (h m (omega arith)))
 
 module _ (text table : List ℕ) (n : ℕ) (f : Laid text table n) (t : ℕ) (e : t ≡ startOf table n) where
   pub front-inside : t ≤ length text
@@ -107,14 +98,14 @@ module _ (text table : List ℕ) (n : ℕ) (f : Laid text table n) (t : ℕ) (e 
           next = f .next;
           some = f .some;
           short = f .short;
-          letters = λ i q h l u. let k = end-inside text table n f i h in rw (getD-take t text q 0 (omega (arith, u, k, e))) (f .letters i q h l u);
-          fence = λ i h. let k = end-inside text table n f i h in getD-take t text (endOf table i) 0 (omega (arith, k, e)) ∙ f .fence i h;
+          letters = λ i q h l u. let k = end-before text table n f i h in rw (getD-take t text q 0 (omega (arith, u, k, e))) (f .letters i q h l u);
+          fence = λ i h. let k = end-before text table n f i h in getD-take t text (endOf table i) 0 (omega (arith, k, e)) ∙ f .fence i h;
         };
         whole = sym front-long ∙ e;
       }
 
   ends-before : (i : ℕ) → i < n → endOf table i ≤ t
-  ends-before i h = let k = end-inside text table n f i h in omega (arith, k, e)
+  ends-before i h = let k = end-before text table n f i h in omega (arith, k, e)
 
   front-words : wordsIn (take t text) table n ≡ wordsIn text table n
   front-words = words-take text table t n ends-before
@@ -162,27 +153,14 @@ module _ (text table : List ℕ) (n r : ℕ) (e : r ≡ firstRepeated (wordsIn t
 
 pub ruleset judging = (judge-repeated, judge-distinct, needs)
 
--- what each answer says of the relation words, and of the table that it leaves
-module _ (text table : List ℕ) (n : ℕ) (after : List ℕ) (r : Judged) (j : Judging (judge (wordsIn text table n)) text table n after r) where
-  pub answer-verdict : (a : Judged) → r ≡ a → judge (wordsIn text table n) ≡ verdictOf a
-  answer-verdict a e = sym (j .verdict) ∙ ap verdictOf e
+-- accepted words: the table that is left has them at the same places, and they meet C(4)
+module _ (text table : List ℕ) (n : ℕ) (after : List ℕ) (r : Judged) (j : Judging (judge (wordsIn text table n)) text table n after r) (e : r ≡ Accepted) where
+  pub accepted-laid : Laid text table n → Laid text after n
+  accepted-laid f = laid-kept text table after n (j .cuts e .kept) f
 
-  pub repeated-kept : (i : ℕ) → r ≡ Repeated i → after ≡ table
-  repeated-kept i e = j .repeats i e
+  pub accepted-words : wordsIn text after n ≡ wordsIn text table n
+  accepted-words = words-kept text table after n (j .cuts e .kept)
 
-  pub loose-kept : (i : ℕ) → r ≡ Loose i → after ≡ table
-  loose-kept i e = j .looses i e
-
-  module _ (e : r ≡ Accepted) where
-    pub accepted-laid : Laid text table n → Laid text after n
-    accepted-laid f = laid-kept text table after n (j .cuts e .kept) f
-
-    pub accepted-words : wordsIn text after n ≡ wordsIn text table n
-    accepted-words = words-kept text table after n n (j .cuts e .kept)
-
-    pub accepted-cut : Cut text after n
-    accepted-cut = j .cuts e .cut
-
-    pub accepted-c4 : C4 (wordsIn text after n)
-    unfolding verdictOf
-    accepted-c4 = subst C4 (sym accepted-words) (judge-accepts-iff-c4 (wordsIn text table n) .0 (answer-verdict Accepted e))
+  pub accepted-c4 : C4 (wordsIn text after n)
+  unfolding verdictOf
+  accepted-c4 = subst C4 (sym accepted-words) (judge-accepts-iff-c4 (wordsIn text table n) .0 (sym (j .verdict) ∙ ap verdictOf e))

@@ -1,17 +1,15 @@
 -- A law for each way that loading a book can go.
-use Prim.Native.Nat.{ℕ, _+_, _*_, _≤_, _<_}
+use Prim.Native.Nat.{ℕ, _*_}
 use mathlib.Core.List.{List}
 use mathlib.Core.Path.{_≡_, refl, sym, ap, _∙_, subst}
-use mathlib.Core.Logic.{_↔_}
 use native.Mathlib.Omega.{arith}
 use borrow.Author.Needs.{needs}
 use lib.ListN.{length}
 use mir.Val.{Fits}
 use mir.Syntax.{w64}
 use Rattle.words.specs.Relations.{Relation, sides}
-use Rattle.overlap.specs.Verdict.{Verdict, judge}
-use Rattle.overlap.proofs.Verdicts.{judge-accepts-iff-c4}
-use Rattle.layout.specs.Layout.{Laid, Checked, wordsIn}
+use Rattle.overlap.specs.Verdict.{judge}
+use Rattle.layout.specs.Layout.{Laid, wordsIn}
 use Rattle.format.specs.declared.Refusal.{Refusal}
 use Rattle.format.specs.declared.Refusal.the-variants.{Repeated, Loose}
 use Rattle.format.specs.declared.Reading.{Reading}
@@ -23,9 +21,9 @@ use Rattle.reader.specs.Laying.{Arrays, BookRead}
 use Rattle.pieces.specs.declared.Judged.{Judged}
 use Rattle.pieces.specs.declared.Judged.the-variants as Judges
 use Rattle.pieces.specs.Judging.{verdictOf, Judging}
-use Rattle.pieces.proofs.Cutting as Cutting
+use Rattle.pieces.proofs.Verdicts.{accepted-laid, accepted-words, accepted-c4}
 use Rattle.index.specs.Making.{Unlisted, IndexMade}
-use Rattle.index.proofs.Keeping as Keeping
+use Rattle.index.proofs.Keeping.{words-kept, made-checked}
 use Rattle.presentation.specs.Loading.{BookLoading, loaded, refused, byVerdict, loadBook, told, Settled, answerOf, Holding, Memory, BookLoaded}
 
 -- the verdict stands, and an accepted book's words are checked
@@ -50,22 +48,16 @@ module _ (text table : List ℕ) (n : ℕ) (u : Unlisted text table n) (after : 
   module _ (e : r ≡ Judges.Accepted) where
     pub accepted-unlisted : Unlisted text after n
     accepted-unlisted =
-        let k = j .cuts e .kept in
-        record { laid = Cutting.laid-kept text table after n k (u .laid); room = k .long ∙ u .room }
+        record { laid = accepted-laid text table n after r j e (u .laid); room = j .cuts e .kept .long ∙ u .room }
 
     pub settled-accepted : (last : List ℕ) → IndexMade text after n last → Settled text table n last r
-    unfolding verdictOf
     settled-accepted last m =
-        let k = j .cuts e .kept in
-        let laid = Cutting.laid-kept text table after n k (u .laid) in
-        let same = Cutting.words-kept text table after n n k in
-        let a : judge (wordsIn text table n) ≡ Verdict.accepted = sym (j .verdict) ∙ ap verdictOf e in
-        let c4 = judge-accepts-iff-c4 (wordsIn text table n) .0 a in
+        let laid = accepted-unlisted .laid in
         record {
           verdict = j .verdict;
-          checked = λ _. Keeping.made-checked text after n last laid (rw same c4) (j .cuts e .cut) m;
-          words = λ _. Keeping.words-kept after last (m .kept) text n (laid .few) ∙ same;
-          long = m .kept .long ∙ k .long;
+          checked = λ _. made-checked text after n last laid (accepted-c4 text table n after r j e) (j .cuts e .cut) m;
+          words = λ _. words-kept after last (m .kept) text n (laid .few) ∙ accepted-words text table n after r j e;
+          long = m .kept .long ∙ j .cuts e .kept .long;
         }
 
 pub ruleset settles = (settle-laid, settled-repeated, settled-loose, accepted-unlisted, settled-accepted, needs)
@@ -187,3 +179,11 @@ module _ (letters count : ℕ) (j : Judged) where
   answer-loose i e = rw e
 
 pub ruleset answers = (answer-accepted, answer-repeated, answer-loose, needs)
+
+-- a book whose answer is a refusal is refused by it
+refused-loading : (x : BookLoading) (r : Refusal) → Refused r ≡ told x → x ≡ refused r
+refused-loading (loaded letters relations) r e = let z : _≡_ {A = ℕ} 0 1 = cc in absurd (omega arith)
+refused-loading (refused s) r e = let f : r ≡ s = cc in rw f
+
+pub load-refused : (book : List ℕ) (reading : Reading) (text table : List ℕ) → BookLoaded book reading text table → (r : Refusal) → reading ≡ Refused r → loadBook book ≡ refused r
+load-refused book reading text table d r e = refused-loading (loadBook book) r (sym e ∙ d .answer)

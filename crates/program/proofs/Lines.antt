@@ -7,15 +7,14 @@ use native.Mathlib.Omega.{arith}
 use native.Mathlib.Nat.{add-zero}
 use borrow.Author.Needs.{needs}
 use borrow.Author.Tests.{lt-leb, le-leb}
-use lib.Dec.{leb}
-use lib.ListN.{length, take, drop, length-append, take-append-drop}
-use lib.Seq.{slice}
+use lib.ListN.{length, length-append, take-append-drop}
+use lib.Seq.{slice, take-nil}
 use mir.Val.{Fits}
 use mir.Syntax.{w64}
 use Rattle.words.specs.Words.{Word}
 use Rattle.layout.specs.Layout.{wordsIn}
 use Rattle.format.specs.declared.Refusal.{Refusal}
-use Rattle.format.specs.declared.Refusal.the-variants.{Short, Kind, Length}
+use Rattle.format.specs.declared.Refusal.the-variants.{Kind, Length}
 use Rattle.format.specs.declared.Record.{Record}
 use Rattle.format.specs.declared.Record.the-variants.{Whole, CutOff}
 use Rattle.format.specs.Limits.{comparisonKind, comparisonLength}
@@ -35,16 +34,12 @@ use Rattle.program.specs.Requests.{fieldsOf, requestOf, requestAt}
 use Rattle.program.specs.Answers.{answered, answeredAt, byAnswered, linesUnder, Lined, linesOfAccepted, Accepted}
 use Rattle.program.proofs.Size.{equal-of}
 
-take-none : (n : ℕ) → take {A = ℕ} n [] ≡ []
-take-none zero = refl
-take-none (suc n) = refl
-
 -- a part of the input, as the code takes it and as the definition does
 slice-between : (from to : ℕ) (l : List ℕ) → between l from to ≡ slice from to l
 slice-between zero to l = let e : to - 0 ≡ to = omega arith in rw e
 slice-between (suc from) zero [] = let e : 0 - suc from ≡ 0 = omega arith in rw e
 slice-between (suc from) zero (x ∷ l) = let e : 0 - suc from ≡ 0 = omega arith in rw e
-slice-between (suc from) (suc to) [] = take-none (suc to - suc from)
+slice-between (suc from) (suc to) [] = take-nil (suc to - suc from)
 slice-between (suc from) (suc to) (x ∷ l) = let e : suc to - suc from ≡ to - from = omega arith in rw e (slice-between from to l)
 
 -- where the words of a comparison lie

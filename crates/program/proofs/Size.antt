@@ -1,12 +1,12 @@
 -- The output is never longer than the size that is named for it: each line has at most 22 bytes, and each comparison record at least 12.
 use Prim.Native.Nat.{ℕ, zero, suc, _+_, _*_, _-_, _<_, _≤_}
-use mathlib.Core.Bool.{Bool, true, false, cond, not}
+use mathlib.Core.Bool.{Bool, true, false, cond}
 use mathlib.Core.List.{List, [], _∷_, _++_}
-use mathlib.Core.Path.{_≡_, refl, sym, ap, _∙_, subst}
+use mathlib.Core.Path.{_≡_, refl}
 use native.Mathlib.Omega.{arith}
-use borrow.Author.Tests.{eqb-true, ltb-true, ltb-false, leb-true, leb-false}
+use borrow.Author.Tests.{eqb-true, not-false, ltb-true, ltb-false, leb-false}
 use lib.Dec.{eqb, leb, ltb}
-use lib.ListN.{length, getD, take, length-append, length-take}
+use lib.ListN.{length, take, length-append, length-take}
 use lib.Seq.{slice}
 use Rattle.words.specs.Words.{Word}
 use Rattle.words.specs.Relations.{Relation, sides}
@@ -14,7 +14,7 @@ use Rattle.overlap.specs.Cuts.{firstLoose}
 use Rattle.overlap.specs.Verdict.{Verdict, judge, firstRepeated}
 use Rattle.congruence.specs.Rows.{Next, round}
 use Rattle.congruence.specs.Rows.Next.{end, go}
-use Rattle.congruence.specs.Rounds.{Answer, ending, answerFrom, compareUnder}
+use Rattle.congruence.specs.Rounds.{Answer, answerFrom, compareUnder}
 use Rattle.congruence.specs.Rounds.Answer.{same, different, spent}
 use Rattle.format.specs.declared.Refusal.{Refusal}
 use Rattle.format.specs.declared.Refusal.the-variants.{Short, Kind, Length, Range, UnknownLetter, TooMany, Repeated, Loose, Long, Stranger, Spent, Narrow, Heavy}
@@ -22,10 +22,9 @@ use Rattle.format.specs.declared.Record.{Record}
 use Rattle.format.specs.declared.Record.the-variants.{Whole, CutOff}
 use Rattle.format.specs.declared.Reading.{Reading}
 use Rattle.format.specs.declared.Reading.the-variants as Readings
-use Rattle.format.specs.Limits.{inputMost, lettersMost, relationsMost, relationKind, comparisonKind, comparisonLength, comparedMost, outside}
+use Rattle.format.specs.Limits.{inputMost, lettersMost, relationsMost, comparisonKind, comparisonLength, comparedMost}
 use Rattle.format.specs.Refusals.{numberOf, placeOf}
-use Rattle.format.specs.Book.{BookReading, byte, field, between, recordAt, differs, firstUnknown, unknownIn, headAt, fieldsAt, relationAt, relationIn, onWhole, onRead, relationsFrom, readBook}
-use Rattle.format.specs.Bytes.{Within}
+use Rattle.format.specs.Book.{BookReading, field, recordAt, differs, firstUnknown, headAt, fieldsAt, relationAt, relationIn, onWhole, onRead, relationsFrom, readBook}
 use Rattle.format.proofs.Readings.{WholeAt, whole-at, read-within}
 use Rattle.presentation.specs.Loading.{BookLoading, byVerdict, byReading, loadBook}
 use Rattle.given.specs.declared.Given.{Given}
@@ -34,10 +33,10 @@ use Rattle.given.specs.Given.{givenOf, andThen, pairOf}
 use Rattle.comparison.specs.declared.Comparison.{Comparison}
 use Rattle.comparison.specs.declared.Comparison.the-variants.{Same, Different, Refused}
 use Rattle.comparison.specs.Comparing.{byAnswer, byGiven, answerOf, comparisonOf}
-use Rattle.lines.specs.Decimal.{digitCount, decimal}
+use Rattle.lines.specs.Decimal.{digitCount}
 use Rattle.lines.specs.Lines.{numbered, lineOf, pairLineOf}
 use Rattle.lines.proofs.Laws.{count-small, count-below, length-decimal}
-use Rattle.program.specs.Program.{refusedText, bookText, sameText, differentText, refusedLine, comparisonLine, longField, bookEndFrom, bookEnd, comparisonIn, lineThen, linesFrom, byLoading, programOf}
+use Rattle.program.specs.Program.{bookText, sameText, differentText, refusedLine, comparisonLine, longField, bookEndFrom, bookEnd, comparisonIn, lineThen, linesFrom, byLoading, programOf}
 use Rattle.program.specs.Size.{lineMost, outputMost, AreBytes, OutputFits}
 
 -- a number that is printed: it has at most ten digits
@@ -190,11 +189,7 @@ few-more n at to s t h k f =
     record { count = suc (f .count); lines = omega (arith, f .lines); records = omega (arith, f .records) }
 
 pub equal-of : (m n : ℕ) → differs m n ≡ false → m ≡ n
-equal-of m n e = step (eqb m n) refl e
-  where
-    step : (b : Bool) → eqb m n ≡ b → not b ≡ false → m ≡ n
-    step true q h = eqb-true m n q
-    step false q h = absurd (let z : _≡_ {A = ℕ} 0 1 = cc in omega arith)
+equal-of m n e = eqb-true m n (not-false (eqb m n) e)
 
 module _ (letters : ℕ) (B : List Word) (input : List ℕ) (bytes : AreBytes input) (small : length input ≤ inputMost) where
   -- a whole record of the right kind and length

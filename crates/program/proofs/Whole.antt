@@ -1,18 +1,15 @@
 -- Laws of the code that loads the book and writes the whole output.
-use Prim.Native.Nat.{ℕ, zero, suc, _+_, _*_, _≤_, _<_}
+use Prim.Native.Nat.{ℕ, _+_, _≤_}
 use mathlib.Core.Bool.{Bool, true, false, cond}
-use mathlib.Core.List.{List, [], _∷_, _++_}
+use mathlib.Core.List.{List}
 use mathlib.Core.Path.{_≡_, refl, sym, ap, _∙_, subst}
 use native.Mathlib.Omega.{arith}
 use borrow.Author.Needs.{needs}
-use borrow.Author.Tests.{lt-ltb, le-ltb, ltb-true, ltb-false}
 use lib.Dec.{ltb}
 use lib.ListN.{length, getD, take}
 use mir.Val.{Fits}
 use mir.Syntax.{w8}
 use lib.Seq.{length-take-le}
-use Rattle.words.specs.Relations.{Relation, sides}
-use Rattle.layout.specs.Layout.{wordsIn}
 use Rattle.format.specs.declared.Refusal.{Refusal}
 use Rattle.format.specs.declared.Refusal.the-variants.{Heavy}
 use Rattle.format.specs.declared.Reading.{Reading}
@@ -21,17 +18,13 @@ use Rattle.format.specs.declared.Input.{Input}
 use Rattle.format.specs.declared.MadeInput.{MadeInput}
 use Rattle.format.specs.declared.MadeInput.the-variants as Inputs
 use Rattle.format.specs.Limits.{inputMost, inputOf}
-use Rattle.presentation.specs.Loading.{BookLoading, loadBook, told, Holding, BookLoaded}
-use Rattle.lines.specs.Lines.{Put, lineOf}
-use Rattle.program.specs.Program.{bookText, refusedLine, bookEnd, linesFrom, byLoading, programOf}
+use Rattle.presentation.specs.Loading.{BookLoading, loadBook, Holding, BookLoaded}
+use Rattle.presentation.proofs.Laws.{load-refused}
+use Rattle.lines.specs.Lines.{Put}
+use Rattle.program.specs.Program.{refusedLine, bookEnd, byLoading, programOf}
 use Rattle.program.specs.Size.{outputMost}
 use Rattle.program.specs.Answers.{linesOfAccepted, Accepted, outputOf, Roomy}
 use Rattle.program.proofs.Size.{end-within, refused-short, output-fits}
-
--- a book that is told refused is refused
-refused-of : (o : BookLoading) (x : Refusal) → told o ≡ Readings.Refused x → o ≡ BookLoading.refused x
-refused-of (BookLoading.loaded letters relations) x e = absurd (let z : _≡_ {A = ℕ} 0 1 = cc in omega arith)
-refused-of (BookLoading.refused r) x e = let q : r ≡ x = cc in ap BookLoading.refused q
 
 -- loading the book, and what is written for it
 module _ (input : List ℕ) (end : ℕ) (e : end ≡ bookEnd input) where
@@ -45,7 +38,8 @@ module _ (input : List ℕ) (end : ℕ) (e : end ≡ bookEnd input) where
     module _ (x : Refusal) (f : r ≡ Readings.Refused x) where
       refused-whole : outputOf input ≡ refusedLine x
       refused-whole =
-          let q : loadBook (take (bookEnd input) input) ≡ BookLoading.refused x = refused-of _ x (subst (λ (n : ℕ). told (loadBook (take n input)) ≡ Readings.Refused x) e (sym (l .answer) ∙ f)) in
+          let q : loadBook (take (bookEnd input) input) ≡ BookLoading.refused x =
+          subst (λ (n : ℕ). loadBook (take n input) ≡ BookLoading.refused x) e (load-refused (take end input) r text table l x f) in
           ap (byLoading input) q
 
       pub refused-fits : (out : List ℕ) → Roomy input out → 0 + length (refusedLine x) ≤ length out

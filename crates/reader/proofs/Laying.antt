@@ -1,37 +1,20 @@
 -- One relation word more: what a word and its fence in the text, and two numbers in the table, make of the words laid before.
-use Prim.Native.Nat.{ℕ, zero, suc, _+_, _*_, _-_, _≤_, _<_, min}
+use Prim.Native.Nat.{ℕ, suc, _+_, _*_, _-_, _≤_, _<_}
 use mathlib.Core.List.{List, [], _∷_, _++_, append-assoc}
-use mathlib.Core.Path.{_≡_, refl, sym, ap, _∙_, subst, subst₂}
+use mathlib.Core.Path.{_≡_, refl, sym, ap, _∙_, subst}
 use mathlib.Core.Logic.{by-cases}
 use native.Mathlib.Omega.{arith}
 use native.Mathlib.Numerals.{add-one}
-use native.Mathlib.Decide.{decLt, ℕ-discrete}
+use native.Mathlib.Decide.{decLt}
 use borrow.Author.Needs.{needs}
-use lib.ListN.{length, getD, take, drop, set, length-append, length-take, length-drop, length-set, List·getD-append}
-use lib.Seq.{length-take-le, getD-take, getD-drop, getD-append-add, getD-set-same, getD-set-other, ext-getD, drop-cons, set-at, take-at, drop-at, paste, paste-zero, paste-suc, length-paste, length-paste-head, take-length}
+use lib.ListN.{length, getD, take, drop, set, length-append, length-drop, length-set, List·getD-append}
+use lib.Seq.{length-take-le, getD-take, getD-append-add, getD-set-same, getD-set-other, drop-cons, set-at, take-at, drop-at, paste, paste-zero, paste-suc, length-paste-head, take-length}
 use mir.Syntax.{w8, w16}
 use mir.Val.{Fits}
 use Rattle.words.specs.Words.{Word}
 use Rattle.layout.specs.Layout.{startOf, endOf, part, wordsIn, Laid}
-use Rattle.reader.specs.Laying.{written, Arrays, Room, Appended}
-
--- words laid one after the other take at most 65 places each
-pub start-bound : (text table : List ℕ) (n : ℕ) → Laid text table n → (i : ℕ) → i ≤ n → startOf table i ≤ 65 * i
-start-bound text table n l zero h = omega (arith, l .first)
-start-bound text table n l (suc i) h =
-    let a = start-bound text table n l i (omega arith) in
-    let b : startOf table (suc i) ≡ endOf table i + 1 = ap (startOf table) (sym (add-one i)) ∙ l .next i (omega arith) in
-    let c = l .short i (omega arith) in
-    omega arith
-
--- each ends before a later one starts
-pub end-before : (text table : List ℕ) (n : ℕ) → Laid text table n → (i d : ℕ) → i + suc d ≤ n → endOf table i < startOf table (i + suc d)
-end-before text table n l i zero h = omega (arith, l .next i (omega arith))
-end-before text table n l i (suc d) h =
-    let a = end-before text table n l i d (omega arith) in
-    let e : startOf table (i + suc (suc d)) ≡ endOf table (i + suc d) + 1 = ap (startOf table) (omega arith) ∙ l .next (i + suc d) (omega arith) in
-    let b = l .some (i + suc d) (omega arith) in
-    omega arith
+use Rattle.layout.proofs.Placed.{start-bound, end-before, same-words}
+use Rattle.reader.specs.Laying.{written, Room, Appended}
 
 -- a word and its fence, by position
 module _ (word : Word) (fence at : ℕ) (text : List ℕ) (h : at + length word < length text) where
@@ -65,28 +48,6 @@ module _ (word : Word) (fence at : ℕ) (text : List ℕ) (h : at + length word 
       written-from (length word)
       ∙ ap (λ (n : ℕ). getD (word ++ (fence ∷ drop (at + length word + 1) text)) n 0) z
       ∙ getD-append-add word (fence ∷ drop (at + length word + 1) text) 0 0
-
--- parts of two texts that agree are the same
-same-part : (text text′ : List ℕ) (a b : ℕ) → length text′ ≡ length text → ((q : ℕ) → a ≤ q → q < b → getD text′ q 0 ≡ getD text q 0) → part text′ a b ≡ part text a b
-same-part text text′ a b e f =
-    let l : length (part text′ a b) ≡ length (part text a b) = simp (length-take, length-drop) (rw e) in
-    ext-getD 0 (part text′ a b) (part text a b) l
-    (λ k h.
-    let g : k < b - a = omega (arith, length-take (b - a) (drop a text′), length-drop a text′) in
-    getD-take (b - a) (drop a text′) k 0 g ∙ getD-drop a text′ k 0 ∙ f (a + k) (omega arith) (omega arith)
-    ∙ sym (getD-take (b - a) (drop a text) k 0 g ∙ getD-drop a text k 0))
-
--- the same starts, ends and letters give the same words
-same-words : (text table text′ table′ : List ℕ) (n : ℕ) → length text′ ≡ length text
-    → ((j : ℕ) → j < n → (startOf table′ j ≡ startOf table j) × (endOf table′ j ≡ endOf table j))
-    → ((j q : ℕ) → j < n → startOf table j ≤ q → q < endOf table j → getD text′ q 0 ≡ getD text q 0) → wordsIn text′ table′ n ≡ wordsIn text table n
-unfolding wordsIn
-same-words text table text′ table′ zero e p f = refl
-same-words text table text′ table′ (suc n) e p f =
-    let r = same-words text table text′ table′ n e (λ j h. p j (omega arith)) (λ j q h. f j q (omega arith)) in
-    let t = p n (omega arith) in
-    let s = same-part text text′ (startOf table n) (endOf table n) e (λ q. f n q (omega arith)) in
-    rw (r, t .0, t .1, s)
 
 -- the word's end and the next start in the table
 abbrev pub tabled : ℕ → ℕ → List ℕ → List ℕ
@@ -142,9 +103,7 @@ module _ (word text table : List ℕ) (i : ℕ) (r : Room word text table i) whe
   end-kept j h = tabled-before i end table inside (4 * j + 3) (omega arith)
 
   end-low : (j : ℕ) → j < i → endOf table j < start
-  end-low j h =
-      let z : j + suc (i - suc j) ≡ i = omega arith in
-      subst (λ (n : ℕ). endOf table j < startOf table n) z (end-before text table i (r .laid) j (i - suc j) (omega arith))
+  end-low j h = end-before text table i (r .laid) j h
 
   letter-kept : (q : ℕ) → q < start → getD text′ q 0 ≡ getD text q 0
   letter-kept q h = written-before word (64 + i) start text fits q h

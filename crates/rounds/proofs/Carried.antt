@@ -1,31 +1,29 @@
 -- The plan of each row, by positions, makes the next words of that row, and fits.
-use Prim.Native.Nat.{ℕ, zero, suc, _+_, _-_, _≤_, _<_, min}
-use mathlib.Core.Bool.{Bool, true, false, cond, _&&_, _||_, not, true≢false, and-eq-true-iff}
-use mathlib.Core.Logic.{by-cases}
-use mathlib.Core.List.{List, [], _∷_, _++_, append-nil}
-use mathlib.Core.Path.{_≡_, refl, sym, ap, _∙_, subst}
+use Prim.Native.Nat.{ℕ, _+_, _-_, _≤_}
+use mathlib.Core.Bool.{Bool, true, false, cond, _&&_, _||_, not, and-eq-true-iff}
+use mathlib.Core.List.{List, [], _++_, append-nil}
+use mathlib.Core.Path.{_≡_, refl, sym, ap, _∙_}
 use native.Mathlib.Omega.{arith}
-use lib.Dec.{eqb, leb, ltb}
-use lib.ListN.{length, getD, take, drop, length-append, length-take, length-drop}
+use lib.ListN.{length, take, drop, length-drop}
 use lib.Seq.{length-take-le, drop-length, drop-drop, drop-append-le}
-use Rattle.words.specs.Words.{Word, isEmpty, front, commonEnd}
-use Rattle.words.specs.Search.{greatest}
-use Rattle.words.specs.Relations.{other}
+use Rattle.words.specs.Words.{Word, front, commonEnd}
 use Rattle.words.proofs.Fronts.{front-length, front-split}
-use Rattle.words.proofs.Searching.{greatest-bound}
+use Rattle.words.proofs.Tests.{or-second}
 use Rattle.overlap.specs.Pieces.{word}
-use Rattle.overlap.specs.Cuts.{len, xlen, xylen, xOf, xyOf, zOf}
-use Rattle.congruence.specs.Rows.{Next, choose, crowded, active, alike, dropFirst, row3, row4, row5, row6, row7, row8}
+use Rattle.overlap.specs.Cuts.{len, xylen, xOf, xyOf, zOf}
+use Rattle.congruence.specs.Rows.{Next, choose, crowded, active, row3, row4, row5, row6, row7, row8}
 use Rattle.congruence.specs.Rows.Next.{end, go}
+use Rattle.overlap.proofs.Facts.{length-xy}
+use Rattle.congruence.proofs.CommonEnds.{end-within}
 use Rattle.layout.specs.Layout.{part}
-use Rattle.rounds.specs.declared.Change.{Change}
+use Rattle.layout.proofs.Parts.{part-take, part-drop, part-length}
 use Rattle.rounds.specs.declared.Plan.{Plan}
-use Rattle.rounds.specs.declared.Plan.the-variants.{End, Go}
+use Rattle.rounds.specs.declared.Plan.the-variants.{End}
 use Rattle.rounds.specs.declared.Site.{Site}
-use Rattle.rounds.specs.Plans.{applied, planned, Tailed, Fit, MarkFit, PlanFit, Carries}
+use Rattle.rounds.specs.Plans.{applied, planned, Fit, MarkFit, Carries}
 use Rattle.rounds.specs.Plans.PlanFit.{ends, goes}
-use Rattle.rounds.specs.Numbers.{number3, number4, number5, number6, number7, cutBy, tailBy, plan1, plan2, stays, wholeCut, putBoth, plan4, markAfter, plan5, plan6, plan7, plan8, restAt, plan8Of, sharedEnd, planBy}
-use Rattle.rounds.proofs.Sites.{Lies, part-take, part-drop, part-length}
+use Rattle.rounds.specs.Numbers.{number3, number4, number5, number6, number7, cutBy, tailBy, stays, wholeCut, putBoth, plan4, markAfter, plan5, plan6, plan7, plan8, restAt, plan8Of, sharedEnd, planBy}
+use Rattle.rounds.proofs.Sites.{Lies}
 use Rattle.rounds.proofs.RowNumbers.{front-whole}
 use Rattle.rounds.proofs.Cleans.{crowded-drop}
 
@@ -44,19 +42,12 @@ cut-applied text m w = refl
 
 -- the lengths of the parts of a relation word
 module _ (text : List ℕ) (B : List Word) (i : ℕ) (s : Site) (l : Lies text B i s) where
-  xy-length : length (xyOf B i) ≡ xylen B i
-  xy-length =
-      let b = l .long in
-      let d = l .longXY in
-      let t = l .third in
-      length-take-le (xylen B i) (word B i) (omega arith)
-
   z-length : length (zOf B i) ≡ s .stop - s .tail
   z-length = ap length (l .z) ∙ part-length text (s .tail) (s .stop) (l .inside)
 
   -- a word that begins with XY, or with all of the relation word, is as long
   xy-within : (w : Word) → front (xyOf B i) w ≡ true → s .tail - s .start ≤ length w
-  xy-within w e = let f = front-length (xyOf B i) w e in let g = xy-length in let d = l .longXY in omega arith
+  xy-within w e = let f = front-length (xyOf B i) w e in let g = length-xy B i in let d = l .longXY in omega arith
 
   whole-within : (w : Word) → front (word B i) w ≡ true → s .stop - s .start ≤ length w
   whole-within w e = let f = front-length (word B i) w e in let d = l .long in omega arith
@@ -64,7 +55,7 @@ module _ (text : List ℕ) (B : List Word) (i : ℕ) (s : Site) (l : Lies text B
   -- all of a relation word in front: its X and Y too
   xy-of-whole : (w : Word) → front (word B i) w ≡ true → front (xyOf B i) w ≡ true
   xy-of-whole w e =
-      let r : (front (xyOf B i) w && front (zOf B i) (drop (xylen B i) w)) ≡ true = sym (front-whole text B i s l w) ∙ e in
+      let r : (front (xyOf B i) w && front (zOf B i) (drop (xylen B i) w)) ≡ true = sym (front-whole B i w) ∙ e in
       (simp and-eq-true-iff at r) .0
 
   -- behind X and Y stand Z and the rest
@@ -222,11 +213,6 @@ module _ (text : List ℕ) (B : List Word) (i j : ℕ) (s t : Site) (li : Lies t
             fits = goes (x .1) (y .1) (cut-mark text B p (length p) (omega arith));
           })
 
--- the longest common end lies in both words
-pub end-within : (a b : Word) → (commonEnd a b ≤ length a) × (commonEnd a b ≤ length b)
-unfolding commonEnd
-end-within a b = let g = greatest-bound (min (length a) (length b)) (λ n. front (drop (length a - n) a) (drop (length b - n) b)) in omega arith
-
 sum-within : (a b c w : ℕ) → a ≤ w → b ≤ w - a → c ≡ a + b → c ≤ w
 sum-within a b c w h k e = omega arith
 
@@ -254,7 +240,7 @@ module _ (text : List ℕ) (B : List Word) (i : ℕ) (s : Site) (li : Lies text 
       let c = li .third in
       let b = head-length in
       let m : s .tail + (s .stop - l - s .tail) ≡ s .stop - l = omega arith in
-      ap (λ k. drop k (zOf B i)) b ∙ ap (drop (s .stop - l - s .tail)) (li .z) ∙ part-drop text (s .tail) (s .stop) (s .stop - l - s .tail) (omega arith) ∙ ap (λ k. part text k (s .stop)) m
+      ap (λ k. drop k (zOf B i)) b ∙ ap (drop (s .stop - l - s .tail)) (li .z) ∙ part-drop text (s .tail) (s .stop) (s .stop - l - s .tail) ∙ ap (λ k. part text k (s .stop)) m
 
   head-test : (w : Word) → restAt text s l w ≡ front head (drop (xylen B i) w)
   unfolding restAt
@@ -334,10 +320,6 @@ pub by-cond : (text : List ℕ) (B : List Word) (u v p : Word) (f : ℕ → Plan
 by-cond text B u v p f true x y X Y g h = g refl
 by-cond text B u v p f false x y X Y g h = h refl
 
-or-right : (a b : Bool) → (a || b) ≡ true → a ≡ false → b ≡ true
-or-right true b e f = absurd (true≢false f)
-or-right false b e f = e
-
 module _ (text : List ℕ) (B : List Word) (i j : ℕ) (s t : Site) (li : Lies text B i s) (lj : Lies text B j t) (u v p : Word) (e : front (xyOf B i) u ≡ true) where
   from7 : front (xyOf B j) v ≡ true → Carries text B u v p (planBy text B s t u v p (number7 B i j u v p)) (row7 B i j u v p)
   unfolding planBy number7 row7
@@ -361,7 +343,7 @@ module _ (text : List ℕ) (B : List Word) (i j : ℕ) (s t : Site) (li : Lies t
       by-cond text B u v p (planBy text B s t u v p) (front (xyOf B i) v) 5 (number6 B i j u v p)
       (λ _. go (drop (xylen B i) u) (drop (xylen B i) v) (choose (front p (xOf B i)) (λ _. []) (λ _. zOf B i))) (λ _. row6 B i j u v p)
       (λ q. carried5 text B i j s t li lj u v p e q)
-      (λ q. from6 (or-right (front (xyOf B i) v) (front (xyOf B j) v) f q))
+      (λ q. from6 (or-second (front (xyOf B i) v) (front (xyOf B j) v) f q))
 
   from4 : (front (xyOf B i) v || front (xyOf B j) v) ≡ true → Carries text B u v p (planBy text B s t u v p (number4 B i j u v p)) (row4 B i j u v p)
   unfolding planBy number4 row4

@@ -1,54 +1,32 @@
 -- At most one relation word's X and Y begin a word, clean or not: so the one that does is the only candidate for a clean front, and clean and active are one search.
-use Prim.Native.Nat.{ℕ, zero, suc, _+_, _-_, _≤_, _<_}
-use mathlib.Core.Bool.{Bool, true, false, _&&_, not, true≢false, and-eq-true-iff}
+use Prim.Native.Nat.{ℕ, _+_, _-_, _≤_, _<_}
+use mathlib.Core.Bool.{Bool, true, false, _&&_, not, and-eq-true-iff}
 use mathlib.Core.Logic.{by-cases}
-use mathlib.Core.List.{List, [], _∷_, _++_}
-use mathlib.Core.Path.{_≡_, refl, sym, ap, _∙_, subst}
+use mathlib.Core.List.{List}
+use mathlib.Core.Path.{_≡_, refl, sym, subst}
 use native.Mathlib.Omega.{arith}
-use native.Mathlib.Decide.{decLe, ℕ-discrete}
+use native.Mathlib.Decide.{ℕ-discrete}
 use lib.Dec.{leb}
 use borrow.Author.Tests.{leb-true, le-leb}
-use lib.ListN.{length, getD, take, drop}
-use lib.Seq.{length-take-le, getD-take, drop-drop}
-use Rattle.words.specs.Search.{anyBelow, least}
+use lib.ListN.{length, drop}
+use lib.Seq.{drop-drop}
+use Rattle.words.specs.Search.{least}
 use Rattle.words.specs.Words.{Word, front}
-use Rattle.words.proofs.Searching.{any-of, any-found, any-none, none-of, NoneBelow, least-is, least-none, least-first, least-passes, least-bound}
-use Rattle.words.proofs.Segments.{Same}
-use Rattle.words.proofs.Fronts.{front-at}
-use Rattle.words.proofs.Picks.{and-left, and-right}
-use Rattle.overlap.specs.Pieces.{word}
-use Rattle.overlap.specs.Cuts.{len, xlen, xylen, xyOf}
+use Rattle.words.proofs.Searching.{any-of, any-found, any-none, none-of, least-is, least-none, least-first, least-passes, least-bound}
+use Rattle.words.proofs.Picks.{and-left}
+use Rattle.overlap.specs.Cuts.{xlen, xylen, xyOf}
 use Rattle.overlap.proofs.Rigid.{Rigid}
 use Rattle.congruence.specs.Rows.{standsAt, crowded, clean, cleanFront}
+use Rattle.congruence.proofs.RowTests.{one-front, front-of-clean, cleanFront-passes}
 
 module _ (B : List Word) (r : Rigid B (xlen B) (xylen B)) (w : Word) where
-  -- the shorter of two fronts is a front of the other's relation word
-  shorter : (i j : ℕ) → i < length B → j < length B → xylen B i ≤ xylen B j → front (xyOf B i) w ≡ true → front (xyOf B j) w ≡ true → i ≡ j
-  shorter i j hi hj l e f =
-      let a = r .within i hi in
-      let b = r .within j hj in
-      let s = r .some i hi in
-      let ni = length-take-le (xylen B i) (word B i) (omega arith) in
-      let nj = length-take-le (xylen B j) (word B j) (omega arith) in
-      let same : Same (word B i) 0 (word B j) 0 (xylen B i) =
-      record {
-        at = λ k h. let z : 0 + k ≡ k = omega arith in rw z (
-            sym (getD-take (xylen B i) (word B i) k 0 h) ∙ front-at (xyOf B i) w e k (omega arith) ∙ sym (front-at (xyOf B j) w f k (omega arith)) ∙ getD-take (xylen B j) (word B j) k 0 (omega arith));
-      }
-      in
-      r .marker i j 0 (xylen B i) hi hj (omega arith) (omega arith) (omega arith) same .0
-
-  pub one-front : (i j : ℕ) → i < length B → j < length B → front (xyOf B i) w ≡ true → front (xyOf B j) w ≡ true → i ≡ j
-  one-front i j hi hj e f =
-      by-cases (decLe (xylen B i) (xylen B j)) (λ a. shorter i j hi hj a e f) (λ a. sym (shorter j i hj hi (omega arith) f e))
-
   -- no other is a clean front
   other-unclean : (i j : ℕ) → i < length B → j < length B → front (xyOf B i) w ≡ true → (j ≡ i → ⊥) → clean B w j ≡ false
   unfolding clean
   other-unclean i j hi hj e d = go (front (xyOf B j) w) refl
     where
       go : (t : Bool) → front (xyOf B j) w ≡ t → (front (xyOf B j) w && not (crowded B w (xlen B j + 1) (xylen B j))) ≡ false
-      go true q = absurd (d (sym (one-front i j hi hj e q)))
+      go true q = absurd (d (sym (one-front r w i j hi hj e q)))
       go false q = rw q
 
   module _ (k : ℕ) (f : k ≡ least (length B) (λ j. front (xyOf B j) w)) where
@@ -81,14 +59,7 @@ module _ (B : List Word) (r : Rigid B (xlen B) (xylen B)) (w : Word) where
 
 -- a clean front is a front
 pub clean-front : (B : List Word) (w : Word) (i : ℕ) → i ≡ cleanFront B w → i < length B → front (xyOf B i) w ≡ true
-unfolding cleanFront clean
-clean-front B w i e h =
-    let p : clean B w i ≡ true = rw e (least-passes (length B) (clean B w) (rw e at h)) in
-    go (front (xyOf B i) w) refl p
-  where
-    go : (t : Bool) → front (xyOf B i) w ≡ t → clean B w i ≡ true → t ≡ true
-    go true q p = refl
-    go false q p = absurd (true≢false (sym p ∙ rw q))
+clean-front B w i e h = front-of-clean B w i (rw e (cleanFront-passes B w (rw e at h)))
 
 -- what stands behind the first m letters, counted from there or from the start
 stands-drop : (B : List Word) (w : Word) (m q : ℕ) → standsAt B (drop m w) q ≡ standsAt B w (m + q)

@@ -1,45 +1,34 @@
 -- The plan by the number of the first row that fits carries the round.
-use Prim.Native.Nat.{ℕ, zero, suc, _+_, _-_, _*_, _%_, _≤_, _<_, min}
-use mathlib.Core.Bool.{Bool, true, false, cond, _&&_, _||_, true≢false}
-use mathlib.Core.List.{List, [], _∷_, _++_}
-use mathlib.Core.Path.{_≡_, refl, sym, ap, _∙_, subst}
+use Prim.Native.Nat.{ℕ, suc, _≤_, _<_, min}
+use mathlib.Core.Bool.{Bool, true, false, cond, _&&_, _||_}
+use mathlib.Core.List.{List, [], _∷_}
+use mathlib.Core.Path.{_≡_, refl, ap, _∙_}
 use native.Mathlib.Omega.{arith}
-use lib.Dec.{eqb, ltb}
+use lib.Dec.{ltb}
 use borrow.Author.Tests.{ltb-true}
-use lib.ListN.{length, getD, drop}
-use Rattle.words.specs.Words.{Word, isEmpty, front}
+use lib.ListN.{length, drop}
+use Rattle.words.specs.Words.{Word, isEmpty}
 use Rattle.words.specs.Relations.{other}
-use Rattle.overlap.specs.Cuts.{xyOf}
-use Rattle.congruence.specs.Rows.{Next, choose, alike, dropFirst, row3, fromFront, cleanFront, round}
+use Rattle.words.proofs.Tests.{or-neither, cond-both}
+use Rattle.words.proofs.Lists.{some-letter}
+use Rattle.words.proofs.Relations.{other-there}
+use Rattle.congruence.specs.Rows.{choose, alike, dropFirst, row3, fromFront, cleanFront, round}
 use Rattle.congruence.specs.Rows.Next.{end, go}
-use Rattle.layout.specs.Layout.{wordsIn, Checked}
+use Rattle.layout.specs.Layout.{wordsIn}
+use Rattle.layout.proofs.Placed.{words-length}
 use Rattle.rounds.specs.declared.Plan.{Plan}
-use Rattle.rounds.specs.declared.Plan.the-variants.{End, Go}
-use Rattle.rounds.specs.declared.Site.{Site}
-use Rattle.rounds.specs.Plans.{applied, planned, PlanFit, Carries, Decided, Paired}
+use Rattle.rounds.specs.declared.Plan.the-variants.{End}
+use Rattle.rounds.specs.Plans.{planned, Carries, Decided, Paired}
 use Rattle.rounds.specs.Plans.PlanFit.{ends, goes}
-use Rattle.rounds.specs.Numbers.{number3, numberOf, siteOf, cutBy, plan1, dropOne, markDrop, plan2, planBy}
-use Rattle.rounds.proofs.Sites.{Lies, lies, length-words}
+use Rattle.rounds.specs.Numbers.{number3, numberOf, siteOf, plan1, dropOne, markDrop, plan2, planBy}
+use Rattle.rounds.proofs.Sites.{lies}
 use Rattle.rounds.proofs.Cleans.{clean-front}
 use Rattle.rounds.proofs.Carried.{go-same, cut-fits, cut-mark, cut-applied, by-cond, from3}
-
--- a word that is not empty has a letter
-pub some-letter : (u : Word) → isEmpty u ≡ false → 1 ≤ length u
-some-letter [] e = absurd (true≢false e)
-some-letter (x ∷ u) e = omega arith
 
 -- the mark without its first letter, if it has one
 mark-drop : (p : Word) → drop (min 1 (length p)) p ≡ drop 1 p
 mark-drop [] = refl
 mark-drop (x ∷ p) = let e : min 1 (suc (length p)) ≡ 1 = omega arith in ap (λ k. drop k (x ∷ p)) e
-
-pub none-empty : (a b : Bool) → (a || b) ≡ false → (a ≡ false) × (b ≡ false)
-none-empty true b e = absurd (true≢false e)
-none-empty false b e = (refl, e)
-
-cond-both : (a b : Bool) (x y : Plan) → cond a (cond b x y) y ≡ cond (a && b) x y
-cond-both true b x y = refl
-cond-both false b x y = refl
 
 -- row 2
 carried2 : (text : List ℕ) (B : List Word) (u v p : Word) → 1 ≤ length u → 1 ≤ length v → Carries text B u v p (plan2 u v p) (dropFirst u v p)
@@ -55,10 +44,6 @@ carried2 text B u v p a b =
         }
     by-test false = record { same = refl; fits = ends }
 
--- the other word of the same relation is there
-pub other-there : (n i : ℕ) → n % 2 ≡ 0 → i < n → other i < n
-other-there n i e h = omega arith
-
 module _ (text table : List ℕ) (n : ℕ) (c : Paired text table n) (u v p : Word) (i : ℕ) (f : i ≡ cleanFront (wordsIn text table n) u) where
   from-front : 1 ≤ length u → 1 ≤ length v
       → Carries text (wordsIn text table n) u v p
@@ -71,7 +56,7 @@ module _ (text table : List ℕ) (n : ℕ) (c : Paired text table n) (u v p : Wo
       (λ _. row3 (wordsIn text table n) i (other i) u v p) (λ _. dropFirst u v p)
       (λ q.
       let k = ltb-true i (length (wordsIn text table n)) q in
-      let l = length-words text table n in
+      let l = words-length text table n in
       let h : i < n = omega arith in
       from3 text (wordsIn text table n) i (other i) (siteOf table i) (siteOf table (other i))
       (lies text table n (c .checked) i h) (lies text table n (c .checked) (other i) (other-there n i (c .even) h)) u v p
@@ -88,7 +73,7 @@ module _ (text table : List ℕ) (n : ℕ) (c : Paired text table n) (u v p : Wo
       (λ _. end (isEmpty u && (isEmpty v && isEmpty p))) (λ _. fromFront (wordsIn text table n) u v p (cleanFront (wordsIn text table n) u))
       (λ q. record { same = refl; fits = ends })
       (λ q.
-      let r = none-empty (isEmpty u) (isEmpty v) q in
+      let r = or-neither (isEmpty u) (isEmpty v) q in
       rw (← f) (from-front (some-letter u (r .0)) (some-letter v (r .1))))
 
   -- the plan that is made for the row that fits

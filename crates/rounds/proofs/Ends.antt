@@ -1,42 +1,28 @@
 -- The longest common end of two parts of the text, counted letter by letter from their ends.
-use Prim.Native.Nat.{ℕ, zero, suc, _+_, _-_, _≤_, _<_, min}
-use mathlib.Core.Bool.{Bool, true, false, true≢false}
+use Prim.Native.Nat.{ℕ, _+_, _-_, _≤_, _<_, min}
+use mathlib.Core.Bool.{Bool, true, false}
 use mathlib.Core.Logic.{by-cases}
 use mathlib.Core.List.{List}
-use mathlib.Core.Path.{_≡_, refl, sym, ap, _∙_, subst}
+use mathlib.Core.Path.{_≡_, sym, ap, _∙_, subst}
 use native.Mathlib.Omega.{arith}
 use native.Mathlib.Decide.{decLt}
 use borrow.Author.Needs.{needs}
-use lib.ListN.{length, getD, take, drop}
-use lib.Seq.{getD-take, getD-drop}
-use Rattle.words.specs.Search.{greatest}
-use Rattle.words.specs.Words.{Word, front, lastLetters, commonEnd}
-use Rattle.words.proofs.Searching.{greatest-bound, greatest-passes, greatest-last}
+use lib.ListN.{length, getD, drop}
+use Rattle.words.specs.Words.{front, lastLetters, commonEnd}
+use Rattle.words.proofs.Searching.{greatest-is}
+use Rattle.words.proofs.Tests.{false-of}
 use Rattle.words.proofs.Fronts.{front-at, at-front}
 use Rattle.layout.specs.Layout.{part}
+use Rattle.layout.proofs.Parts.{part-length, part-at, part-drop}
 use Rattle.rounds.specs.declared.Site.{Site}
-use Rattle.rounds.specs.Plans.{Placed, Mates, BackRoom, AgreeBack}
+use Rattle.rounds.specs.Plans.{Mates, BackRoom, AgreeBack}
 use Rattle.rounds.specs.Numbers.{sharedEnd}
-use Rattle.rounds.proofs.Sites.{part-drop, part-length}
-
--- the greatest number that passes, by what holds of it
-pub greatest-is : (n : ℕ) (p : ℕ → Bool) (m : ℕ) → m ≤ n → (0 < m → p m ≡ true) → ((k : ℕ) → m < k → k ≤ n → p k ≡ false) → greatest n p ≡ m
-greatest-is n p m h t f =
-    let b = greatest-bound n p in
-    by-cases (decLt (greatest n p) m)
-    (λ a. absurd (true≢false (sym (t (omega arith)) ∙ greatest-last n p m a h)))
-    (λ a. by-cases (decLt m (greatest n p))
-    (λ d. absurd (true≢false (sym (greatest-passes n p (omega arith)) ∙ f (greatest n p) d b)))
-    (λ d. omega arith))
 
 -- the last m letters of a part are a part
 last-part : (text : List ℕ) (from to m : ℕ) → from ≤ to → to ≤ length text → m ≤ to - from → lastLetters m (part text from to) ≡ part text (to - m) to
 last-part text from to m u h l =
     let e : from + (to - from - m) ≡ to - m = omega arith in
-    ap (λ k. drop (k - m) (part text from to)) (part-length text from to h) ∙ part-drop text from to (to - from - m) (omega arith) ∙ ap (λ k. part text k to) e
-
-part-letter : (text : List ℕ) (to m k : ℕ) → m ≤ to → k < m → getD (part text (to - m) to) k 0 ≡ getD text (to - m + k) 0
-part-letter text to m k h l = getD-take (to - (to - m)) (drop (to - m) text) k 0 (omega arith) ∙ getD-drop (to - m) text k 0
+    ap (λ k. drop (k - m) (part text from to)) (part-length text from to h) ∙ part-drop text from to (to - from - m) ∙ ap (λ k. part text k to) e
 
 -- the same place from both ends
 back : (x m k : ℕ) → m ≤ x → k < m → x - m + k ≡ x - 1 - (m - 1 - k)
@@ -63,15 +49,15 @@ module _ (text : List ℕ) (x y m : ℕ) (hx : x ≤ length text) (hy : y ≤ le
       at-front (part text (x - m) x) (part text (y - m) y) (omega arith)
       (λ k h.
       let q : k < m = omega arith in
-      part-letter text x m k mx q ∙ letter (back x m k mx q) ∙ b .at (m - 1 - k) (less m k q) ∙ letter (sym (back y m k my q)) ∙ sym (part-letter text y m k my q))
+      part-at text (x - m) x k (omega arith) ∙ letter (back x m k mx q) ∙ b .at (m - 1 - k) (less m k q) ∙ letter (sym (back y m k my q)) ∙ sym (part-at text (y - m) y k (omega arith)))
 
   front-backwards : front (part text (x - m) x) (part text (y - m) y) ≡ true → Backwards text x y m
   front-backwards f =
       let lx : length (part text (x - m) x) ≡ m = part-length text (x - m) x hx ∙ omega arith in
       record {
         at = λ k h.
-            letter (forth x m k mx h) ∙ sym (part-letter text x m (m - 1 - k) mx (less m k h)) ∙ front-at (part text (x - m) x) (part text (y - m) y) f (m - 1 - k) (rw lx (less m k h))
-            ∙ part-letter text y m (m - 1 - k) my (less m k h) ∙ letter (sym (forth y m k my h));
+            letter (forth x m k mx h) ∙ sym (part-at text (x - m) x (m - 1 - k) (omega arith)) ∙ front-at (part text (x - m) x) (part text (y - m) y) f (m - 1 - k) (rw lx (less m k h))
+            ∙ part-at text (y - m) y (m - 1 - k) (omega arith) ∙ letter (sym (forth y m k my h));
       }
 
 -- the test of `commonEnd`
@@ -103,13 +89,9 @@ counted-at text s t h l w b d =
     (λ k a q. fails k a (omega arith)))
   where
     fails : (k : ℕ) → l < k → k ≤ min (s .stop - s .tail) (t .stop - t .tail) → test text s t k ≡ false
-    fails k a q = go (test text s t k) refl
-      where
-        go : (r : Bool) → test text s t k ≡ r → r ≡ false
-        go true e =
-            absurd (d (omega arith)
-            (front-backwards text (s .stop) (t .stop) k (h .own .inside) (h .turned .inside) (omega arith) (omega arith) (front-test text s t h k q e) .at l a))
-        go false e = refl
+    fails k a q = false-of (test text s t k) (λ e.
+        d (omega arith)
+        (front-backwards text (s .stop) (t .stop) k (h .own .inside) (h .turned .inside) (omega arith) (omega arith) (front-test text s t h k q e) .at l a))
 
 -- l letters before x and before y are compared, of at most `room`
 pub record Ending (text : List ℕ) (x y room l : ℕ) : Type 0 where

@@ -1,31 +1,33 @@
 -- Laws of the row number's cases, and of the decision.
-use Prim.Native.Nat.{ℕ, zero, suc, _+_, _-_, _*_, _%_, _≤_, _<_, min}
-use mathlib.Core.Bool.{Bool, true, false, cond, _&&_, _||_, not, true≢false}
-use mathlib.Core.Logic.{by-cases}
-use mathlib.Core.List.{List, [], _∷_, _++_}
-use mathlib.Core.Path.{_≡_, refl, sym, ap, _∙_, subst}
+use Prim.Native.Nat.{ℕ, _+_, _*_, _≤_, _<_}
+use mathlib.Core.Bool.{Bool, true, false, cond, _||_}
+use mathlib.Core.List.{List}
+use mathlib.Core.Path.{_≡_, refl, sym, ap, _∙_}
 use native.Mathlib.Omega.{arith}
-use native.Mathlib.Decide.{decLt}
 use borrow.Author.Needs.{needs}
-use borrow.Author.Tests.{eqb-true, eq-eqb, ne-eqb, ltb-true, ltb-false, lt-ltb, le-ltb}
-use lib.Dec.{eqb, ltb}
-use lib.ListN.{length, getD, drop}
-use Rattle.words.specs.Words.{Word, isEmpty, front, commonEnd}
+use borrow.Author.Tests.{ne-eqb, ltb-true}
+use lib.Dec.{ltb}
+use lib.ListN.{length}
+use Rattle.words.specs.Words.{Word, isEmpty}
 use Rattle.words.specs.Relations.{other}
 use Rattle.words.proofs.Searching.{least-bound}
-use Rattle.overlap.specs.Cuts.{xyOf}
+use Rattle.words.proofs.Tests.{or-neither}
+use Rattle.words.proofs.Lists.{some-letter}
+use Rattle.words.proofs.Relations.{other-there}
 use Rattle.congruence.specs.Rows.{clean, cleanFront}
-use Rattle.layout.specs.Layout.{part, wordsIn, Checked}
+use Rattle.congruence.proofs.CommonEnds.{end-within}
+use Rattle.layout.specs.Layout.{part, wordsIn}
+use Rattle.layout.proofs.Parts.{part-length}
+use Rattle.layout.proofs.Placed.{words-length}
 use Rattle.rounds.specs.declared.Plan.{Plan}
-use Rattle.rounds.specs.declared.Plan.the-variants.{End, Go}
+use Rattle.rounds.specs.declared.Plan.the-variants.{End}
 use Rattle.rounds.specs.declared.Site.{Site}
-use Rattle.rounds.specs.Plans.{Placed, Mates, Sited, BothSome, Turning, Upwards, Headed, Shared, Fronted, Paired, Decided}
+use Rattle.rounds.specs.Plans.{Placed, Mates, BothSome, Turning, Upwards, Shared, Fronted, Paired, Decided}
 use Rattle.rounds.specs.Numbers.{siteOf, lateRow, firstRow, number3, numberOf, sharedEnd, plan1, plan2, stays, wholeCut, plan4, plan5, plan6, plan7, plan8Of, planBy}
-use Rattle.rounds.proofs.Sites.{Lies, lies, length-words, part-length}
+use Rattle.rounds.proofs.Sites.{Lies, lies}
 use Rattle.rounds.proofs.RowNumbers.{late-number}
 use Rattle.rounds.proofs.Cleans.{clean-front}
-use Rattle.rounds.proofs.Carried.{end-within}
-use Rattle.rounds.proofs.Decides.{some-letter, none-empty, other-there, decided-by}
+use Rattle.rounds.proofs.Decides.{decided-by}
 use Rattle.rounds.proofs.Laws.{tail-after, stop-after}
 
 -- row 8
@@ -62,7 +64,7 @@ module _ (text : List ℕ) (n i : ℕ) (s t : Site) (u v p : Word) where
     where
       go : (x : Bool) → (isEmpty u || isEmpty v) ≡ x → BothSome u v
       go true e = let q : firstRow text n i s t u v p ≡ 1 = rw e in absurd (omega arith)
-      go false e = let r = none-empty (isEmpty u) (isEmpty v) e in record { someU = some-letter u (r .0); someV = some-letter v (r .1) }
+      go false e = let r = or-neither (isEmpty u) (isEmpty v) e in record { someU = some-letter u (r .0); someV = some-letter v (r .1) }
 
   module _ (row : ℕ) (e : row ≡ firstRow text n i s t u v p) where
     pub row-some : row ≡ 2 → BothSome u v
@@ -132,7 +134,7 @@ pub ruleset rowPlans = (by1, by2, by3, by4, by5, by6, by7, by8, row-some, row-tu
 module _ (text table : List ℕ) (n : ℕ) (c : Paired text table n) (u : Word) (i : ℕ) (e : i ≡ cleanFront (wordsIn text table n) u) where
   front-bound : i ≤ n
   unfolding cleanFront
-  front-bound = let b = least-bound (length (wordsIn text table n)) (clean (wordsIn text table n) u) in let l = length-words text table n in omega arith
+  front-bound = let b = least-bound (length (wordsIn text table n)) (clean (wordsIn text table n) u) in let l = words-length text table n in omega arith
 
   pub decide-few : i ≤ 64
   decide-few = let a = front-bound in let b = c .checked .laid .few in omega arith
@@ -160,12 +162,12 @@ module _ (text table : List ℕ) (n : ℕ) (c : Paired text table n) (u : Word) 
 
       first-number : (v p : Word) → firstRow text n i s t u v p ≡ numberOf (wordsIn text table n) u v p i
       unfolding firstRow numberOf
-      first-number v p = rw (length-words text table n) (ap (cond (isEmpty u || isEmpty v) 1) (go (ltb i n) refl))
+      first-number v p = rw (words-length text table n) (ap (cond (isEmpty u || isEmpty v) 1) (go (ltb i n) refl))
         where
           go : (x : Bool) → ltb i n ≡ x → cond (ltb i n) (lateRow text s t u v p) 2 ≡ cond (ltb i n) (number3 (wordsIn text table n) i (other i) u v p) 2
           go true q =
               let h = ltb-true i n q in
-              let l = length-words text table n in
+              let l = words-length text table n in
               rw q (late-number text (wordsIn text table n) i (other i) s t (own-lies h) (turned-lies h) u v p (clean-front (wordsIn text table n) u i e (omega arith)))
           go false q = rw q
 

@@ -1,29 +1,30 @@
 -- A law for each way that the code of a round can go.
-use Prim.Native.Nat.{ℕ, zero, suc, _+_, _-_, _*_, _%_, _≤_, _<_, min}
-use mathlib.Core.Bool.{Bool, true, false, cond, _&&_, _||_, not, true≢false}
+use Prim.Native.Nat.{ℕ, suc, _+_, _-_, _*_, _≤_, _<_}
+use mathlib.Core.Bool.{Bool, true, false, _&&_, true≢false}
 use mathlib.Core.List.{List, [], _∷_, _++_}
-use mathlib.Core.Path.{_≡_, refl, sym, ap, _∙_, subst}
+use mathlib.Core.Path.{_≡_, refl, sym, ap, _∙_}
 use native.Mathlib.Omega.{arith}
 use borrow.Author.Needs.{needs}
 use mir.Syntax.{w64}
 use mir.Val.{Fits}
 use lib.Dec.{eqb, leb, ltb}
-use lib.ListN.{length, getD, take, drop}
+use lib.ListN.{length, take, drop}
 use borrow.Author.Tests.{eqb-true, eq-eqb, ne-eqb, lt-ltb, le-ltb, le-leb, lt-leb}
 use Rattle.words.specs.Words.{Word, isEmpty, front}
+use Rattle.words.proofs.Tests.{false-of}
 use Rattle.words.proofs.Fronts.{front-length}
 use Rattle.layout.specs.Layout.{startOf, xEndOf, zStartOf, endOf, part, wordsIn, Checked}
-use Rattle.words.specs.Search.{anyBelow, greatest}
-use Rattle.words.proofs.Searching.{NoneBelow, none-start, none-more, none-all, any-of, any-none, greatest-bound}
-use Rattle.overlap.specs.Cuts.{xlen, xylen, xyOf}
+use Rattle.words.proofs.Searching.{NoneBelow, none-more, any-of, any-none}
 use Rattle.overlap.proofs.Facts.{rigid-of-c4}
 use Rattle.congruence.specs.Rows.{standsAt, crowded, cleanFront}
 use Rattle.index.specs.Index.{Span, frontAt}
 use Rattle.index.proofs.FrontAt.{stands-front}
+use Rattle.layout.proofs.Parts.{part-take, part-length}
+use Rattle.layout.proofs.Placed.{words-length}
 use Rattle.rounds.specs.declared.Site.{Site}
 use Rattle.rounds.specs.Plans.{Placed, Known, Mates, Sited}
-use Rattle.rounds.specs.Numbers.{siteOf, shapeOf, rowBy, shapedRow, markedBy, lateRow, firstRow, crowdedFront, sharedEnd}
-use Rattle.rounds.proofs.Sites.{part-take, part-length, length-words, lies}
+use Rattle.rounds.specs.Numbers.{siteOf, shapeOf, rowBy, shapedRow, markedBy, lateRow, firstRow, crowdedFront}
+use Rattle.rounds.proofs.Sites.{lies}
 use Rattle.rounds.proofs.Cleans.{clean-none, clean-crowded, clean-here}
 
 -- the parts of a relation word lie in the text
@@ -113,17 +114,13 @@ front-take (x ∷ a) (y ∷ b) = ap (eqb x y &&_) (front-take a b)
 -- the mark and X
 module _ (text : List ℕ) (s : Site) (p : Word) (h : Placed text s) where
   pub marks-long : s .middle - s .start < length p → false ≡ front p (part text (s .start) (s .middle))
-  marks-long l = go (front p (part text (s .start) (s .middle))) refl
-    where
-      go : (t : Bool) → front p (part text (s .start) (s .middle)) ≡ t → false ≡ t
-      go true e =
-          let f = front-length p (part text (s .start) (s .middle)) e in
-          let a = h .second in
-          let b = h .third in
-          let c = h .inside in
-          let g = part-length text (s .start) (s .middle) (omega arith) in
-          absurd (omega arith)
-      go false e = refl
+  marks-long l = sym (false-of (front p (part text (s .start) (s .middle))) (λ e.
+      let f = front-length p (part text (s .start) (s .middle)) e in
+      let a = h .second in
+      let b = h .third in
+      let c = h .inside in
+      let g = part-length text (s .start) (s .middle) (omega arith) in
+      absurd (omega arith)))
 
   module _ (l : length p ≤ s .middle - s .start) where
     pub marks-span : Span text (s .start) (s .start + length p)
@@ -211,7 +208,7 @@ pub ruleset firsts = (first-u, first-v, first-none, first-late, sited-mates, nee
 
 -- X and Y at a place
 pub stands-below : (text table : List ℕ) (n : ℕ) (w : Word) (q k : ℕ) → k ≡ frontAt (wordsIn text table n) w q → ltb k n ≡ standsAt (wordsIn text table n) w q
-stands-below text table n w q k e = rw (stands-front (wordsIn text table n) w q, ← e, length-words text table n)
+stands-below text table n w q k e = rw (stands-front (wordsIn text table n) w q, ← e, words-length text table n)
 
 pub ruleset standing = (stands-below, needs)
 
@@ -270,7 +267,7 @@ module _ (text table : List ℕ) (n : ℕ) (c : Checked text table n) (w : Word)
   pub clean-no-front : n ≤ k → n ≡ cleanFront (wordsIn text table n) w
   unfolding frontAt
   clean-no-front h =
-      let l = length-words text table n in
+      let l = words-length text table n in
       sym l ∙ clean-none (wordsIn text table n) (rigid-of-c4 (wordsIn text table n) (c .accepted)) w k e (omega arith)
 
   module _ (h : k < n) where
@@ -280,13 +277,13 @@ module _ (text table : List ℕ) (n : ℕ) (c : Checked text table n) (w : Word)
     pub clean-not : (x : Bool) → x ≡ crowdedFront (wordsIn text table n) k w → x ≡ true → n ≡ cleanFront (wordsIn text table n) w
     unfolding crowdedFront frontAt
     clean-not x f q =
-        let l = length-words text table n in
+        let l = words-length text table n in
         sym l ∙ clean-crowded (wordsIn text table n) (rigid-of-c4 (wordsIn text table n) (c .accepted)) w k e (omega arith) (sym f ∙ q)
 
     pub clean-one : (x : Bool) → x ≡ crowdedFront (wordsIn text table n) k w → x ≡ false → k ≡ cleanFront (wordsIn text table n) w
     unfolding crowdedFront frontAt
     clean-one x f q =
-        let l = length-words text table n in
+        let l = words-length text table n in
         clean-here (wordsIn text table n) (rigid-of-c4 (wordsIn text table n) (c .accepted)) w k e (omega arith) (sym f ∙ q)
 
 pub ruleset cleans = (clean-no-front, clean-known, clean-not, clean-one, needs)

@@ -1,28 +1,24 @@
 -- A law for each way that the functions of the rows can go.
-use Prim.Native.Nat.{ℕ, zero, suc, _+_, _-_, _*_, _%_, _≤_, _<_, min}
-use mathlib.Core.Bool.{Bool, true, false, cond, _&&_, _||_, not, true≢false}
-use mathlib.Core.Logic.{by-cases}
+use Prim.Native.Nat.{ℕ, suc, _+_, _-_, _≤_, _<_, min}
+use mathlib.Core.Bool.{Bool, true, false}
 use mathlib.Core.List.{List, [], _∷_, _++_}
-use mathlib.Core.Path.{_≡_, refl, sym, ap, _∙_, subst}
+use mathlib.Core.Path.{_≡_, refl, ap}
 use native.Mathlib.Omega.{arith}
-use native.Mathlib.Decide.{decLt}
 use borrow.Author.Needs.{needs}
-use borrow.Author.Tests.{eqb-true, eq-eqb, ne-eqb, lt-ltb, le-ltb}
-use lib.Dec.{eqb, leb, ltb}
-use lib.ListN.{length, getD, take, drop, length-append}
-use Rattle.words.specs.Words.{Word, isEmpty, front, commonEnd}
-use Rattle.words.specs.Relations.{other}
-use Rattle.overlap.specs.Cuts.{xyOf}
-use Rattle.congruence.specs.Rows.{alike, crowded, cleanFront}
-use Rattle.layout.specs.Layout.{part, wordsIn, Checked}
+use borrow.Author.Tests.{eq-eqb, ne-eqb}
+use lib.Dec.{eqb}
+use lib.ListN.{length, getD, drop, length-append}
+use Rattle.words.specs.Words.{Word, isEmpty, front}
+use Rattle.congruence.specs.Rows.{crowded}
+use Rattle.layout.specs.Layout.{part, Checked}
 use Rattle.index.specs.Index.{Span}
 use Rattle.rounds.specs.declared.Change.{Change}
 use Rattle.rounds.specs.declared.Plan.{Plan}
 use Rattle.rounds.specs.declared.Plan.the-variants.{End, Go}
 use Rattle.rounds.specs.declared.Site.{Site}
-use Rattle.rounds.specs.Plans.{Placed, Known, Mates, Sited, BothSome, Turning, Upwards, Headed, Ends, Shared, Fronted, Paired, Decided}
-use Rattle.rounds.specs.Numbers.{siteOf, lateRow, firstRow, number3, numberOf, cutBy, tailBy, sharedEnd, plan1, dropOne, markDrop, plan2, stays, wholeCut, putBoth, plan4, markAfter, plan5, plan6, plan7, restAt, plan8, plan8Of, planBy}
-use Rattle.rounds.proofs.Laws.{empty-left, empty-right, tail-after, stop-after, spans}
+use Rattle.rounds.specs.Plans.{Mates, BothSome, Turning, Headed, Ends, Shared}
+use Rattle.rounds.specs.Numbers.{cutBy, tailBy, plan1, dropOne, markDrop, plan2, stays, wholeCut, putBoth, plan4, markAfter, plan5, plan6, plan7, restAt, plan8, plan8Of}
+use Rattle.rounds.proofs.Laws.{empty-right, tail-after, stop-after}
 
 -- changes by their numbers
 pub cut-made : (m : ℕ) → record { from = 0; to = 0; cut = m } ≡ cutBy m

@@ -1,30 +1,25 @@
 -- The number of the first row that fits, by the positions of a relation word and of its other word, is the number by the words.
-use Prim.Native.Nat.{ℕ, zero, suc, _+_, _-_, _≤_, _<_}
-use mathlib.Core.Bool.{Bool, true, false, cond, _&&_, _||_, not}
+use Prim.Native.Nat.{ℕ}
+use mathlib.Core.Bool.{Bool, true, false, cond, _&&_, _||_, not, and-assoc}
 use mathlib.Core.List.{List, [], _∷_, _++_}
 use mathlib.Core.Path.{_≡_, refl, sym, ap, _∙_}
-use native.Mathlib.Omega.{arith}
 use lib.Dec.{eqb, ltb}
-use lib.ListN.{length, take, drop, take-append-drop, length-take}
-use lib.Seq.{length-take-le}
+use lib.ListN.{length, drop, take-append-drop}
 use Rattle.words.specs.Words.{Word, front}
+use Rattle.words.proofs.Tests.{cond-both}
 use Rattle.overlap.specs.Pieces.{word}
-use Rattle.overlap.specs.Cuts.{len, xylen, xOf, xyOf, zOf}
-use Rattle.layout.specs.Layout.{part}
+use Rattle.overlap.specs.Cuts.{xylen, xyOf, zOf}
+use Rattle.overlap.proofs.Facts.{length-xy}
 use Rattle.rounds.specs.declared.Site.{Site}
 use Rattle.rounds.specs.Numbers.{number3, number4, number5, number6, number7, shapeOf, rowBy, shapedRow, markedBy, lateRow}
 use Rattle.rounds.proofs.Sites.{Lies}
-
-and-assoc : (a b c : Bool) → (a && (b && c)) ≡ ((a && b) && c)
-and-assoc true b c = refl
-and-assoc false b c = refl
 
 -- a front in two parts
 pub front-both : (a b w : Word) → front (a ++ b) w ≡ (front a w && front b (drop (length a) w))
 unfolding front
 front-both [] b w = refl
 front-both (x ∷ a) b [] = refl
-front-both (x ∷ a) b (y ∷ w) = ap (eqb x y &&_) (front-both a b w) ∙ and-assoc (eqb x y) (front a w) (front b (drop (length a) w))
+front-both (x ∷ a) b (y ∷ w) = ap (eqb x y &&_) (front-both a b w) ∙ sym (and-assoc (eqb x y) (front a w) (front b (drop (length a) w)))
 
 -- the tests of `rowBy` on a shape
 shape-two : (a b : Bool) → eqb (cond a (cond b 2 1) 0) 2 ≡ (a && b)
@@ -83,19 +78,11 @@ row-by-shapes : (w a a′ c c′ : Bool) → rowBy w (cond a (cond a′ 2 1) 0) 
 unfolding rowBy byRows byShapes
 row-by-shapes w a a′ c c′ = rw (shape-two a a′, shape-two c c′, shape-some a a′, shape-some c c′) (sym (rows-agree c c′ w a a′))
 
-cond-both : (m x : Bool) (a b : ℕ) → cond m (cond x a b) b ≡ cond (m && x) a b
-cond-both true x a b = refl
-cond-both false x a b = refl
-
 -- all of a relation word in front is its X and Y in front and its Z behind them
-pub front-whole : (text : List ℕ) (B : List Word) (i : ℕ) (s : Site) → Lies text B i s → (w : Word)
-    → front (word B i) w ≡ (front (xyOf B i) w && front (zOf B i) (drop (xylen B i) w))
-front-whole text B i s l w =
-    let b = l .long in
-    let d = l .longXY in
-    let t = l .third in
-    let e : length (xyOf B i) ≡ xylen B i = length-take-le (xylen B i) (word B i) (omega arith) in
-    ap (λ a. front a w) (sym (take-append-drop (xylen B i) (word B i))) ∙ front-both (xyOf B i) (zOf B i) w ∙ ap (λ k. front (xyOf B i) w && front (zOf B i) (drop k w)) e
+pub front-whole : (B : List Word) (i : ℕ) (w : Word) → front (word B i) w ≡ (front (xyOf B i) w && front (zOf B i) (drop (xylen B i) w))
+front-whole B i w =
+    ap (λ a. front a w) (sym (take-append-drop (xylen B i) (word B i))) ∙ front-both (xyOf B i) (zOf B i) w
+    ∙ ap (λ k. front (xyOf B i) w && front (zOf B i) (drop k w)) (length-xy B i)
 
 shape-lies : (text : List ℕ) (B : List Word) (i : ℕ) (s : Site) → Lies text B i s → (w : Word)
     → shapeOf text s w ≡ cond (front (xyOf B i) w) (cond (front (zOf B i) (drop (xylen B i) w)) 2 1) 0
@@ -107,9 +94,9 @@ module _ (text : List ℕ) (B : List Word) (i j : ℕ) (s t : Site) (li : Lies t
   pub late-number : front (xyOf B i) u ≡ true → lateRow text s t u v p ≡ number3 B i j u v p
   unfolding lateRow shapedRow markedBy number3 number4 number5 number6 number7 byRows
   late-number e =
-      let a : front (word B i) u ≡ front (zOf B i) (drop (xylen B i) u) = front-whole text B i s li u ∙ rw e in
-      let b = front-whole text B i s li v in
-      let c = front-whole text B j t lj v in
+      let a : front (word B i) u ≡ front (zOf B i) (drop (xylen B i) u) = front-whole B i u ∙ rw e in
+      let b = front-whole B i v in
+      let c = front-whole B j v in
       rw (a, b, c, shape-lies text B i s li v, shape-lies text B j t lj v, li .x, lj .x, ← li .z, ← li .longXY, row-by-shapes)
       (cond-both (markedBy text s t p) (front (xyOf B i) v || front (xyOf B j) v)
       (from4 (front (zOf B i) (drop (xylen B i) u)) (front (xyOf B i) v) (front (zOf B i) (drop (xylen B i) v)) (front (xyOf B j) v) (front (zOf B j) (drop (xylen B j) v)))

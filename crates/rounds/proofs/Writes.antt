@@ -1,31 +1,28 @@
 -- Laws of the writers: a copy, a change written into a buffer, and the three of a round.
 use Prim.Native.Nat.{ℕ, zero, suc, _+_, _-_, _≤_, _<_}
-use mathlib.Core.Bool.{Bool, true, false}
-use mathlib.Core.Logic.{by-cases}
-use mathlib.Core.List.{List, [], _∷_, _++_, append-assoc, append-nil}
-use mathlib.Core.Path.{_≡_, refl, sym, ap, _∙_, subst}
+use mathlib.Core.Bool.{Bool}
+use mathlib.Core.List.{List, _++_}
+use mathlib.Core.Path.{_≡_, refl, sym, ap, _∙_}
 use native.Mathlib.Omega.{arith}
 use native.Mathlib.Numerals.{add-one}
-use native.Mathlib.Decide.{decLt}
 use borrow.Author.Needs.{needs}
 use mir.Syntax.{w64}
 use mir.Val.{Fits}
-use lib.ListN.{length, getD, take, drop, set, length-set, length-append, length-take, length-drop}
-use lib.Seq.{paste, paste-zero, paste-suc, length-paste, take-paste, drop-paste, take-length, take-all, take-append-seam, drop-append-add, drop-drop}
+use lib.ListN.{length, getD, take, drop, set, length-set, length-append, length-drop}
+use lib.Seq.{paste, paste-zero, paste-suc, length-paste, take-length, take-all, take-append-seam, drop-append-add, drop-drop}
 use Rattle.words.specs.Words.{Word}
 use Rattle.congruence.specs.Rows.{Next, round}
-use Rattle.congruence.specs.Rows.Next.{end, go}
 use Rattle.layout.specs.Layout.{part, wordsIn}
+use Rattle.layout.proofs.Parts.{part-length}
 use Rattle.rounds.specs.declared.Change.{Change}
 use Rattle.rounds.specs.declared.Plan.{Plan}
 use Rattle.rounds.specs.declared.Plan.the-variants.{End, Go}
 use Rattle.rounds.specs.declared.Stepped.{Stepped}
 use Rattle.rounds.specs.declared.Stepped.the-variants as S
-use Rattle.rounds.specs.Plans.{applied, planned, Fit, MarkFit, PlanFit, Paired, Decided}
-use Rattle.rounds.specs.Plans.PlanFit.{ends, goes}
-use Rattle.rounds.specs.Writing.{Outcome, over, writtenBy, copied, Writable, Written, Changes, Planned, Lent}
+use Rattle.rounds.specs.Plans.{planned, Fit, MarkFit, PlanFit, Paired, Decided}
+use Rattle.rounds.specs.Plans.PlanFit.{goes}
+use Rattle.rounds.specs.Writing.{over, writtenBy, copied, Writable, Written, Changes, Planned, Lent}
 use Rattle.rounds.specs.Writing.Outcome.{after}
-use Rattle.rounds.proofs.Sites.{part-length}
 
 -- i bytes of s are copied to place `at` of d, which is now b
 pub record Copying (s d : List ℕ) (at i : ℕ) (b : List ℕ) : Type 0 where

@@ -1,18 +1,18 @@
 -- The table's positions give the cuts of the relation words, and a law for each way that writing the sheet can go.
-use Prim.Native.Nat.{ℕ, zero, suc, _+_, _*_, _-_, _≤_, _<_}
+use Prim.Native.Nat.{ℕ, zero, suc, _+_, _*_, _≤_, _<_}
 use mathlib.Core.List.{List, [], _∷_, _++_, append-assoc}
 use mathlib.Core.Path.{_≡_, refl, sym, ap, _∙_}
 use native.Mathlib.Omega.{arith}
 use native.Mathlib.Numerals.{add-one}
 use borrow.Author.Needs.{needs}
 use lib.ListN.{length, take, drop, length-append}
-use lib.Seq.{take-at, drop-append-add, drop-drop, drop-at}
+use lib.Seq.{take-at, drop-append-add, drop-drop}
 use Rattle.words.specs.Words.{Word}
-use Rattle.overlap.specs.Pieces.{C4}
 use Rattle.overlap.specs.Cuts.{xlen, ylen, zlen}
 use Rattle.overlap.proofs.Facts.{rigid-of-c4}
-use Rattle.layout.specs.Layout.{startOf, xEndOf, zStartOf, endOf, wordsIn, Checked}
-use Rattle.index.proofs.Laying.{words-length, word-length, cuts-inside}
+use Rattle.layout.specs.Layout.{wordsIn, Checked}
+use Rattle.layout.proofs.Placed.{words-length, word-length}
+use Rattle.layout.proofs.CutPlaces.{cuts-inside, xy-long}
 use Rattle.lines.specs.Lines.{Put}
 use Rattle.sheet.specs.Sheet.{cutBytes, cutSheet, xAt, yAt, zAt, lengthsAt, sheetBytes, CutsIn, Room, SheetRoom}
 
@@ -30,7 +30,7 @@ module _ (text table : List ℕ) (n : ℕ) (c : Checked text table n) where
       record {
         room = omega (arith, l .room);
         x = k .0;
-        y = omega (arith, k .4, k .2);
+        y = omega (arith, xy-long text table n l (c .cut) i h, k .2);
         z = k .3;
         short = omega (arith, l .short i h, l .some i h);
       }

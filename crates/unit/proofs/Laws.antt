@@ -1,20 +1,20 @@
 -- A law for each way that an entry can go.
-use Prim.Native.Nat.{ℕ, _+_, _*_, _%_, _<_, _≤_}
-use mathlib.Core.Bool.{Bool, true, false, cond}
-use mathlib.Core.List.{List, [], _++_}
-use mathlib.Core.Path.{_≡_, refl, sym, ap, _∙_, subst}
+use Prim.Native.Nat.{ℕ, _+_, _*_, _<_, _≤_}
+use mathlib.Core.Bool.{Bool, true, false}
+use mathlib.Core.List.{List, _++_}
+use mathlib.Core.Path.{_≡_, refl, sym, ap, _∙_}
 use native.Mathlib.Omega.{arith}
 use borrow.Author.Needs.{needs}
 use borrow.Author.Tests.{lt-ltb, le-ltb, ltb-false}
 use lib.Dec.{ltb}
-use lib.ListN.{length, drop, length-replicate, replicate}
+use lib.ListN.{length, drop}
 use mir.Val.{Fits}
 use mir.Syntax.{w64}
 use Rattle.words.specs.Words.{Word}
-use Rattle.words.specs.Relations.{Relation, sides}
-use Rattle.layout.specs.Layout.{Checked, wordsIn}
+use Rattle.words.specs.Relations.{sides}
+use Rattle.layout.specs.Layout.{wordsIn}
 use Rattle.format.specs.declared.Refusal.{Refusal}
-use Rattle.format.specs.declared.Refusal.the-variants.{Long, Narrow}
+use Rattle.format.specs.declared.Refusal.the-variants.{Narrow}
 use Rattle.format.specs.declared.Reading.{Reading}
 use Rattle.format.specs.declared.Reading.the-variants.{Read, Refused}
 use Rattle.congruence.specs.Rows.{Next, round}
@@ -22,10 +22,12 @@ use Rattle.congruence.specs.Rows.Next.{end, go}
 use Rattle.format.specs.Limits.{roundMost, markMost, nextRoom}
 use Rattle.rounds.specs.Writing as Writing
 use Rattle.rounds.specs.Writing.{writtenBy, Lent}
-use Rattle.presentation.specs.Loading.{BookLoading, loadBook, told, Holding, Memory, BookLoaded}
+use Rattle.presentation.specs.Loading.{Holding, Memory, BookLoaded}
+use Rattle.presentation.proofs.Laws.{load-refused}
 use Rattle.given.specs.declared.Given.{Given}
 use Rattle.given.specs.declared.Given.the-variants as Words
 use Rattle.given.specs.Given.{givenOf, andThen, tripleOf}
+use Rattle.given.proofs.Laws.{fine-short, fine-both}
 use Rattle.rounds.specs.declared.Stepped.{Stepped}
 use Rattle.rounds.specs.declared.Stepped.the-variants as Steps
 use Rattle.comparison.specs.declared.Comparison.{Comparison}
@@ -34,7 +36,6 @@ use Rattle.comparison.specs.State.{Ready}
 use Rattle.comparison.specs.Comparing.{comparisonOf}
 use Rattle.sheet.specs.Sheet.{cutSheet, sheetBytes, SheetRoom}
 use Rattle.sheet.proofs.Laws.{cuts-in, sheet-cut, length-sheet}
-use Rattle.unit.specs.declared.Verdict.{Verdict}
 use Rattle.unit.specs.declared.Verdict.the-variants as Verdicts
 use Rattle.unit.specs.declared.Round.{Round}
 use Rattle.unit.specs.declared.Printed.the-variants as Prints
@@ -42,25 +43,17 @@ use Rattle.lines.specs.Lines.{Put}
 use Rattle.program.specs.Program.{programOf}
 use Rattle.program.specs.Size.{outputMost}
 use Rattle.unit.specs.declared.Round.the-variants as Rounds
-use Rattle.unit.specs.Answers.{Answer, accepted, refusal, ofVerdict, ofRound, ofComparison, ofPrinted}
+use Rattle.unit.specs.Answers.{accepted, refusal, ofVerdict, ofRound, ofComparison, ofPrinted}
 use Rattle.unit.specs.Entries.{checkOf, SheetOutcome, sheetOf, RoundOutcome, OutputOutcome, outputOf, roomOf, askedOf, writing, roundOf, compareOf}
 use Rattle.unit.specs.Parts.{SheetReady, acceptedSheet, steppedRound, loadedRound}
 use Rattle.unit.specs.Demands.{Compared}
 use Rattle.unit.proofs.Theorems.{compared}
 
--- loading refuses what its answer refuses
-refused-loading : (x : BookLoading) (r : Refusal) → Refused r ≡ told x → x ≡ BookLoading.refused r
-refused-loading (BookLoading.loaded letters relations) r e = let z : _≡_ {A = ℕ} 0 1 = cc in absurd (omega arith)
-refused-loading (BookLoading.refused s) r e = let f : r ≡ s = cc in rw f
-
 module _ (book : List ℕ) (reading : Reading) (text table : List ℕ) (d : BookLoaded book reading text table) where
-  pub load-refused : (r : Refusal) → reading ≡ Refused r → loadBook book ≡ BookLoading.refused r
-  load-refused r e = refused-loading (loadBook book) r (sym e ∙ d .answer)
-
   -- the check
   pub check-refused : (r : Refusal) → reading ≡ Refused r → ofVerdict (Verdicts.Refused r) ≡ checkOf book
   unfolding checkOf
-  check-refused r e = sym (rw (load-refused r e))
+  check-refused r e = sym (rw (load-refused book reading text table d r e))
 
   pub check-accepted : (letters count : ℕ) → reading ≡ Read letters count → ofVerdict (Verdicts.Accepted count) ≡ checkOf book
   unfolding checkOf
@@ -72,17 +65,17 @@ module _ (book : List ℕ) (reading : Reading) (text table : List ℕ) (d : Book
   -- the cut sheet
   pub sheet-refused : (sheet : List ℕ) (r : Refusal) → reading ≡ Refused r → SheetOutcome.after (ofVerdict (Verdicts.Refused r)) sheet ≡ sheetOf book sheet
   unfolding sheetOf
-  sheet-refused sheet r e = sym (rw (load-refused r e))
+  sheet-refused sheet r e = sym (rw (load-refused book reading text table d r e))
 
   -- the comparison
   pub compare-refused : (u v : Word) (allowance : ℕ) (r : Refusal) → reading ≡ Refused r → Compared book u v allowance (ofComparison (Comparisons.Refused r))
   unfolding compareOf
-  compare-refused u v allowance r e = compared book u v allowance (refusal r) (sym (rw (load-refused r e)))
+  compare-refused u v allowance r e = compared book u v allowance (refusal r) (sym (rw (load-refused book reading text table d r e)))
 
   -- the round
   pub round-refused : (u v p a c e : List ℕ) (r : Refusal) → reading ≡ Refused r → RoundOutcome.after (ofRound (Rounds.Refused r)) a c e ≡ roundOf book u v p a c e
   unfolding roundOf
-  round-refused u v p a c e r f = sym (rw (load-refused r f))
+  round-refused u v p a c e r f = sym (rw (load-refused book reading text table d r f))
 
   module _ (letters count : ℕ) (e : reading ≡ Read letters count) where
     held : Holding book letters count text table
@@ -180,21 +173,6 @@ stepped-next s a b c e = rw e
 pub ruleset steppeds = (stepped-end, stepped-next, needs)
 
 -- what is fine is within its limits
-fine-word : (number most letters : ℕ) (w : Word) → givenOf number most letters w ≡ Words.Fine → length w ≤ most
-unfolding givenOf
-fine-word number most letters w e = go (ltb most (length w)) refl
-  where
-    go : (t : Bool) → ltb most (length w) ≡ t → length w ≤ most
-    go true q =
-        let f : Words.Refused (Long number) ≡ Words.Fine = rw q at e in
-        let z : _≡_ {A = ℕ} 0 1 = cc in
-        absurd (omega arith)
-    go false q = ltb-false most (length w) q
-
-fine-then : (g h : Given) → andThen g h ≡ Words.Fine → (g ≡ Words.Fine) × (h ≡ Words.Fine)
-fine-then Words.Fine h e = (refl, e)
-fine-then (Words.Refused r) h e = let z : _≡_ {A = ℕ} 0 1 = cc in absurd (omega arith)
-
 fine-room : (a c d : ℕ) → roomOf a c d ≡ Words.Fine → (nextRoom ≤ a) × (nextRoom ≤ c) × (markMost ≤ d)
 unfolding roomOf
 fine-room a c d e = go (ltb a nextRoom) refl (ltb c nextRoom) refl (ltb d markMost) refl
@@ -209,11 +187,11 @@ fine-asked : (letters : ℕ) (u v p : Word) (a c d : ℕ) → askedOf letters u 
     → (length u ≤ 4160) × (length v ≤ 4160) × (length p ≤ 64) × (4224 ≤ a) × (4224 ≤ c) × (64 ≤ d)
 unfolding askedOf tripleOf
 fine-asked letters u v p a c d e =
-    let t = fine-then (andThen (givenOf 0 roundMost letters u) (andThen (givenOf 1 roundMost letters v) (givenOf 2 markMost letters p))) (roomOf a c d) e in
-    let x = fine-then (givenOf 0 roundMost letters u) (andThen (givenOf 1 roundMost letters v) (givenOf 2 markMost letters p)) (t .0) in
-    let y = fine-then (givenOf 1 roundMost letters v) (givenOf 2 markMost letters p) (x .1) in
+    let t = fine-both (andThen (givenOf 0 roundMost letters u) (andThen (givenOf 1 roundMost letters v) (givenOf 2 markMost letters p))) (roomOf a c d) e in
+    let x = fine-both (givenOf 0 roundMost letters u) (andThen (givenOf 1 roundMost letters v) (givenOf 2 markMost letters p)) (t .0) in
+    let y = fine-both (givenOf 1 roundMost letters v) (givenOf 2 markMost letters p) (x .1) in
     let r = fine-room a c d (t .1) in
-    (fine-word 0 roundMost letters u (x .0), fine-word 1 roundMost letters v (y .0), fine-word 2 markMost letters p (y .1), r .0, r .1, r .2)
+    (fine-short 0 roundMost letters u (x .0), fine-short 1 roundMost letters v (y .0), fine-short 2 markMost letters p (y .1), r .0, r .1, r .2)
 
 -- a round under a loaded book
 module _ (text table : List ℕ) (n letters : ℕ) (u v p a c d : List ℕ) (g : Given) (e : g ≡ askedOf letters u v p (length a) (length c) (length d)) where

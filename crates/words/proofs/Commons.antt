@@ -1,16 +1,17 @@
 -- The longest common prefix of two words, by position, and what a third word that shares letters with the first has in common with the second.
-use Prim.Native.Nat.{ℕ, zero, suc, _+_, _-_, _≤_, _<_, min}
-use mathlib.Core.Bool.{Bool, true, false, _&&_}
-use mathlib.Core.List.{List, [], _∷_, _++_}
-use mathlib.Core.Path.{_≡_, refl, sym, ap, _∙_, subst}
+use Prim.Native.Nat.{ℕ, zero, suc, _+_, _≤_, _<_, min}
+use mathlib.Core.Bool.{Bool, true, false}
+use mathlib.Core.List.{[], _∷_, _++_}
+use mathlib.Core.Path.{_≡_, refl, sym, ap, _∙_}
 use mathlib.Core.Logic.{by-cases}
 use native.Mathlib.Omega.{arith}
 use native.Mathlib.Decide.{decLt, decLe}
 use lib.Dec.{eqb}
-use borrow.Author.Tests.{eqb-true, eqb-false, eq-eqb, ne-eqb}
-use lib.ListN.{length, getD, take, drop, length-append, length-take, List·getD-append}
-use lib.Seq.{getD-take, getD-drop, getD-append-add}
+use borrow.Author.Tests.{eqb-true, eq-eqb}
+use lib.ListN.{length, getD, take, drop, length-take, List·getD-append}
+use lib.Seq.{getD-take}
 use Rattle.words.specs.Words.{Word, front, common}
+use Rattle.words.proofs.Tests.{false-of}
 use Rattle.words.proofs.Fronts.{front-length, front-at, at-front}
 
 -- it lies in both words
@@ -74,17 +75,7 @@ front-common a w e =
     omega arith
 
 pub common-no-front : (a w : Word) → common a w < length a → front a w ≡ false
-common-no-front a w h = go (front a w) refl
-  where
-    go : (t : Bool) → front a w ≡ t → t ≡ false
-    go true e = let c = front-common a w e in absurd (omega arith)
-    go false e = refl
-
--- it is that of the two words the other way round
-pub common-sym : (a w : Word) → common a w ≡ common w a
-common-sym a w =
-    let b = common-within w a in
-    common-is a w (common w a) (b .1) (b .0) (λ k h. sym (common-at w a k h)) (λ x y e. common-differ w a y x (sym e))
+common-no-front a w h = false-of (front a w) (λ e. let c = front-common a w e in absurd (omega arith))
 
 -- a and b share l letters, a and w share m: what b and w share
 pub common-via : (a b w : Word) (k : ℕ) → k ≤ common a b → k ≤ common a w → k ≤ common b w

@@ -1,4 +1,7 @@
+pub mod Tests
 pub mod Picks
+pub mod Lists
+pub mod Relations
 pub mod Filling
 pub mod Searching
 pub mod Segments

@@ -5,10 +5,9 @@ use mathlib.Core.Path.{_≡_, refl, sym, ap, _∙_, subst}
 use mathlib.Core.Bool.{true≢false}
 use mathlib.Core.Logic.{by-cases}
 use native.Mathlib.Omega.{arith}
-use native.Mathlib.Numerals.{add-one}
 use native.Mathlib.Decide.{decLt, ℕ-discrete}
-use borrow.Author.Needs.{needs}
 use Rattle.words.specs.Search.{anyBelow, least, greatest}
+use Rattle.words.proofs.Tests.{false-of}
 
 -- one that passes makes the search true
 pub any-of : (n : ℕ) (p : ℕ → Bool) (k : ℕ) → k < n → p k ≡ true → anyBelow n p ≡ true
@@ -38,11 +37,7 @@ any-none (suc n) p f = rw (f n (omega arith), anyBelow) (any-none n p (λ k h. f
 
 -- where the search is false, none passes
 pub none-of : (n : ℕ) (p : ℕ → Bool) → anyBelow n p ≡ false → (k : ℕ) → k < n → p k ≡ false
-none-of n p e k h = go (p k) refl
-  where
-    go : (t : Bool) → p k ≡ t → t ≡ false
-    go true q = absurd (true≢false (sym (any-of n p k h q) ∙ e))
-    go false q = refl
+none-of n p e k h = false-of (p k) (λ q. true≢false (sym (any-of n p k h q) ∙ e))
 
 -- the test holds of no number below i
 pub record NoneBelow (p : ℕ → Bool) (i : ℕ) : Type 0 where
@@ -129,3 +124,11 @@ greatest-last (suc n) p k h l = go (p (suc n)) refl h (λ a b. greatest-last n p
     go : (t : Bool) → p (suc n) ≡ t → greatest (suc n) p < k → (greatest n p < k → k ≤ n → p k ≡ false) → p k ≡ false
     go true q a r = let a′ = rw (q, greatest) at a in absurd (omega arith)
     go false q a r = let a′ = rw (q, greatest) at a in by-cases (ℕ-discrete k (suc n)) (λ e. subst (λ (m : ℕ). p m ≡ false) (sym e) q) (λ e. r a′ (omega arith))
+
+-- it is m where m passes and nothing above it does
+pub greatest-is : (n : ℕ) (p : ℕ → Bool) (m : ℕ) → m ≤ n → (0 < m → p m ≡ true) → ((k : ℕ) → m < k → k ≤ n → p k ≡ false) → greatest n p ≡ m
+greatest-is n p m h y out = by-cases (decLt (greatest n p) m)
+    (λ l. absurd (true≢false (sym (y (omega (arith, l))) ∙ greatest-last n p m l h)))
+    (λ l. by-cases (decLt m (greatest n p))
+    (λ k. absurd (true≢false (sym (greatest-passes n p (omega (arith, k))) ∙ out (greatest n p) k (greatest-bound n p))))
+    (λ k. omega (arith, l, k)))

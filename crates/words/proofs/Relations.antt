@@ -1,0 +1,23 @@
+-- The relation words of relations come in twos, and each has its other one.
+use Prim.Native.Nat.{ℕ, _<_, _%_}
+use mathlib.Core.List.{List, [], _∷_}
+use mathlib.Core.Path.{_≡_, refl}
+use native.Mathlib.Omega.{arith}
+use lib.ListN.{length}
+use Rattle.words.specs.Words.{Word}
+use Rattle.words.specs.Relations.{Relation, sides, other}
+
+-- every relation word has its other one
+abbrev pub Even : List Word → Type 0
+Even B = length B % 2 ≡ 0
+
+pub even-sides : (rs : List Relation) → Even (sides rs)
+unfolding sides
+even-sides [] = refl
+even-sides (r ∷ rs) = let e = even-sides rs in omega arith
+
+pub other-there : (n i : ℕ) → n % 2 ≡ 0 → i < n → other i < n
+other-there n i e h = omega arith
+
+pub other-differs : (i : ℕ) → i ≡ other i → ⊥
+other-differs i e = omega arith
