@@ -1,29 +1,27 @@
--- Laws of the row number's cases, and of the decision.
-use Prim.Native.Nat.{ℕ, _+_, _*_, _≤_, _<_}
-use mathlib.Core.Bool.{Bool, true, false, cond, _||_}
+-- Laws of the first row that fits, and of the decision.
+use Prim.Native.Nat.{ℕ, _+_, _-_, _*_, _≤_, _<_}
+use mathlib.Core.Bool.{Bool, true, false, _||_}
 use mathlib.Core.List.{List}
-use mathlib.Core.Path.{_≡_, refl, sym, ap, _∙_}
+use mathlib.Core.Path.{_≡_, refl, sym, _∙_}
 use native.Mathlib.Omega.{arith}
 use borrow.Author.Needs.{needs}
-use borrow.Author.Tests.{ne-eqb, ltb-true}
-use lib.Dec.{ltb}
+use borrow.Author.Tests.{ne-eqb, lt-ltb, le-ltb}
 use lib.ListN.{length}
 use Rattle.words.specs.Words.{Word, isEmpty}
 use Rattle.words.specs.Relations.{other}
-use Rattle.words.proofs.Searching.{least-bound}
-use Rattle.words.proofs.Tests.{or-neither}
 use Rattle.words.proofs.Lists.{some-letter}
 use Rattle.words.proofs.Relations.{other-there}
-use Rattle.congruence.specs.Rows.{clean, cleanFront}
+use Rattle.congruence.specs.Rows.{cleanFront}
 use Rattle.congruence.proofs.CommonEnds.{end-within}
 use Rattle.layout.specs.Layout.{part, wordsIn}
 use Rattle.layout.proofs.Parts.{part-length}
 use Rattle.layout.proofs.Placed.{words-length}
+use Rattle.rounds.specs.declared.Found.{Found}
 use Rattle.rounds.specs.declared.Plan.{Plan}
 use Rattle.rounds.specs.declared.Plan.the-variants.{End}
 use Rattle.rounds.specs.declared.Site.{Site}
 use Rattle.rounds.specs.Plans.{Placed, Mates, BothSome, Turning, Upwards, Shared, Fronted, Paired, Decided}
-use Rattle.rounds.specs.Numbers.{siteOf, lateRow, firstRow, number3, numberOf, sharedEnd, plan1, plan2, stays, wholeCut, plan4, plan5, plan6, plan7, plan8Of, planBy}
+use Rattle.rounds.specs.Numbers.{siteOf, lateRow, foundAt, numberOf, sharedEnd, plan1, plan2, stays, wholeCut, plan4, plan5, plan6, plan7, plan8Of, planBy, Chosen}
 use Rattle.rounds.proofs.Sites.{Lies, lies}
 use Rattle.rounds.proofs.RowNumbers.{late-number}
 use Rattle.rounds.proofs.Cleans.{clean-front}
@@ -45,134 +43,166 @@ module _ (text : List ℕ) (s t : Site) (h : Mates text s t) (l : ℕ) (e : l �
 
 pub ruleset sharings = (shared-lies, shared-made, needs)
 
--- the cases of the row number
-module _ (text : List ℕ) (n i : ℕ) (s t : Site) (u v p : Word) where
-  -- a row above the second: i is a relation word
-  late-known : (firstRow text n i s t u v p ≡ 1 → ⊥) → (firstRow text n i s t u v p ≡ 2 → ⊥) → i < n
-  unfolding firstRow
-  late-known a b = go (isEmpty u || isEmpty v) refl (ltb i n) refl
-    where
-      go : (x : Bool) → (isEmpty u || isEmpty v) ≡ x → (y : Bool) → ltb i n ≡ y → i < n
-      go true e y f = absurd (a (rw e))
-      go false e true f = ltb-true i n f
-      go false e false f = absurd (b (rw (e, f)))
+-- row 3 or a later one
+module _ (text table : List ℕ) (n i : ℕ) (h : Fronted text table n i) where
+  pub late-few : i ≤ 64
+  late-few = let a = h .there in let b = h .paired .checked .laid .few in omega arith
 
-  -- the second row: u and v are not empty
-  second-some : firstRow text n i s t u v p ≡ 2 → BothSome u v
-  unfolding firstRow
-  second-some a = go (isEmpty u || isEmpty v) refl
-    where
-      go : (x : Bool) → (isEmpty u || isEmpty v) ≡ x → BothSome u v
-      go true e = let q : firstRow text n i s t u v p ≡ 1 = rw e in absurd (omega arith)
-      go false e = let r = or-neither (isEmpty u) (isEmpty v) e in record { someU = some-letter u (r .0); someV = some-letter v (r .1) }
+  pub late-room : 4 * i + 3 < length table
+  late-room = let a = late-few in let b = h .paired .checked .indexed .room in omega arith
 
-  module _ (row : ℕ) (e : row ≡ firstRow text n i s t u v p) where
-    pub row-some : row ≡ 2 → BothSome u v
-    row-some h = second-some (sym e ∙ h)
+  pub late-room′ : (j : ℕ) → j ≡ other i → 4 * j + 3 < length table
+  late-room′ j e = let a = late-few in let b = h .paired .checked .indexed .room in omega arith
 
-    module _ (table : List ℕ) (f : Fronted text table n i s t) where
-      row-mates : (k : ℕ) → row ≡ k → 3 ≤ k → Mates text s t
-      row-mates k h l = f .sited .mates (late-known (λ q. let r : 1 ≡ k = sym q ∙ sym e ∙ h in absurd (omega arith)) (λ q. let r : 2 ≡ k = sym q ∙ sym e ∙ h in absurd (omega arith)))
+  own-lies : Lies text (wordsIn text table n) i (siteOf table i)
+  own-lies = lies text table n (h .paired .checked) i (h .there)
 
-      row-upwards : Mates text s t → Upwards s t
-      row-upwards m =
-          record { ownXY = tail-after text s (m .own); own = stop-after text s (m .own); turnedXY = tail-after text t (m .turned); turned = stop-after text t (m .turned) }
+  turned-lies : Lies text (wordsIn text table n) (other i) (siteOf table (other i))
+  turned-lies = lies text table n (h .paired .checked) (other i) (other-there n i (h .paired .even) (h .there))
 
-      pub row-turning : row ≡ 4 → Turning text table n s t
-      row-turning h = record { checked = f .checked; mates = row-mates 4 h (omega arith) }
+  placed-of : (k : ℕ) (s : Site) → Lies text (wordsIn text table n) k s → Placed text s
+  placed-of k s l = record { first = l .first; second = l .second; third = l .third; inside = l .inside }
 
-      pub row-placed : row ≡ 5 → Placed text s
-      row-placed h = row-mates 5 h (omega arith) .own
+  sites-mates : Mates text (siteOf table i) (siteOf table (other i))
+  sites-mates = record { own = placed-of i (siteOf table i) own-lies; turned = placed-of (other i) (siteOf table (other i)) turned-lies }
 
-      pub row-up6 : row ≡ 6 → Upwards s t
-      row-up6 h = row-upwards (row-mates 6 h (omega arith))
+  module _ (s : Site) (e : s ≡ siteOf table i) (j : ℕ) (ej : j ≡ other i) (t : Site) (et : t ≡ siteOf table j) where
+    pub late-mates : Mates text s t
+    late-mates = rw (e, et, ej) sites-mates
 
-      pub row-up7 : row ≡ 7 → Upwards s t
-      row-up7 h = row-upwards (row-mates 7 h (omega arith))
+    pub late-made : (u v p : Word) (row : ℕ) → row ≡ lateRow text s t u v p → record { row = row; own = s; turned = t } ≡ foundAt text table i u v p
+    unfolding foundAt
+    late-made u v p row f = rw (f, e, et, ej)
 
-      pub row-last : (row ≡ 1 → ⊥) → (row ≡ 2 → ⊥) → Mates text s t
-      row-last a b = f .sited .mates (late-known (λ q. a (e ∙ q)) (λ q. b (e ∙ q)))
+pub ruleset latest = (late-few, late-room, late-room′, late-mates, late-made, needs)
 
-    module _ (B : List Word) (r : Plan) where
-      pub by1 : row ≡ 1 → r ≡ plan1 u v p → r ≡ planBy text B s t u v p (firstRow text n i s t u v p)
-      unfolding planBy
-      by1 h g = rw (← e, h) g
+-- the first row that fits; the plan of rows 1 and 2 does not look at the sites
+module _ (text table : List ℕ) (n : ℕ) (c : Paired text table n) (u v p : Word) (f : Found) where
+  early-row : (k : ℕ) → f .row ≡ k → k ≡ numberOf (wordsIn text table n) u v p (cleanFront (wordsIn text table n) u)
+      → ((s t : Site) → planBy text (wordsIn text table n) (f .own) (f .turned) u v p k ≡ planBy text (wordsIn text table n) s t u v p k)
+      → Decided text table n u v p (planBy text (wordsIn text table n) (f .own) (f .turned) u v p (f .row))
+  early-row k e q g =
+      rw e (decided-by text table n c u v p (cleanFront (wordsIn text table n) u) refl k _ q
+      (g (siteOf table (cleanFront (wordsIn text table n) u)) (siteOf table (other (cleanFront (wordsIn text table n) u)))))
 
-      pub by2 : row ≡ 2 → r ≡ plan2 u v p → r ≡ planBy text B s t u v p (firstRow text n i s t u v p)
-      unfolding planBy
-      by2 h g = rw (← e, h) g
+  first-row : f .row ≡ 1 → (isEmpty u || isEmpty v) ≡ true → Chosen text table n u v p f
+  unfolding numberOf planBy
+  first-row e q =
+      record {
+        some = λ h. absurd (omega arith);
+        mates = λ a b. absurd (a e);
+        decided = early-row 1 e (rw q) (λ s t. refl);
+      }
 
-      pub by4 : row ≡ 4 → r ≡ plan4 s (stays B s t u) (wholeCut text s t v) (length p) → r ≡ planBy text B s t u v p (firstRow text n i s t u v p)
-      unfolding planBy
-      by4 h g = rw (← e, h) g
+  module _ (x : Bool) (ex : x ≡ isEmpty u) where
+    pub found-u : x ≡ true → f .row ≡ 1 → Chosen text table n u v p f
+    found-u h e = first-row e (rw (← ex, h))
 
-      pub by5 : row ≡ 5 → r ≡ plan5 text s p → r ≡ planBy text B s t u v p (firstRow text n i s t u v p)
-      unfolding planBy
-      by5 h g = rw (← e, h) g
+    module _ (h : x ≡ false) (y : Bool) (ey : y ≡ isEmpty v) where
+      pub found-v : y ≡ true → f .row ≡ 1 → Chosen text table n u v p f
+      found-v k e = first-row e (rw (← ex, h, ← ey, k))
 
-      pub by6 : row ≡ 6 → r ≡ plan6 s t (length p) → r ≡ planBy text B s t u v p (firstRow text n i s t u v p)
-      unfolding planBy
-      by6 h g = rw (← e, h) g
+      module _ (k : y ≡ false) (i : ℕ) (ei : i ≡ cleanFront (wordsIn text table n) u) where
+        both-some : BothSome u v
+        both-some = record { someU = some-letter u (sym ex ∙ h); someV = some-letter v (sym ey ∙ k) }
 
-      pub by7 : row ≡ 7 → r ≡ plan7 s t (length p) → r ≡ planBy text B s t u v p (firstRow text n i s t u v p)
-      unfolding planBy
-      by7 h g = rw (← e, h) g
+        pub found-none : n ≤ i → f .row ≡ 2 → Chosen text table n u v p f
+        unfolding numberOf planBy
+        found-none l e =
+            record {
+              some = λ _. both-some;
+              mates = λ a b. absurd (b e);
+              decided = early-row 2 e (rw (← ei, ← ex, h, ← ey, k, words-length text table n, le-ltb i n l)) (λ s t. refl);
+            }
 
-      pub by8 : (row ≡ 1 → ⊥) → (row ≡ 2 → ⊥) → (row ≡ 3 → ⊥) → (row ≡ 4 → ⊥) → (row ≡ 5 → ⊥) → (row ≡ 6 → ⊥) → (row ≡ 7 → ⊥)
-          → r ≡ plan8Of text s t (sharedEnd text s t) u v p → r ≡ planBy text B s t u v p (firstRow text n i s t u v p)
-      unfolding planBy
-      by8 h1 h2 h3 h4 h5 h6 h7 g =
-          rw (← e, ne-eqb row 1 h1, ne-eqb row 2 h2, ne-eqb row 3 h3, ne-eqb row 4 h4, ne-eqb row 5 h5, ne-eqb row 6 h6, ne-eqb row 7 h7) g
+        module _ (l : i < n) where
+          pub found-front : Fronted text table n i
+          found-front = record { paired = c; there = l }
 
-    pub by3 : (B : List Word) → row ≡ 3 → End false ≡ planBy text B s t u v p (firstRow text n i s t u v p)
+          pub found-late : f ≡ foundAt text table i u v p → Chosen text table n u v p f
+          unfolding numberOf foundAt
+          found-late e =
+              let nB = words-length text table n in
+              let m = sites-mates text table n i found-front in
+              let q : lateRow text (siteOf table i) (siteOf table (other i)) u v p ≡ numberOf (wordsIn text table n) u v p i =
+              rw (← ex, h, ← ey, k, nB, lt-ltb i n l)
+              (late-number text (wordsIn text table n) i (other i) (siteOf table i) (siteOf table (other i)) (own-lies text table n i found-front) (turned-lies text table n i found-front) u v p
+              (clean-front (wordsIn text table n) u i ei (omega arith)))
+              in
+              rw e (record { some = λ _. both-some; mates = λ _ _. m; decided = decided-by text table n c u v p i ei _ _ q refl })
+
+pub ruleset founds = (found-u, found-v, found-none, found-front, found-late, needs)
+
+-- the arms of the decision
+module _ (text table : List ℕ) (n : ℕ) (u v p : Word) (f : Found) (h : Chosen text table n u v p f) where
+  pub row-some : f .row ≡ 2 → BothSome u v
+  row-some = h .some
+
+  row-mates : (k : ℕ) → f .row ≡ k → 3 ≤ k → Mates text (f .own) (f .turned)
+  row-mates k e l = h .mates (λ q. absurd (omega arith)) (λ q. absurd (omega arith))
+
+  row-upwards : Mates text (f .own) (f .turned) → Upwards (f .own) (f .turned)
+  row-upwards m =
+      record {
+        ownXY = tail-after text (f .own) (m .own);
+        own = stop-after text (f .own) (m .own);
+        turnedXY = tail-after text (f .turned) (m .turned);
+        turned = stop-after text (f .turned) (m .turned);
+      }
+
+  pub row-turning : Paired text table n → f .row ≡ 4 → Turning text table n (f .own) (f .turned)
+  row-turning c e = record { checked = c .checked; mates = row-mates 4 e (omega arith) }
+
+  pub row-placed : f .row ≡ 5 → Placed text (f .own)
+  row-placed e = row-mates 5 e (omega arith) .own
+
+  pub row-up6 : f .row ≡ 6 → Upwards (f .own) (f .turned)
+  row-up6 e = row-upwards (row-mates 6 e (omega arith))
+
+  pub row-up7 : f .row ≡ 7 → Upwards (f .own) (f .turned)
+  row-up7 e = row-upwards (row-mates 7 e (omega arith))
+
+  by-row : (r : Plan) → r ≡ planBy text (wordsIn text table n) (f .own) (f .turned) u v p (f .row) → Decided text table n u v p r
+  by-row r g = rw g (h .decided)
+
+  pub by3 : f .row ≡ 3 → Decided text table n u v p (End false)
+  unfolding planBy
+  by3 e = by-row (End false) (rw e)
+
+  module _ (r : Plan) where
+    pub by1 : f .row ≡ 1 → r ≡ plan1 u v p → Decided text table n u v p r
     unfolding planBy
-    by3 B h = rw (← e, h)
+    by1 e g = by-row r (rw e g)
 
-pub ruleset rowPlans = (by1, by2, by3, by4, by5, by6, by7, by8, row-some, row-turning, row-placed, row-up6, row-up7, row-last, needs)
+    pub by2 : f .row ≡ 2 → r ≡ plan2 u v p → Decided text table n u v p r
+    unfolding planBy
+    by2 e g = by-row r (rw e g)
 
--- the decision
-module _ (text table : List ℕ) (n : ℕ) (c : Paired text table n) (u : Word) (i : ℕ) (e : i ≡ cleanFront (wordsIn text table n) u) where
-  front-bound : i ≤ n
-  unfolding cleanFront
-  front-bound = let b = least-bound (length (wordsIn text table n)) (clean (wordsIn text table n) u) in let l = words-length text table n in omega arith
+    pub by4 : f .row ≡ 4 → r ≡ plan4 (f .own) (stays (wordsIn text table n) (f .own) (f .turned) u) (wholeCut text (f .own) (f .turned) v) (length p) → Decided text table n u v p r
+    unfolding planBy
+    by4 e g = by-row r (rw e g)
 
-  pub decide-few : i ≤ 64
-  decide-few = let a = front-bound in let b = c .checked .laid .few in omega arith
+    pub by5 : f .row ≡ 5 → r ≡ plan5 text (f .own) p → Decided text table n u v p r
+    unfolding planBy
+    by5 e g = by-row r (rw e g)
 
-  pub decide-room : 4 * i + 3 < length table
-  decide-room = let a = decide-few in let b = c .checked .indexed .room in omega arith
+    pub by6 : f .row ≡ 6 → r ≡ plan6 (f .own) (f .turned) (length p) → Decided text table n u v p r
+    unfolding planBy
+    by6 e g = by-row r (rw e g)
 
-  module _ (s : Site) (es : s ≡ siteOf table i) (j : ℕ) (ej : j ≡ other i) where
-    pub decide-room′ : 4 * j + 3 < length table
-    decide-room′ = let a = decide-few in let b = c .checked .indexed .room in omega arith
+    pub by7 : f .row ≡ 7 → r ≡ plan7 (f .own) (f .turned) (length p) → Decided text table n u v p r
+    unfolding planBy
+    by7 e g = by-row r (rw e g)
 
-    module _ (t : Site) (et : t ≡ siteOf table j) where
-      own-lies : i < n → Lies text (wordsIn text table n) i s
-      own-lies h = rw es (lies text table n (c .checked) i h)
+  -- the last arm: a row that is none of the others
+  module _ (h1 : f .row ≡ 1 → ⊥) (h2 : f .row ≡ 2 → ⊥) where
+    pub row-last : Mates text (f .own) (f .turned)
+    row-last = h .mates h1 h2
 
-      turned-lies : i < n → Lies text (wordsIn text table n) (other i) t
-      turned-lies h = rw (et, ej) (lies text table n (c .checked) (other i) (other-there n i (c .even) h))
+    pub by8 : (f .row ≡ 3 → ⊥) → (f .row ≡ 4 → ⊥) → (f .row ≡ 5 → ⊥) → (f .row ≡ 6 → ⊥) → (f .row ≡ 7 → ⊥) → (r : Plan)
+        → r ≡ plan8Of text (f .own) (f .turned) (sharedEnd text (f .own) (f .turned)) u v p → Decided text table n u v p r
+    unfolding planBy
+    by8 h3 h4 h5 h6 h7 r g =
+        by-row r (rw (ne-eqb (f .row) 1 h1, ne-eqb (f .row) 2 h2, ne-eqb (f .row) 3 h3, ne-eqb (f .row) 4 h4, ne-eqb (f .row) 5 h5, ne-eqb (f .row) 6 h6, ne-eqb (f .row) 7 h7) g)
 
-      placed-of : (k : ℕ) (r : Site) → Lies text (wordsIn text table n) k r → Placed text r
-      placed-of k r l = record { first = l .first; second = l .second; third = l .third; inside = l .inside }
-
-      pub decide-fronted : Fronted text table n i s t
-      decide-fronted =
-          record { checked = c .checked; sited = record { mates = λ h. record { own = placed-of i s (own-lies h); turned = placed-of (other i) t (turned-lies h) } } }
-
-      first-number : (v p : Word) → firstRow text n i s t u v p ≡ numberOf (wordsIn text table n) u v p i
-      unfolding firstRow numberOf
-      first-number v p = rw (words-length text table n) (ap (cond (isEmpty u || isEmpty v) 1) (go (ltb i n) refl))
-        where
-          go : (x : Bool) → ltb i n ≡ x → cond (ltb i n) (lateRow text s t u v p) 2 ≡ cond (ltb i n) (number3 (wordsIn text table n) i (other i) u v p) 2
-          go true q =
-              let h = ltb-true i n q in
-              let l = words-length text table n in
-              rw q (late-number text (wordsIn text table n) i (other i) s t (own-lies h) (turned-lies h) u v p (clean-front (wordsIn text table n) u i e (omega arith)))
-          go false q = rw q
-
-      pub decide-made : (v p : Word) (r : Plan) → r ≡ planBy text (wordsIn text table n) s t u v p (firstRow text n i s t u v p) → Decided text table n u v p r
-      decide-made v p r f =
-          decided-by text table n c u v p i e (numberOf (wordsIn text table n) u v p i) r refl (rw (← first-number v p, ← ej, ← et, ← es) f)
-
-pub ruleset decisions = (decide-few, decide-room, decide-room′, decide-fronted, decide-made, needs)
+pub ruleset decisions = (by1, by2, by3, by4, by5, by6, by7, by8, row-some, row-turning, row-placed, row-up6, row-up7, row-last, needs)

@@ -9,7 +9,7 @@ use mir.Syntax.{w64}
 use mir.Val.{Fits}
 use lib.Dec.{eqb, leb, ltb}
 use lib.ListN.{length, take, drop}
-use borrow.Author.Tests.{eqb-true, eq-eqb, ne-eqb, lt-ltb, le-ltb, le-leb, lt-leb}
+use borrow.Author.Tests.{eqb-true, eq-eqb, ne-eqb, le-leb, lt-leb}
 use Rattle.words.specs.Words.{Word, isEmpty, front}
 use Rattle.words.proofs.Tests.{false-of}
 use Rattle.words.proofs.Fronts.{front-length}
@@ -22,8 +22,8 @@ use Rattle.index.proofs.FrontAt.{stands-front}
 use Rattle.layout.proofs.Parts.{part-take, part-length}
 use Rattle.layout.proofs.Placed.{words-length}
 use Rattle.rounds.specs.declared.Site.{Site}
-use Rattle.rounds.specs.Plans.{Placed, Known, Mates, Sited}
-use Rattle.rounds.specs.Numbers.{siteOf, shapeOf, rowBy, shapedRow, markedBy, lateRow, firstRow, crowdedFront}
+use Rattle.rounds.specs.Plans.{Placed, Known}
+use Rattle.rounds.specs.Numbers.{siteOf, shapeOf, rowBy, shapedRow, markedBy, lateRow, crowdedFront}
 use Rattle.rounds.proofs.Sites.{lies}
 use Rattle.rounds.proofs.Cleans.{clean-none, clean-crowded, clean-here}
 
@@ -181,30 +181,6 @@ empty-right [] b h = empty-length b
 empty-right (x ∷ a) b h = absurd (omega arith)
 
 pub ruleset empties = (empty-left, empty-right, needs)
-
--- the first row that fits
-module _ (text : List ℕ) (n i : ℕ) (s t : Site) (u v p : Word) (x : Bool) (e : x ≡ isEmpty u) where
-  pub first-u : x ≡ true → 1 ≡ firstRow text n i s t u v p
-  unfolding firstRow
-  first-u h = rw (← e, h)
-
-  module _ (h : x ≡ false) (y : Bool) (f : y ≡ isEmpty v) where
-    pub first-v : y ≡ true → 1 ≡ firstRow text n i s t u v p
-    unfolding firstRow
-    first-v k = rw (← e, h, ← f, k)
-
-    pub first-none : y ≡ false → n ≤ i → 2 ≡ firstRow text n i s t u v p
-    unfolding firstRow
-    first-none k l = rw (← e, h, ← f, k, le-ltb i n l)
-
-    pub first-late : y ≡ false → i < n → (r : ℕ) → r ≡ lateRow text s t u v p → r ≡ firstRow text n i s t u v p
-    unfolding firstRow
-    first-late k l r g = rw (← e, h, ← f, k, lt-ltb i n l) g
-
-pub sited-mates : (text : List ℕ) (n i : ℕ) (s t : Site) → Sited text n i s t → i < n → Mates text s t
-sited-mates text n i s t h l = h .mates l
-
-pub ruleset firsts = (first-u, first-v, first-none, first-late, sited-mates, needs)
 
 -- X and Y at a place
 pub stands-below : (text table : List ℕ) (n : ℕ) (w : Word) (q k : ℕ) → k ≡ frontAt (wordsIn text table n) w q → ltb k n ≡ standsAt (wordsIn text table n) w q

@@ -2,6 +2,7 @@
 use Prim.Native.Nat.{ℕ, _+_, _-_, min}
 use mathlib.Core.Bool.{Bool, true, false, cond, _&&_, _||_, not}
 use mathlib.Core.List.{List}
+use mathlib.Core.Path.{_≡_}
 use lib.Dec.{eqb, ltb}
 use lib.ListN.{length, getD, drop}
 use Rattle.words.specs.Words.{Word, isEmpty, front, commonEnd}
@@ -9,11 +10,13 @@ use Rattle.words.specs.Relations.{other}
 use Rattle.overlap.specs.Pieces.{word}
 use Rattle.overlap.specs.Cuts.{xlen, xylen, xOf, xyOf, zOf}
 use Rattle.congruence.specs.Rows.{alike, crowded}
-use Rattle.layout.specs.Layout.{startOf, xEndOf, zStartOf, endOf, part}
+use Rattle.layout.specs.Layout.{startOf, xEndOf, zStartOf, endOf, part, wordsIn}
 use Rattle.rounds.specs.declared.Change.{Change}
+use Rattle.rounds.specs.declared.Found.{Found}
 use Rattle.rounds.specs.declared.Plan.{Plan}
 use Rattle.rounds.specs.declared.Plan.the-variants.{End, Go}
 use Rattle.rounds.specs.declared.Site.{Site}
+use Rattle.rounds.specs.Plans.{Mates, BothSome, Decided}
 
 -- the number of the first row that fits, from row 3 on
 module _ (B : List Word) (i j : ℕ) (u v p : Word) where
@@ -70,9 +73,10 @@ markedBy text s t p = front p (part text (s .start) (s .middle)) || front p (par
 unfoldable pub lateRow : List ℕ → Site → Site → Word → Word → Word → ℕ
 lateRow text s t u v p = cond (markedBy text s t p) (shapedRow text s t u v) 3
 
--- the first row that fits
-unfoldable pub firstRow : List ℕ → ℕ → ℕ → Site → Site → Word → Word → Word → ℕ
-firstRow text n i s t u v p = cond (isEmpty u || isEmpty v) 1 (cond (ltb i n) (lateRow text s t u v p) 2)
+-- the row from row 3 on, and where relation word i, the clean front of u, and its other word lie
+unfoldable pub foundAt : List ℕ → List ℕ → ℕ → Word → Word → Word → Found
+foundAt text table i u v p =
+    record { row = lateRow text (siteOf table i) (siteOf table (other i)) u v p; own = siteOf table i; turned = siteOf table (other i) }
 
 -- a change that only cuts
 unfoldable pub cutBy : ℕ → Change
@@ -152,3 +156,9 @@ planBy text B s t u v p row =
     (cond (eqb row 6) (plan6 s t (length p))
     (cond (eqb row 7) (plan7 s t (length p))
     (plan8Of text s t (sharedEnd text s t) u v p)))))))
+
+-- what is known of the first row that fits: what its arm asks, and that the plan by it is the rows' round
+pub record Chosen (text table : List ℕ) (n : ℕ) (u v p : Word) (f : Found) : Type 0 where
+  pub some : f .row ≡ 2 → BothSome u v
+  pub mates : (f .row ≡ 1 → ⊥) → (f .row ≡ 2 → ⊥) → Mates text (f .own) (f .turned)
+  pub decided : Decided text table n u v p (planBy text (wordsIn text table n) (f .own) (f .turned) u v p (f .row))

@@ -81,10 +81,6 @@ pub record Mates (text : List ℕ) (s t : Site) : Type 0 where
   pub own : Placed text s
   pub turned : Placed text t
 
--- where i is a relation word, s is its site and t that of its other word
-pub record Sited (text : List ℕ) (n i : ℕ) (s t : Site) : Type 0 where
-  pub mates : i < n → Mates text s t
-
 -- relation word i of a checked presentation
 pub record Known (text table : List ℕ) (n i : ℕ) : Type 0 where
   pub checked : Checked text table n
@@ -135,7 +131,7 @@ pub record Shared (text : List ℕ) (s t : Site) (l : ℕ) : Type 0 where
   pub own : Headed text s l
   pub turned : Headed text t l
 
--- s and t are the sites of i and of its other word, where i is a relation word
-pub record Fronted (text table : List ℕ) (n i : ℕ) (s t : Site) : Type 0 where
-  pub checked : Checked text table n
-  pub sited : Sited text n i s t
+-- relation word i of a presentation whose relation words come in pairs
+pub record Fronted (text table : List ℕ) (n i : ℕ) : Type 0 where
+  pub paired : Paired text table n
+  pub there : i < n

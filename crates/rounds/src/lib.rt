@@ -10,7 +10,7 @@ ghost use Rattle.words.specs.Words.{isEmpty, front};
 ghost use Rattle.words.specs.Relations.{other};
 ghost use Rattle.congruence.specs.Rows.{standsAt, crowded, cleanFront, round};
 ghost use Rattle.layout.specs.Layout.{part, wordsIn, Checked};
-ghost use Rattle.rounds.specs.Plans.{Placed, Known, Mates, Sited, BackRoom, AgreeBack, BothSome, Turning, Upwards, Headed, Ends, Shared, Fronted, Paired, planned, Decided};
+ghost use Rattle.rounds.specs.Plans.{Placed, Known, Mates, BackRoom, AgreeBack, BothSome, Turning, Upwards, Headed, Ends, Shared, Fronted, Paired, planned, Decided};
 ghost use Rattle.rounds.specs.declared.Plan.the-variants.{Go};
 ghost use Rattle.rounds.specs.Writing.{copied, Writable, Written, writtenBy, Changes, Planned, Lent};
 ghost use Rattle.rounds.specs.Writing.Outcome.{after};
@@ -23,7 +23,8 @@ ghost use Rattle.rounds.specs.Numbers.{
   shapedRow,
   markedBy,
   lateRow,
-  firstRow,
+  foundAt,
+  Chosen,
   crowdedFront,
   sharedEnd,
   plan1,
@@ -63,6 +64,13 @@ pub struct Site {
     pub middle: usize,
     pub tail: usize,
     pub stop: usize,
+}
+
+// The first row that fits; from row 3 on, also where the relation word of u's clean front and its other word lie.
+pub struct Found {
+    pub row: u8,
+    pub own: Site,
+    pub turned: Site,
 }
 
 // The end, or the lengths of the next u, v and p.
@@ -214,34 +222,6 @@ fn empty(a: &[u8], b: &[u8]) -> bool
     b.len() == 0
 }
 
-// The number of the first row that fits.
-fn row_number(
-    text: &[u8],
-    n: usize,
-    i: usize,
-    s: Site,
-    t: Site,
-    ua: &[u8],
-    ub: &[u8],
-    va: &[u8],
-    vb: &[u8],
-    p: &[u8],
-) -> u8
-    requires { ⌜ Sited (now text) n i s t ⌝ }
-    ensures { λ r. ⌜ r ≡ firstRow (now (text .entry)) n i s t (now (ua .entry) ++ now (ub .entry)) (now (va .entry) ++ now (vb .entry)) (now (p .entry)) ⌝ }
-{
-    if empty(ua, ub) {
-        return 1;
-    }
-    if empty(va, vb) {
-        return 1;
-    }
-    if n <= i {
-        return 2;
-    }
-    late_row(text, s, t, ua, ub, va, vb, p)
-}
-
 // Whether X and Y of some relation word stand in the word at place q.
 fn stands(text: &[u8], table: &[u16], n: usize, a: &[u8], b: &[u8], q: usize) -> bool
     requires { ⌜ Checked (now text) (now table) n ⌝ }
@@ -296,6 +276,74 @@ fn clean_front(text: &[u8], table: &[u16], n: usize, a: &[u8], b: &[u8]) -> usiz
         return n;
     }
     k
+}
+
+// Row 1 or 2, for which no relation word is looked at.
+fn early(row: u8) -> Found
+    ensures { λ r. ⌜ r .row ≡ row ⌝ }
+{
+    let nowhere = Site {
+        start: 0,
+        middle: 0,
+        tail: 0,
+        stop: 0,
+    };
+    Found {
+        row,
+        own: nowhere,
+        turned: nowhere,
+    }
+}
+
+// Row 3 or a later one, where relation word i is the clean front of u.
+fn late(
+    text: &[u8],
+    table: &[u16],
+    n: usize,
+    i: usize,
+    ua: &[u8],
+    ub: &[u8],
+    va: &[u8],
+    vb: &[u8],
+    p: &[u8],
+) -> Found
+    requires { ⌜ Fronted (now text) (now table) n i ⌝ }
+    ensures { λ r. ⌜ r ≡ foundAt (now (text .entry)) (now (table .entry)) i (now (ua .entry) ++ now (ub .entry)) (now (va .entry) ++ now (vb .entry)) (now (p .entry)) ⌝ }
+{
+    let own = read_site(table, i);
+    let turned = read_site(table, other_word(i));
+    Found {
+        row: late_row(text, own, turned, ua, ub, va, vb, p),
+        own,
+        turned,
+    }
+}
+
+// The first row that fits. What a row needs is looked for only where no row before it fits.
+fn find_row(
+    text: &[u8],
+    table: &[u16],
+    n: usize,
+    ua: &[u8],
+    ub: &[u8],
+    va: &[u8],
+    vb: &[u8],
+    p: &[u8],
+) -> Found
+    requires { ⌜ Paired (now text) (now table) n ⌝ }
+    ensures { λ r. ⌜ Chosen (now (text .entry)) (now (table .entry)) n (now (ua .entry) ++ now (ub .entry)) (now (va .entry) ++ now (vb .entry)) (now (p .entry)) r ⌝ }
+{
+    if empty(ua, ub) {
+        return early(1);
+    }
+    if empty(va, vb) {
+        return early(1);
+    }
+    let i = clean_front(text, table, n, ua, ub);
+    if n <= i {
+        return early(2);
+    }
+    late(text, table, n, i, ua, ub, va, vb, p)
 }
 
 fn smaller(x: usize, y: usize) -> usize
@@ -559,36 +607,6 @@ fn cut_ends(
     cut_common(text, s, t, l, ua, ub, va, vb, p)
 }
 
-// The first row that fits, and what it gives.
-fn by_row(
-    text: &[u8],
-    table: &[u16],
-    n: usize,
-    i: usize,
-    s: Site,
-    t: Site,
-    ua: &[u8],
-    ub: &[u8],
-    va: &[u8],
-    vb: &[u8],
-    p: &[u8],
-) -> Plan
-    requires { ⌜ Fronted (now text) (now table) n i s t ⌝ }
-    ensures { λ r. ⌜ r ≡ planBy (now (text .entry)) (wordsIn (now (text .entry)) (now (table .entry)) n) s t (now (ua .entry) ++ now (ub .entry)) (now (va .entry) ++ now (vb .entry)) (now (p .entry)) (firstRow (now (text .entry)) n i s t (now (ua .entry) ++ now (ub .entry)) (now (va .entry) ++ now (vb .entry)) (now (p .entry))) ⌝ }
-{
-    let row = row_number(text, n, i, s, t, ua, ub, va, vb, p);
-    match row {
-        1 => finish(ua, ub, va, vb, p),
-        2 => drop_letters(ua, ub, va, vb, p),
-        3 => Plan::End(false),
-        4 => exchange(text, table, n, s, t, ua, ub, va, vb, p.len()),
-        5 => cut_fronts(text, s, p),
-        6 => put_on_v(s, t, p.len()),
-        7 => put_on_u(s, t, p.len()),
-        _ => cut_ends(text, s, t, ua, ub, va, vb, p),
-    }
-}
-
 // One round: the plan of what the rows make of u, v and p.
 pub fn decide(
     text: &[u8],
@@ -603,10 +621,20 @@ pub fn decide(
     requires { ⌜ Paired (now text) (now table) n ⌝ }
     ensures { λ r. ⌜ Decided (now (text .entry)) (now (table .entry)) n (now (ua .entry) ++ now (ub .entry)) (now (va .entry) ++ now (vb .entry)) (now (p .entry)) r ⌝ }
 {
-    let i = clean_front(text, table, n, ua, ub);
-    let s = read_site(table, i);
-    let t = read_site(table, other_word(i));
-    by_row(text, table, n, i, s, t, ua, ub, va, vb, p)
+    let found = find_row(text, table, n, ua, ub, va, vb, p);
+    let row = found.row;
+    let s = found.own;
+    let t = found.turned;
+    match row {
+        1 => finish(ua, ub, va, vb, p),
+        2 => drop_letters(ua, ub, va, vb, p),
+        3 => Plan::End(false),
+        4 => exchange(text, table, n, s, t, ua, ub, va, vb, p.len()),
+        5 => cut_fronts(text, s, p),
+        6 => put_on_v(s, t, p.len()),
+        7 => put_on_u(s, t, p.len()),
+        _ => cut_ends(text, s, t, ua, ub, va, vb, p),
+    }
 }
 
 // The bytes of s go to the buffer from place `at` on.
