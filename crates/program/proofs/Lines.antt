@@ -27,11 +27,9 @@ use Rattle.lines.specs.Lines.{Put, lineOf}
 use Rattle.lines.proofs.Laws.{put-both, room-first, room-second}
 use Rattle.program.specs.declared.Request.{Request}
 use Rattle.program.specs.declared.Request.the-variants.{Compare, Refused}
-use Rattle.program.specs.declared.Answered.{Answered}
-use Rattle.program.specs.declared.Answered.the-variants.{Line, Last}
 use Rattle.program.specs.Program.{bookText, longField, refusedLine, comparisonLine, comparisonIn, lineThen, linesFrom}
 use Rattle.program.specs.Requests.{fieldsOf, requestOf, requestAt}
-use Rattle.program.specs.Answers.{answered, answeredAt, byAnswered, linesUnder, Lined, linesOfAccepted, Accepted}
+use Rattle.program.specs.Answers.{linesUnder, Lined, linesOfAccepted, Accepted}
 use Rattle.program.proofs.Size.{equal-of}
 
 -- a part of the input, as the code takes it and as the definition does
@@ -48,6 +46,11 @@ pub record Lies (input : List ℕ) (at first second end : ℕ) : Type 0 where
   pub next : second ≤ end
   pub inside : end ≤ length input
   pub behind : at < end
+
+-- the lines from a record on by what it asks for, where `next` gives those behind it
+abbrev byRequest : (ℕ → List ℕ) → ℕ → List Word → List ℕ → Request → List ℕ
+byRequest next letters B input (Refused r) = refusedLine r
+byRequest next letters B input (Compare a first second end) = comparisonLine (comparisonOf letters B (slice first second input) (slice second end input) a) ++ next end
 
 -- what a record asks for, and the line that the definition gives for it
 module _ (input : List ℕ) (at : ℕ) where
@@ -82,11 +85,11 @@ module _ (input : List ℕ) (at : ℕ) where
   unfolding requestAt
   lies-of r e a first second end f = lies-in (recordAt input at) refl a first second end (sym e ∙ f)
 
-  line-answered : (next : ℕ → List ℕ) (letters : ℕ) (B : List Word) (o : Record)
-      → lineThen next letters B input at o ≡ byAnswered next (answered letters B input (requestOf input at o))
+  line-asked : (next : ℕ → List ℕ) (letters : ℕ) (B : List Word) (o : Record)
+      → lineThen next letters B input at o ≡ byRequest next letters B input (requestOf input at o)
   unfolding fieldsOf comparisonIn
-  line-answered next letters B CutOff = refl
-  line-answered next letters B (Whole kind from to) = first-test (differs kind comparisonKind)
+  line-asked next letters B CutOff = refl
+  line-asked next letters B (Whole kind from to) = first-test (differs kind comparisonKind)
     where
       L : ℕ
       L = comparisonLength + field input (from + 4) + field input (from + 6)
@@ -97,40 +100,28 @@ module _ (input : List ℕ) (at : ℕ) where
       line : List ℕ
       line = comparisonLine (comparisonIn letters B input from to) ++ next to
 
-      second-test : (b : Bool) → cond b (refusedLine (Length at)) line ≡ byAnswered next (answered letters B input (cond b (Refused (Length at)) good))
+      second-test : (b : Bool) → cond b (refusedLine (Length at)) line ≡ byRequest next letters B input (cond b (Refused (Length at)) good)
       second-test true = refl
       second-test false = refl
 
       first-test : (b : Bool) → cond b (refusedLine (Kind at)) (cond (differs (to - from) L) (refusedLine (Length at)) line)
-          ≡ byAnswered next (answered letters B input (cond b (Refused (Kind at)) (cond (differs (to - from) L) (Refused (Length at)) good)))
+          ≡ byRequest next letters B input (cond b (Refused (Kind at)) (cond (differs (to - from) L) (Refused (Length at)) good))
       first-test true = refl
       first-test false = second-test (differs (to - from) L)
 
--- a record's answer
-module _ (input : List ℕ) (at : ℕ) (r : Request) (e : r ≡ requestAt input at) where
-  pub answer-last : (letters : ℕ) (B : List Word) (x : Refusal) → r ≡ Refused x → Last x ≡ answeredAt letters B input at
-  unfolding answeredAt
-  answer-last letters B x f = rw (← e, f)
+-- a record that asks for a comparison
+module _ (input : List ℕ) (at : ℕ) (r : Request) (e : r ≡ requestAt input at) (a first second end : ℕ) (f : r ≡ Compare a first second end) where
+  pub asked-order : first ≤ second
+  asked-order = lies-of input at r e a first second end f .order
 
-  module _ (a first second end : ℕ) (f : r ≡ Compare a first second end) where
-    pub answer-order : first ≤ second
-    answer-order = lies-of input at r e a first second end f .order
+  pub asked-next : second ≤ end
+  asked-next = lies-of input at r e a first second end f .next
 
-    pub answer-next : second ≤ end
-    answer-next = lies-of input at r e a first second end f .next
+  pub asked-inside : end ≤ length input
+  asked-inside = lies-of input at r e a first second end f .inside
 
-    pub answer-inside : end ≤ length input
-    answer-inside = lies-of input at r e a first second end f .inside
-
-    pub answer-middle : second ≤ length input
-    answer-middle = let l = lies-of input at r e a first second end f in omega (arith, l .next, l .inside)
-
-    pub answer-line : (letters : ℕ) (B : List Word) (c : Comparison) → c ≡ comparisonOf letters B (between input first second) (between input second end) a
-        → Line c end ≡ answeredAt letters B input at
-    unfolding answeredAt
-    answer-line letters B c g = rw (← e, f, g, slice-between first second input, slice-between second end input)
-
-pub ruleset answers = (answer-last, answer-order, answer-next, answer-inside, answer-middle, answer-line, needs)
+  pub asked-middle : second ≤ length input
+  asked-middle = let l = lies-of input at r e a first second end f in omega (arith, l .next, l .inside)
 
 -- nothing is written yet
 put-none : (out : List ℕ) (place : ℕ) → Put out place [] out place
@@ -173,19 +164,19 @@ module _ (text table : List ℕ) (n letters : ℕ) (input : List ℕ) (start : �
         nothing zero = append-nil (l .written)
         nothing (suc most) = rw (le-leb (length input) at h) (append-nil (l .written))
 
-    module _ (h : at < length input) (r : Answered) (e : r ≡ answeredAt letters (wordsIn text table n) input at) where
-      -- the lines from here on, by the answer
+    module _ (h : at < length input) (r : Request) (e : r ≡ requestAt input at) where
+      -- the lines from here on, by what the record asks for
       on : (m : ℕ) × (length input ≤ at + suc m)
-          × (linesUnder text table n letters input start ≡ l .written ++ byAnswered (linesFrom m letters (wordsIn text table n) input) r)
-      unfolding linesFrom answeredAt requestAt
+          × (linesUnder text table n letters input start ≡ l .written ++ byRequest (linesFrom m letters (wordsIn text table n) input) letters (wordsIn text table n) input r)
+      unfolding linesFrom requestAt
       on = step (l .most) (l .enough) (l .whole)
         where
           step : (m : ℕ) → length input ≤ at + m → linesUnder text table n letters input start ≡ l .written ++ linesFrom m letters (wordsIn text table n) input at
               → (m : ℕ) × (length input ≤ at + suc m)
-              × (linesUnder text table n letters input start ≡ l .written ++ byAnswered (linesFrom m letters (wordsIn text table n) input) r)
+              × (linesUnder text table n letters input start ≡ l .written ++ byRequest (linesFrom m letters (wordsIn text table n) input) letters (wordsIn text table n) input r)
           step zero k q = absurd (omega arith)
           step (suc m) k q =
-              let s = line-answered input at (linesFrom m letters (wordsIn text table n) input) letters (wordsIn text table n) (recordAt input at) in
+              let s = line-asked input at (linesFrom m letters (wordsIn text table n) input) letters (wordsIn text table n) (recordAt input at) in
               (m, k, q ∙ rw (lt-leb (length input) at h, e) (ap (λ t. l .written ++ t) s))
 
       -- room for a text that comes next, and behind it
@@ -195,9 +186,9 @@ module _ (text table : List ℕ) (n letters : ℕ) (input : List ℕ) (start : �
           let k = ap length q in
           omega (arith, length-append (l .written) (s ++ t), length-append s t, l .put .behind, l .put .kept)
 
-      module _ (x : Refusal) (f : r ≡ Last x) where
+      module _ (x : Refusal) (f : r ≡ Refused x) where
         last-whole : linesUnder text table n letters input start ≡ l .written ++ refusedLine x
-        last-whole = on .2 ∙ ap (λ (t : Answered). l .written ++ byAnswered (linesFrom (on .0) letters (wordsIn text table n) input) t) f
+        last-whole = on .2 ∙ ap (λ (t : Request). l .written ++ byRequest (linesFrom (on .0) letters (wordsIn text table n) input) letters (wordsIn text table n) input t) f
 
         pub lining-last-room : end + length (refusedLine x) ≤ length b
         lining-last-room = room-next (refusedLine x) [] (last-whole ∙ rw append-nil)
@@ -207,49 +198,44 @@ module _ (text table : List ℕ) (n letters : ℕ) (input : List ℕ) (start : �
             subst (λ (s : List ℕ). Put out place s b′ end′) (sym last-whole)
             (put-both out place (l .written) b end (refusedLine x) b′ end′ (subst (λ (s : List ℕ). place + length s ≤ length out) last-whole (l .room)) (l .put) p)
 
-      module _ (c : Comparison) (to : ℕ) (f : r ≡ Line c to) where
-        lies : (at < to) × (to ≤ length input)
-        unfolding answeredAt
-        lies = step (requestAt input at) refl (sym e ∙ f)
-          where
-            step : (o : Request) → requestAt input at ≡ o → answered letters (wordsIn text table n) input o ≡ Line c to → (at < to) × (to ≤ length input)
-            step (Refused x) q g = absurd (let z : _≡_ {A = ℕ} 0 1 = cc in omega arith)
-            step (Compare a first second end′) q g =
-                let w = lies-of input at (requestAt input at) refl a first second end′ q in
-                let z : end′ ≡ to = cc g in
-                (omega (arith, w .behind), omega (arith, w .inside))
-
-        next-whole : linesUnder text table n letters input start ≡ l .written ++ (comparisonLine c ++ linesFrom (on .0) letters (wordsIn text table n) input to)
-        next-whole = on .2 ∙ ap (λ (t : Answered). l .written ++ byAnswered (linesFrom (on .0) letters (wordsIn text table n) input) t) f
-
-        pub lining-room : end + length (comparisonLine c) ≤ length b
-        lining-room = room-next (comparisonLine c) (linesFrom (on .0) letters (wordsIn text table n) input to) next-whole
+      module _ (a first second to : ℕ) (f : r ≡ Compare a first second to) where
+        lies : Lies input at first second to
+        lies = lies-of input at r e a first second to f
 
         pub lining-less : length input - to < length input - at
-        lining-less = let w0 = lies .0 in let w1 = lies .1 in omega arith
+        lining-less = let w0 = lies .behind in let w1 = lies .inside in omega arith
 
-        pub lining-more : (b′ : List ℕ) (end′ : ℕ) → Put b end (comparisonLine c) b′ end′ → Lining text table n letters input start out place to end′ b′
-        lining-more b′ end′ p =
-            let s = l .written in
-            let t = comparisonLine c in
-            let rest = linesFrom (on .0) letters (wordsIn text table n) input to in
-            let q : linesUnder text table n letters input start ≡ (s ++ t) ++ rest = next-whole ∙ sym (append-assoc s t rest) in
-            let k : place + length ((s ++ t) ++ rest) ≤ length out = subst (λ (x : List ℕ). place + length x ≤ length out) q (l .room) in
-            let w0 = lies .0 in
-            let w1 = lies .1 in
-            let u = on .1 in
-            record {
-              ready = l .ready;
-              within = w1;
-              most = on .0;
-              enough = omega arith;
-              written = s ++ t;
-              whole = q;
-              put = put-both out place s b end t b′ end′ (room-first out place (s ++ t) rest k) (l .put) p;
-              room = l .room;
-            }
+        module _ (c : Comparison) (g : c ≡ comparisonOf letters (wordsIn text table n) (between input first second) (between input second to) a) where
+          next-whole : linesUnder text table n letters input start ≡ l .written ++ (comparisonLine c ++ linesFrom (on .0) letters (wordsIn text table n) input to)
+          next-whole =
+              on .2 ∙ ap (λ (t : Request). l .written ++ byRequest (linesFrom (on .0) letters (wordsIn text table n) input) letters (wordsIn text table n) input t) f
+              ∙ rw (g, slice-between first second input, slice-between second to input)
 
-pub ruleset linings = (lining-start, lining-ready, lining-end, lining-last-room, lining-last, lining-room, lining-less, lining-more, needs)
+          pub lining-room : end + length (comparisonLine c) ≤ length b
+          lining-room = room-next (comparisonLine c) (linesFrom (on .0) letters (wordsIn text table n) input to) next-whole
+
+          pub lining-more : (b′ : List ℕ) (end′ : ℕ) → Put b end (comparisonLine c) b′ end′ → Lining text table n letters input start out place to end′ b′
+          lining-more b′ end′ p =
+              let s = l .written in
+              let t = comparisonLine c in
+              let rest = linesFrom (on .0) letters (wordsIn text table n) input to in
+              let q : linesUnder text table n letters input start ≡ (s ++ t) ++ rest = next-whole ∙ sym (append-assoc s t rest) in
+              let k : place + length ((s ++ t) ++ rest) ≤ length out = subst (λ (x : List ℕ). place + length x ≤ length out) q (l .room) in
+              let w0 = lies .behind in
+              let w1 = lies .inside in
+              let u = on .1 in
+              record {
+                ready = l .ready;
+                within = w1;
+                most = on .0;
+                enough = omega arith;
+                written = s ++ t;
+                whole = q;
+                put = put-both out place s b end t b′ end′ (room-first out place (s ++ t) rest k) (l .put) p;
+                room = l .room;
+              }
+
+pub ruleset linings = (lining-start, lining-ready, lining-end, lining-last-room, lining-last, lining-room, lining-less, lining-more, asked-order, asked-next, asked-inside, asked-middle, needs)
 
 -- an accepted book: its line, then those of the comparisons
 module _ (text table : List ℕ) (relations letters : ℕ) (input : List ℕ) (end : ℕ) (out : List ℕ) (h : Accepted text table relations letters input end out) where

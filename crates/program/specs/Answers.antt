@@ -1,35 +1,13 @@
--- What the record at a position of the kind 3 part is answered: a comparison's line and where the next record begins, or the refusal that ends the lines
--- (document 01, "The program"); and what the writing of lines asks.
+-- What the writing of the output's lines asks (document 01, "The program").
 use Prim.Native.Nat.{ℕ, _+_, _*_, _≤_}
 use mathlib.Core.List.{List, _++_}
 use lib.ListN.{length, take}
-use lib.Seq.{slice}
-use Rattle.words.specs.Words.{Word}
 use Rattle.layout.specs.Layout.{wordsIn}
 use Rattle.comparison.specs.State.{Ready}
-use Rattle.comparison.specs.Comparing.{comparisonOf}
 use Rattle.presentation.specs.Loading.{loadBook}
-use Rattle.program.specs.declared.Request.{Request}
-use Rattle.program.specs.declared.Request.the-variants.{Compare, Refused}
-use Rattle.program.specs.declared.Answered.{Answered}
-use Rattle.program.specs.declared.Answered.the-variants.{Line, Last}
 use Rattle.lines.specs.Lines.{lineOf}
 use Rattle.format.specs.Limits.{relationsMost}
-use Rattle.program.specs.Program.{bookText, refusedLine, comparisonLine, bookEnd, linesFrom, byLoading}
-use Rattle.program.specs.Requests.{requestAt}
-
--- by what the record asks for
-abbrev pub answered : ℕ → List Word → List ℕ → Request → Answered
-answered letters B input (Refused r) = Last r
-answered letters B input (Compare allowance first second end) = Line (comparisonOf letters B (slice first second input) (slice second end input) allowance) end
-
-unfoldable pub answeredAt : ℕ → List Word → List ℕ → ℕ → Answered
-answeredAt letters B input at = answered letters B input (requestAt input at)
-
--- its line, and what `next` gives for the place behind the record
-abbrev pub byAnswered : (ℕ → List ℕ) → Answered → List ℕ
-byAnswered next (Line comparison end) = comparisonLine comparison ++ next end
-byAnswered next (Last r) = refusedLine r
+use Rattle.program.specs.Program.{bookText, bookEnd, linesFrom, byLoading}
 
 -- the lines of the comparison records from a position on, under the relation words of a checked presentation
 abbrev pub linesUnder : List ℕ → List ℕ → ℕ → ℕ → List ℕ → ℕ → List ℕ

@@ -6,7 +6,7 @@ ghost use Rattle.reader.specs.Reads.{Payload};
 ghost use Rattle.lines.specs.Lines.{Put};
 ghost use Rattle.program.specs.Program.{longField, bookEnd, refusedLine, comparisonLine, programOf};
 ghost use Rattle.program.specs.Requests.{fieldsOf, requestAt};
-ghost use Rattle.program.specs.Answers.{answeredAt, linesUnder, Lined, linesOfAccepted, Accepted, outputOf, Roomy};
+ghost use Rattle.program.specs.Answers.{linesUnder, Lined, linesOfAccepted, Accepted, outputOf, Roomy};
 ghost use Rattle.comparison.specs.State.{Ready};
 ghost use Rattle.layout.specs.Layout.{wordsIn};
 ghost use Rattle.program.specs.Examples.{Hold, examples, HeavyFirst};
@@ -68,12 +68,6 @@ pub fn output_fits()
 pub enum Request {
     Compare(u32, usize, usize, usize),
     Refused(Refusal),
-}
-
-// What such a record is answered: a comparison, and where the next record begins; or the refusal that ends the lines.
-pub enum Answered {
-    Line(Comparison, usize),
-    Last(Refusal),
 }
 
 // A four-byte field, little-endian.
@@ -162,36 +156,6 @@ pub fn put_comparison(out: &mut [u8], at: usize, comparison: Comparison) -> usiz
     }
 }
 
-// The answer of the record at a position of the kind 3 part, under a checked presentation of so many letters.
-pub fn answer_at(
-    text: &[u8],
-    table: &[u16],
-    n: usize,
-    letters: u8,
-    input: &[u8],
-    at: usize,
-) -> Answered
-    requires { ⌜ Ready (now text) (now table) n ⌝ }
-    ensures { λ r. ⌜ r ≡ answeredAt letters (wordsIn (now (text .entry)) (now (table .entry)) n) (now (input .entry)) at ⌝ }
-{
-    let request = request_at(input, at);
-    match request {
-        Request::Refused(refusal) => Answered::Last(refusal),
-        Request::Compare(allowance, first, second, end) => {
-            let comparison = compare_given(
-                text,
-                table,
-                n,
-                letters,
-                &input[first..second],
-                &input[second..end],
-                allowance,
-            );
-            Answered::Line(comparison, end)
-        }
-    }
-}
-
 // Writes the lines of the comparison records from a position on, behind each other from a place of the buffer on, and answers the place behind them.
 pub fn write_lines(
     text: &[u8],
@@ -209,10 +173,19 @@ pub fn write_lines(
     let mut at = start;
     let mut end = place;
     while at < input.len() {
-        let answered = answer_at(text, table, n, letters, input, at);
-        match answered {
-            Answered::Last(refusal) => return put_refusal(out, end, refusal),
-            Answered::Line(comparison, next) => {
+        let request = request_at(input, at);
+        match request {
+            Request::Refused(refusal) => return put_refusal(out, end, refusal),
+            Request::Compare(allowance, first, second, next) => {
+                let comparison = compare_given(
+                    text,
+                    table,
+                    n,
+                    letters,
+                    &input[first..second],
+                    &input[second..next],
+                    allowance,
+                );
                 end = put_comparison(out, end, comparison);
                 at = next;
             }
