@@ -21,15 +21,15 @@ use Rattle.comparison.specs.declared.Mark.{Mark}
 use Rattle.comparison.specs.State.{heldWord, markWord, HeldFit, MarkHeld, advancedOf, advancedMark}
 
 -- a held word that stands for w
-pub record Holds (text : List ℕ) (B : List Word) (run w : Word) (h : Held) : Type 0 where
-  pub fit : HeldFit text B run h
-  pub same : heldWord text run h ≡ w
+pub record Holds (text : List ℕ) (B : List Word) (source w : Word) (h : Held) : Type 0 where
+  pub fit : HeldFit text B source h
+  pub same : heldWord text source h ≡ w
 
 pub record MarkHolds (text : List ℕ) (p : Word) (m : Mark) : Type 0 where
   pub fit : MarkHeld text m
   pub same : markWord text m ≡ p
 
-module _ (text : List ℕ) (B : List Word) (cut4 : Facts B) (run : Word) (h : Held) (f : HeldFit text B run h) (c : Change) (g : Fit text B (heldWord text run h) c) where
+module _ (text : List ℕ) (B : List Word) (cut4 : Facts B) (source : Word) (h : Held) (f : HeldFit text B source h) (c : Change) (g : Fit text B (heldWord text source h) c) where
   z : Word
   z = part text (h .at) (h .to)
 
@@ -38,22 +38,22 @@ module _ (text : List ℕ) (B : List Word) (cut4 : Facts B) (run : Word) (h : He
   z-length = part-length text (h .at) (h .to) (f .inside)
 
   -- what is cut lies in the two parts of the word
-  cut-within : c .cut ≤ (h .to - h .at) + (length run - h .from)
+  cut-within : c .cut ≤ (h .to - h .at) + (length source - h .from)
   unfolding z
   cut-within =
       let l = z-length in
-      omega (arith, g .within, length-append (part text (h .at) (h .to)) (drop (h .from) run), length-drop (h .from) run)
+      omega (arith, g .within, length-append (part text (h .at) (h .to)) (drop (h .from) source), length-drop (h .from) source)
 
   -- what is left where the part of the text is cut away whole
-  rest : length z ≤ c .cut → drop (c .cut) (z ++ drop (h .from) run) ≡ drop (h .from + (c .cut - (h .to - h .at))) run
-  rest k = drop-past z (drop (h .from) run) (c .cut) k ∙ drop-drop (c .cut - length z) (h .from) run ∙ rw z-length
+  rest : length z ≤ c .cut → drop (c .cut) (z ++ drop (h .from) source) ≡ drop (h .from + (c .cut - (h .to - h .at))) source
+  rest k = drop-past z (drop (h .from) source) (c .cut) k ∙ drop-drop (c .cut - length z) (h .from) source ∙ rw z-length
 
   -- a new part of the text: the old one is cut away whole
-  replaced : c .from < c .to → Holds text B run (applied text c (heldWord text run h)) (record { at = c .from; to = c .to; from = h .from + (c .cut - (h .to - h .at)) })
+  replaced : c .from < c .to → Holds text B source (applied text c (heldWord text source h)) (record { at = c .from; to = c .to; from = h .from + (c .cut - (h .to - h .at)) })
   unfolding z
   replaced l =
       let t = g .tailed l in
-      let past : length z < c .cut = omega (arith, front-past-quiet B cut4 z (drop (h .from) run) (t .by) (f .quiet) (t .there) (t .front), t .taken) in
+      let past : length z < c .cut = omega (arith, front-past-quiet B cut4 z (drop (h .from) source) (t .by) (f .quiet) (t .there) (t .front), t .taken) in
       let e = rest (omega arith) in
       record {
         fit = record {
@@ -67,11 +67,11 @@ module _ (text : List ℕ) (B : List Word) (cut4 : Facts B) (run : Word) (h : He
       }
 
   -- the cut leaves some of the old part
-  shortened : c .to ≤ c .from → c .cut < h .to - h .at → Holds text B run (applied text c (heldWord text run h)) (record { at = h .at + c .cut; to = h .to; from = h .from })
+  shortened : c .to ≤ c .from → c .cut < h .to - h .at → Holds text B source (applied text c (heldWord text source h)) (record { at = h .at + c .cut; to = h .to; from = h .from })
   unfolding z
   shortened l k =
-      let e : drop (c .cut) (z ++ drop (h .from) run) ≡ part text (h .at + c .cut) (h .to) ++ drop (h .from) run =
-      drop-append-le (c .cut) z (drop (h .from) run) (omega (arith, z-length)) ∙ rw (part-drop text (h .at) (h .to) (c .cut)) in
+      let e : drop (c .cut) (z ++ drop (h .from) source) ≡ part text (h .at + c .cut) (h .to) ++ drop (h .from) source =
+      drop-append-le (c .cut) z (drop (h .from) source) (omega (arith, z-length)) ∙ rw (part-drop text (h .at) (h .to) (c .cut)) in
       record {
         fit = record {
           up = omega arith;
@@ -85,7 +85,7 @@ module _ (text : List ℕ) (B : List Word) (cut4 : Facts B) (run : Word) (h : He
 
   -- the cut leaves nothing of it
   emptied : c .to ≤ c .from → h .to - h .at ≤ c .cut
-      → Holds text B run (applied text c (heldWord text run h)) (record { at = h .to; to = h .to; from = h .from + (c .cut - (h .to - h .at)) })
+      → Holds text B source (applied text c (heldWord text source h)) (record { at = h .to; to = h .to; from = h .from + (c .cut - (h .to - h .at)) })
   unfolding z
   emptied l k =
       let e = rest (omega (arith, z-length)) in
@@ -101,12 +101,12 @@ module _ (text : List ℕ) (B : List Word) (cut4 : Facts B) (run : Word) (h : He
         same = rw (part-none text (c .from) (c .to) l, e, n);
       }
 
-  pub holds-advanced : Holds text B run (applied text c (heldWord text run h)) (advancedOf h c)
+  pub holds-advanced : Holds text B source (applied text c (heldWord text source h)) (advancedOf h c)
   unfolding advancedOf
   holds-advanced = go (ltb (c .from) (c .to)) refl (ltb (c .cut) (h .to - h .at)) refl
     where
       go : (a : Bool) → ltb (c .from) (c .to) ≡ a → (b : Bool) → ltb (c .cut) (h .to - h .at) ≡ b
-          → Holds text B run (applied text c (heldWord text run h)) (advancedOf h c)
+          → Holds text B source (applied text c (heldWord text source h)) (advancedOf h c)
       go true e b d = rw e (replaced (ltb-true _ _ e))
       go false e true d = rw (e, d) (shortened (ltb-false _ _ e) (ltb-true _ _ d))
       go false e false d = rw (e, d) (emptied (ltb-false _ _ e) (ltb-false _ _ d))

@@ -62,8 +62,8 @@ advance-shortened h c l k = rw (le-ltb _ _ l, lt-ltb _ _ k)
 pub ruleset advances = (advance-replaced, advance-emptied, advance-shortened, needs)
 
 -- the round of a state: the rest of a given word is lent as the part up to its end
-pub rest-lent : (run : Word) (from : ℕ) → take (length run - from) (drop from run) ≡ drop from run
-rest-lent run from = take-all (length run - from) (drop from run) (omega (arith, length-drop from run))
+pub rest-lent : (source : Word) (from : ℕ) → take (length source - from) (drop from source) ≡ drop from source
+rest-lent source from = take-all (length source - from) (drop from source) (omega (arith, length-drop from source))
 
 pub plan-held : (text table : List ℕ) (n : ℕ) (first second : Word) (s : State) (r : Plan)
     → Decided text table n
@@ -137,11 +137,11 @@ module _ (text table : List ℕ) (n : ℕ) (first second : Word) (s : State) (p 
   unfolding words
   cuts = rigid-of-c4 (wordsIn text table n) (p .fitting .ready .paired .checked .accepted)
 
-  movable-of-fit : (run : Word) → length run ≤ 65536 → (h : Held) → HeldFit text words run h → (c : Change) → Fit text words (heldWord text run h) c → Movable h c
-  movable-of-fit run k h f c g =
-      let l = length-append (part text (h .at) (h .to)) (drop (h .from) run) in
+  movable-of-fit : (source : Word) → length source ≤ 65536 → (h : Held) → HeldFit text words source h → (c : Change) → Fit text words (heldWord text source h) c → Movable h c
+  movable-of-fit source k h f c g =
+      let l = length-append (part text (h .at) (h .to)) (drop (h .from) source) in
       let m = part-length text (h .at) (h .to) (f .inside) in
-      let d = length-drop (h .from) run in
+      let d = length-drop (h .from) source in
       record {
         up = f .up;
         low = omega (arith, f .inside, p .fitting .ready .text-short);

@@ -22,18 +22,18 @@ use Rattle.comparison.specs.declared.Step.the-variants as Steps
 
 -- the word that is held
 abbrev pub heldWord : List ℕ → Word → Held → Word
-heldWord text run h = part text (h .at) (h .to) ++ drop (h .from) run
+heldWord text source h = part text (h .at) (h .to) ++ drop (h .from) source
 
 -- the front mark
 abbrev pub markWord : List ℕ → Mark → Word
 markWord text m = part text (m .at) (m .to)
 
 -- a held word lies in the text and in the given word, and no X and Y stands in its part of the text
-pub record HeldFit (text : List ℕ) (B : List Word) (run : Word) (h : Held) : Type 0 where
+pub record HeldFit (text : List ℕ) (B : List Word) (source : Word) (h : Held) : Type 0 where
   pub up : h .at ≤ h .to
   pub inside : h .to ≤ length text
   pub short : h .to ≤ h .at + 64
-  pub within : h .from ≤ length run
+  pub within : h .from ≤ length source
   pub quiet : Quiet B (part text (h .at) (h .to))
 
 pub record MarkHeld (text : List ℕ) (m : Mark) : Type 0 where

@@ -14,7 +14,7 @@ use lib.ListN.{length, getD, drop, set, replicate, length-set, length-replicate,
 use lib.Seq.{drop-cons, getD-set-same, getD-set-other}
 use Rattle.words.specs.Words.{common}
 use Rattle.words.proofs.Commons.{common-empty}
-use Rattle.pieces.specs.Longest.{most, shared, longestAt, next, run, Room, Passed, RowOf, Ready, Stepped, Space, Tabled}
+use Rattle.pieces.specs.Longest.{most, shared, longestAt, next, entry, Room, Passed, RowOf, Ready, Stepped, Space, Tabled}
 
 -- one letter more, or none
 
@@ -71,15 +71,15 @@ pass-start text row x from to r =
     }
 
 module _ (text row : List ℕ) (x from to q : ℕ) (b : List ℕ) (best : ℕ) (s : Passing text row x from to q b best) where
-  run-here : next x (getD text q 0) (getD b (q + 1) 0) ≡ run text row x q
-  run-here = rw (s .done .above (q + 1) (omega arith))
+  entry-here : next x (getD text q 0) (getD b (q + 1) 0) ≡ entry text row x q
+  entry-here = rw (s .done .above (q + 1) (omega arith))
 
   pub pass-small : q < to → next x (getD text q 0) (getD b (q + 1) 0) ≤ 255
-  pass-small h = rw run-here (s .room .small q (s .low) h)
+  pass-small h = rw entry-here (s .room .small q (s .low) h)
 
   pub pass-more : (v m : ℕ) → q < to → v ≡ next x (getD text q 0) (getD b (q + 1) 0) → m ≡ max best v → Passing text row x from to (q + 1) (set b q v) m
   pass-more v m h e d =
-      let w : v ≡ run text row x q = e ∙ run-here in
+      let w : v ≡ entry text row x q = e ∙ entry-here in
       let f = s .room in
       let k : q < length b = omega (arith, s .long, f .inside, f .further) in
       let l = length-set b q v ∙ s .long in
@@ -91,11 +91,11 @@ module _ (text row : List ℕ) (x from to q : ℕ) (b : List ℕ) (best : ℕ) (
         done = record {
           long = l;
           made = λ j i t. by-cases (ℕ-discrete j q)
-              (λ g. ap (λ n. getD (set b q v) n 0) g ∙ getD-set-same b q v 0 k ∙ w ∙ ap (run text row x) (sym g))
+              (λ g. ap (λ n. getD (set b q v) n 0) g ∙ getD-set-same b q v 0 k ∙ w ∙ ap (entry text row x) (sym g))
               (λ g. getD-set-other b q j v 0 g ∙ s .done .made j i (omega (arith, t, g)));
           below = λ j i. getD-set-other b q j v 0 (λ g. absurd (omega (arith, g, i, s .low))) ∙ s .done .below j i;
           above = λ j i. getD-set-other b q j v 0 (λ g. absurd (omega (arith, g, i))) ∙ s .done .above j (omega (arith, i));
-          greatest = d ∙ rw (s .done .greatest, w) (sym (most-more (run text row x) from q (s .low)));
+          greatest = d ∙ rw (s .done .greatest, w) (sym (most-more (entry text row x) from q (s .low)));
         };
       }
 
@@ -119,13 +119,13 @@ shared-from-past text p q h = rw (drop-of-length-le text h)
 
 -- one place of the text
 module _ (text row : List ℕ) (x p : ℕ) (r : Ready text p row) (e : x ≡ getD text p 0) where
-  run-shared : (q : ℕ) → q < length text → (q ≡ p → ⊥) → run text row x q ≡ shared text p q
-  run-shared q h ne = rw (e, shared-next text p q (r .inside) h) (ap (next (getD text p 0) (getD text q 0)) (by-cases (ℕ-discrete (q + 1) (length text))
+  entry-shared : (q : ℕ) → q < length text → (q ≡ p → ⊥) → entry text row x q ≡ shared text p q
+  entry-shared q h ne = rw (e, shared-next text p q (r .inside) h) (ap (next (getD text p 0) (getD text q 0)) (by-cases (ℕ-discrete (q + 1) (length text))
       (λ g. ap (λ n. getD row n 0) g ∙ r .behind .end ∙ sym (shared-past text (p + 1) (q + 1) (omega (arith, g))))
       (λ g. r .behind .at (q + 1) (omega (arith, g, h)) (λ i. ne (omega (arith, i))))))
 
-  run-small : (q : ℕ) → q < length text → (q ≡ p → ⊥) → run text row x q ≤ 255
-  run-small q h ne = let l = r .bounded .most64 p q (λ i. ne (sym i)) in rw (run-shared q h ne) (omega (arith, l))
+  entry-small : (q : ℕ) → q < length text → (q ≡ p → ⊥) → entry text row x q ≤ 255
+  entry-small q h ne = let l = r .bounded .most64 p q (λ i. ne (sym i)) in rw (entry-shared q h ne) (omega (arith, l))
 
   pub room-before : Room text row x 0 p
   room-before =
@@ -133,12 +133,12 @@ module _ (text row : List ℕ) (x p : ℕ) (r : Ready text p row) (e : x ≡ get
         upwards = omega arith;
         inside = omega (arith, r .inside);
         further = r .behind .further;
-        small = λ q l h. run-small q (omega (arith, h, r .inside)) (λ i. absurd (omega (arith, i, h)));
+        small = λ q l h. entry-small q (omega (arith, h, r .inside)) (λ i. absurd (omega (arith, i, h)));
       }
 
   module _ (row₁ : List ℕ) (best₁ : ℕ) (s : Passed text row x 0 p row₁ best₁) where
-    run-after : (q : ℕ) → p < q → q < length text → run text row₁ x q ≡ shared text p q
-    run-after q l h = rw (s .above (q + 1) (omega (arith, l))) (run-shared q h (λ i. absurd (omega (arith, i, l))))
+    entry-after : (q : ℕ) → p < q → q < length text → entry text row₁ x q ≡ shared text p q
+    entry-after q l h = rw (s .above (q + 1) (omega (arith, l))) (entry-shared q h (λ i. absurd (omega (arith, i, l))))
 
     pub room-behind : Room text row₁ x (p + 1) (length text)
     room-behind =
@@ -146,7 +146,7 @@ module _ (text row : List ℕ) (x p : ℕ) (r : Ready text p row) (e : x ≡ get
           upwards = omega (arith, r .inside);
           inside = omega arith;
           further = rw (s .long) (r .behind .further);
-          small = λ q l h. let m = r .bounded .most64 p q (λ i. absurd (omega (arith, i, l))) in rw (run-after q (omega (arith, l)) h) (omega (arith, m));
+          small = λ q l h. let m = r .bounded .most64 p q (λ i. absurd (omega (arith, i, l))) in rw (entry-after q (omega (arith, l)) h) (omega (arith, m));
         }
 
     pub place-done : (row₂ : List ℕ) (best₂ best : ℕ) → Passed text row₁ x (p + 1) (length text) row₂ best₂ → best ≡ max best₁ best₂ → Stepped text p row row₂ best
@@ -155,9 +155,9 @@ module _ (text row : List ℕ) (x p : ℕ) (r : Ready text p row) (e : x ≡ get
         let i = r .inside in
         let d : p - 0 ≡ p = omega arith in
         let one : best₁ ≡ most (shared text p) 0 p =
-        s .greatest ∙ ap (most (run text row x) 0) d ∙ most-same (run text row x) (shared text p) 0 p (λ q l h. run-shared q (omega (arith, h, i)) (λ g. absurd (omega (arith, g, h)))) in
+        s .greatest ∙ ap (most (entry text row x) 0) d ∙ most-same (entry text row x) (shared text p) 0 p (λ q l h. entry-shared q (omega (arith, h, i)) (λ g. absurd (omega (arith, g, h)))) in
         let two : best₂ ≡ most (shared text p) (p + 1) (length text - (p + 1)) =
-        t .greatest ∙ most-same (run text row₁ x) (shared text p) (p + 1) (length text - (p + 1)) (λ q l h. run-after q (omega (arith, l)) (omega (arith, h, i))) in
+        t .greatest ∙ most-same (entry text row₁ x) (shared text p) (p + 1) (length text - (p + 1)) (λ q l h. entry-after q (omega (arith, l)) (omega (arith, h, i))) in
         let k : length row₂ ≡ length row = t .long ∙ s .long in
         record {
           long = k;
@@ -165,8 +165,8 @@ module _ (text row : List ℕ) (x p : ℕ) (r : Ready text p row) (e : x ≡ get
             further = rw k (r .behind .further);
             end = t .above (length text) (omega arith) ∙ s .above (length text) (omega (arith, i)) ∙ r .behind .end;
             at = λ q h ne. by-cases (decLt q p)
-                (λ l. t .below q (omega (arith, l)) ∙ s .made q (omega arith) l ∙ run-shared q h ne)
-                (λ l. t .made q (omega (arith, l, ne)) h ∙ run-after q (omega (arith, l, ne)) h);
+                (λ l. t .below q (omega (arith, l)) ∙ s .made q (omega arith) l ∙ entry-shared q h ne)
+                (λ l. t .made q (omega (arith, l, ne)) h ∙ entry-after q (omega (arith, l, ne)) h);
           };
           longest = m ∙ rw (one, two);
         }

@@ -26,23 +26,23 @@ unfoldable pub next : ℕ → ℕ → ℕ → ℕ
 next x t r = cond (eqb x t) (r + 1) 0
 
 -- the common front at q and at a letter x, where the row has that of the places behind them
-abbrev pub run : List ℕ → List ℕ → ℕ → ℕ → ℕ
-run text row x q = next x (getD text q 0) (getD row (q + 1) 0)
+abbrev pub entry : List ℕ → List ℕ → ℕ → ℕ → ℕ
+entry text row x q = next x (getD text q 0) (getD row (q + 1) 0)
 
 -- the pass over places `from` to `to` stays in the row, and its numbers in a byte
 pub record Room (text row : List ℕ) (x from to : ℕ) : Type 0 where
   pub upwards : from ≤ to
   pub inside : to ≤ length text
   pub further : length text < length row
-  pub small : (q : ℕ) → from ≤ q → q < to → run text row x q ≤ 255
+  pub small : (q : ℕ) → from ≤ q → q < to → entry text row x q ≤ 255
 
 -- the pass has put the next runs at places `from` to `to`, has kept the others, and the greatest of them is `best`
 pub record Passed (text row : List ℕ) (x from to : ℕ) (after : List ℕ) (best : ℕ) : Type 0 where
   pub long : length after ≡ length row
-  pub made : (q : ℕ) → from ≤ q → q < to → getD after q 0 ≡ run text row x q
+  pub made : (q : ℕ) → from ≤ q → q < to → getD after q 0 ≡ entry text row x q
   pub below : (q : ℕ) → q < from → getD after q 0 ≡ getD row q 0
   pub above : (q : ℕ) → to ≤ q → getD after q 0 ≡ getD row q 0
-  pub greatest : best ≡ most (run text row x) from (to - from)
+  pub greatest : best ≡ most (entry text row x) from (to - from)
 
 -- no common front of two places is longer than 64 letters
 pub record Bounded (text : List ℕ) : Type 0 where

@@ -24,7 +24,7 @@ pub enum Judged {
 }
 
 // The letters x and t agree: one letter more than behind them.
-fn next_run(x: u8, t: u8, behind: u8) -> u8
+fn next_entry(x: u8, t: u8, behind: u8) -> u8
     requires { ⌜ next x t behind ≤ 255 ⌝ }
     ensures { λ r. ⌜ r ≡ next x t behind ⌝ }
 {
@@ -42,7 +42,7 @@ fn pass(text: &[u8], row: &mut [u8], x: u8, from: usize, to: usize) -> u8
     let mut best: u8 = 0;
     let mut q = from;
     while q < to {
-        let v = next_run(x, text[q], row[q + 1]);
+        let v = next_entry(x, text[q], row[q + 1]);
         row[q] = v;
         best = larger(best, v);
         q += 1;
@@ -166,7 +166,7 @@ fn tail_start(longest: &[u8], start: usize, end: usize) -> usize
     a
 }
 
-// X ends with the longest piece at the word's start, which no fence lets run past its end.
+// X ends with the longest piece at the word's start, which no fence lets entry past its end.
 fn x_end(longest: &[u8], table: &[u16], i: usize) -> u16
     requires { ⌜ Placed (now longest) (now table) i ⌝ }
     ensures { λ r. ⌜ r ≡ xBy (now (longest .entry)) (now (table .entry)) i ⌝ }

@@ -169,12 +169,12 @@ module _ (text : List ℕ) (s t : Site) (h : Mates text s t) where
 
 pub ruleset wholes = (mates-whole, mates-stop, mates-stop′, whole-own, whole-turned, needs)
 
-pub exchange-made : (text : List ℕ) (B : List Word) (s t : Site) (u v : Word) (k : ℕ) (z : Site) (m : ℕ) (r : Plan) → z ≡ stays B s t u → m ≡ wholeCut text s t v
+pub replace-made : (text : List ℕ) (B : List Word) (s t : Site) (u v : Word) (k : ℕ) (z : Site) (m : ℕ) (r : Plan) → z ≡ stays B s t u → m ≡ wholeCut text s t v
     → r ≡ putBoth (s .stop - s .start) z m k → r ≡ plan4 s (stays B s t u) (wholeCut text s t v) k
 unfolding plan4
-exchange-made text B s t u v k z m r e f g = rw (← e, ← f) g
+replace-made text B s t u v k z m r e f g = rw (← e, ← f) g
 
-pub ruleset exchanges = (turning-mates, turning-stop, exchange-made, needs)
+pub ruleset replacements = (turning-mates, turning-stop, replace-made, needs)
 
 -- row 5
 module _ (text : List ℕ) (s : Site) (p : Word) (x : Bool) (e : x ≡ front p (part text (s .start) (s .middle))) (c : Change) where

@@ -3,7 +3,7 @@
 
 ghost use mathlib.Core.Bool.{true, false};
 ghost use mathlib.Core.Path.{_≡_};
-ghost use Prim.Native.Nat.{_+_, _*_, _-_, _<_, _≤_, min};
+ghost use Prim.Native.Nat.{_+_, _*_, _-_, _<_, _≤_};
 ghost use mathlib.Core.List.{_++_};
 ghost use lib.ListN.{length, getD, drop};
 ghost use Rattle.words.specs.Words.{isEmpty, front};
@@ -44,6 +44,7 @@ ghost use Rattle.rounds.specs.Numbers.{
   plan8Of,
   planBy,
 };
+use numbers::smaller;
 
 // The next word is text[from..to], and then the old word without its first `cut` letters.
 pub struct Change {
@@ -346,15 +347,6 @@ fn find_row(
     late(text, table, n, i, ua, ub, va, vb, p)
 }
 
-fn smaller(x: usize, y: usize) -> usize
-    ensures { λ r. ⌜ r ≡ min x y ⌝ }
-{
-    if x < y {
-        return x;
-    }
-    y
-}
-
 // How many letters before x and before y agree, of at most `room`.
 fn agree_back(text: &[u8], x: usize, y: usize, room: usize) -> usize
     requires { ⌜ BackRoom (now text) x y room ⌝ }
@@ -477,7 +469,7 @@ fn put_both(m: usize, z: Site, l: usize, k: usize) -> Plan
 }
 
 // Row 4.
-fn exchange(
+fn replace_words(
     text: &[u8],
     table: &[u16],
     n: usize,
@@ -629,7 +621,7 @@ pub fn decide(
         1 => finish(ua, ub, va, vb, p),
         2 => drop_letters(ua, ub, va, vb, p),
         3 => Plan::End(false),
-        4 => exchange(text, table, n, s, t, ua, ub, va, vb, p.len()),
+        4 => replace_words(text, table, n, s, t, ua, ub, va, vb, p.len()),
         5 => cut_fronts(text, s, p),
         6 => put_on_v(s, t, p.len()),
         7 => put_on_u(s, t, p.len()),

@@ -1,0 +1,13 @@
+use Rattle.rounds.proofs.PlanLaws.{replacements}
+use Rattle.rounds.proofs.replace_words.Statement.{statement}
+use Rattle.rounds.proofs.replace_words.Tie as tie
+
+pub replace-words-spec : {M : Type 1} → statement M
+replace-words-spec =
+    tie.close
+    (tie.spec
+    (λ c κs. search replacements)
+    (λ c κs. search replacements)
+    (λ c. search replacements)
+    (λ c κs. search replacements)
+    (λ c. search replacements))
