@@ -115,7 +115,11 @@ fn answer_read(line: &[u8]) {
     let mut table = [0u16; Relation::TABLE];
     let reading = reader::read_book(&book[..n], &mut text, &mut table);
     match reading {
-        Reading::Read(letters, relations) => print_pair(b"read ", numbers::wide(letters), relations),
+        Reading::Read(letters, relations) => print_pair(
+            b"read ",
+            numbers::wide(letters),
+            relations,
+        ),
         Reading::Refused(refusal) => print_refusal(refusal),
     }
 }

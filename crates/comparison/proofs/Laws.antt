@@ -33,13 +33,13 @@ use Rattle.format.specs.Limits.{comparedMost}
 use Rattle.comparison.specs.declared.Held.{Held}
 use Rattle.comparison.specs.declared.Mark.{Mark}
 use Rattle.comparison.specs.declared.State.{State}
-use Rattle.comparison.specs.declared.Step.{Step}
-use Rattle.comparison.specs.declared.Step.the-variants as Steps
+use Rattle.comparison.specs.declared.Move.{Move}
+use Rattle.comparison.specs.declared.Move.the-variants as Moves
 use Rattle.comparison.specs.declared.Progress.{Progress}
 use Rattle.comparison.specs.declared.Progress.the-variants.{Ended, Paused}
 use Rattle.comparison.specs.declared.Comparison.{Comparison}
 use Rattle.comparison.specs.declared.Comparison.the-variants.{Same, Different, Refused}
-use Rattle.comparison.specs.State.{heldWord, markWord, HeldFit, MarkHeld, beyondOf, Movable, MarkMovable, advancedOf, advancedMark, steppedOf, Applicable, Ready, Fitting, Poised, StepStands, Stepping}
+use Rattle.comparison.specs.State.{heldWord, markWord, HeldFit, MarkHeld, beyondOf, Movable, MarkMovable, advancedOf, advancedMark, movedOf, Applicable, Ready, Fitting, Poised, MoveStands, Moving}
 use Rattle.comparison.specs.Runs.{Ran, ended, paused, runFrom, answered, ranOf, Progressed}
 use Rattle.comparison.specs.Comparing.{answerOf, comparisonOf}
 use Rattle.comparison.proofs.Advancing.{holds-advanced, mark-advanced}
@@ -106,7 +106,7 @@ pub ruleset plans = (plan-held, poised-paired, u-up, u-inside, u-within, v-up, v
 
 -- carrying a plan out
 module _ (s : State) (plan : Plan) (a : Applicable s plan) where
-  pub carried-end : (b : Bool) → plan ≡ Plans.End b → Steps.End b ≡ steppedOf s plan
+  pub carried-end : (b : Bool) → plan ≡ Plans.End b → Moves.End b ≡ movedOf s plan
   carried-end b e = rw e
 
   module _ (cu cv cp : Change) (e : plan ≡ Plans.Go cu cv cp) where
@@ -123,7 +123,7 @@ module _ (s : State) (plan : Plan) (a : Applicable s plan) where
     movable-mark = movables .2
 
     pub carried-next : (hu hv : Held) (m : Mark) → hu ≡ advancedOf (s .u) cu → hv ≡ advancedOf (s .v) cv → m ≡ advancedMark (s .mark) cp
-        → Steps.Next (record { u = hu; v = hv; mark = m }) ≡ steppedOf s plan
+        → Moves.Next (record { u = hu; v = hv; mark = m }) ≡ movedOf s plan
     carried-next hu hv m f g h = rw (e, f, g, h)
 
 pub ruleset carries = (carried-end, movable-u, movable-v, movable-mark, carried-next, needs)
@@ -163,27 +163,27 @@ module _ (text table : List ℕ) (n : ℕ) (first second : Word) (s : State) (p 
     mark-of-fit (s .mark) (p .standing .mark) cp c,
   )
 
-  stepping : (plan : Plan) → PlanFit text words (heldWord text first (s .u)) (heldWord text second (s .v)) (markWord text (s .mark)) plan
+  moving : (plan : Plan) → PlanFit text words (heldWord text first (s .u)) (heldWord text second (s .v)) (markWord text (s .mark)) plan
       → planned text (heldWord text first (s .u)) (heldWord text second (s .v)) (markWord text (s .mark)) plan ≡ round words (heldWord text first (s .u)) (heldWord text second (s .v)) (markWord text (s .mark))
-      → Stepping text table n first second s (steppedOf s plan)
+      → Moving text table n first second s (movedOf s plan)
   unfolding words planned
-  stepping (Plans.End b) f e = record { same = e; stands = tt }
-  stepping (Plans.Go cu cv cp) (goes a b c) e =
+  moving (Plans.End b) f e = record { same = e; stands = tt }
+  moving (Plans.Go cu cv cp) (goes a b c) e =
       let hu = holds-advanced text (wordsIn text table n) cuts first (s .u) (p .standing .u) cu a in
       let hv = holds-advanced text (wordsIn text table n) cuts second (s .v) (p .standing .v) cv b in
       let hm = mark-advanced text (wordsIn text table n) (s .mark) (p .standing .mark) cp c in
       record { same = rw (hu .same, hv .same, hm .same) e; stands = record { u = hu .fit; v = hv .fit; mark = hm .fit } }
 
   module _ (plan : Plan) (d : Decided text table n (heldWord text first (s .u)) (heldWord text second (s .v)) (markWord text (s .mark)) plan) where
-    pub step-applicable : Applicable s plan
+    pub move-applicable : Applicable s plan
     unfolding words
-    step-applicable = applicable plan (d .fits)
+    move-applicable = applicable plan (d .fits)
 
-    pub step-made : (r : Step) → r ≡ steppedOf s plan → Stepping text table n first second s r
+    pub move-made : (r : Move) → r ≡ movedOf s plan → Moving text table n first second s r
     unfolding words
-    step-made r e = rw e (stepping plan (d .fits) (d .same))
+    move-made r e = rw e (moving plan (d .fits) (d .same))
 
-pub ruleset steps = (step-applicable, step-made, needs)
+pub ruleset steps = (move-applicable, move-made, needs)
 
 -- some rounds from a state
 module _ (text table : List ℕ) (n : ℕ) (first second : Word) where
@@ -204,17 +204,17 @@ going-start text table n first second s budget p =
     record { poised = p; allowed = omega arith; same = rw e }
 
 module _ (text table : List ℕ) (n : ℕ) (first second : Word) (start : State) (budget : ℕ) (s : State) (done : ℕ) (g : Going text table n first second start budget s done)
-    (r : Step) (f : Stepping text table n first second s r) where
+    (r : Move) (f : Moving text table n first second s r) where
   -- whatever is left, an end ends it
-  end-of : (left : ℕ) (b : Bool) → r ≡ Steps.End b → ended b done ≡ runOf text table n first second left done s
+  end-of : (left : ℕ) (b : Bool) → r ≡ Moves.End b → ended b done ≡ runOf text table n first second left done s
   unfolding runFrom
   end-of zero b e = let q = rw e at (f .same) in rw (← q)
   end-of (suc left) b e = let q = rw e at (f .same) in rw (← q)
 
-  pub going-end : (b : Bool) → r ≡ Steps.End b → Progressed text table n first second start budget (Ended b done)
+  pub going-end : (b : Bool) → r ≡ Moves.End b → Progressed text table n first second start budget (Ended b done)
   going-end b e = record { same = end-of (budget - done) b e ∙ sym (g .same); stands = tt }
 
-  module _ (t : State) (e : r ≡ Steps.Next t) where
+  module _ (t : State) (e : r ≡ Moves.Next t) where
     due : go (heldWord text first (t .u)) (heldWord text second (t .v)) (markWord text (t .mark)) ≡ round (wordsIn text table n) (heldWord text first (s .u)) (heldWord text second (s .v)) (markWord text (s .mark))
     due = rw e at (f .same)
 
@@ -235,7 +235,7 @@ module _ (text table : List ℕ) (n : ℕ) (first second : Word) (start : State)
     going-more h =
         let z : budget - done ≡ suc (budget - (done + 1)) = omega arith in
         record {
-          poised = record { fitting = g .poised .fitting; standing = subst (StepStands text (wordsIn text table n) first second) e (f .stands) };
+          poised = record { fitting = g .poised .fitting; standing = subst (MoveStands text (wordsIn text table n) first second) e (f .stands) };
           allowed = omega arith;
           same = (rw z at (g .same)) ∙ one-more (budget - (done + 1));
         }

@@ -17,8 +17,8 @@ use Rattle.rounds.specs.Plans.{Paired}
 use Rattle.comparison.specs.declared.Held.{Held}
 use Rattle.comparison.specs.declared.Mark.{Mark}
 use Rattle.comparison.specs.declared.State.{State}
-use Rattle.comparison.specs.declared.Step.{Step}
-use Rattle.comparison.specs.declared.Step.the-variants as Steps
+use Rattle.comparison.specs.declared.Move.{Move}
+use Rattle.comparison.specs.declared.Move.the-variants as Moves
 
 -- the word that is held
 abbrev pub heldWord : List ℕ → Word → Held → Word
@@ -77,9 +77,9 @@ abbrev pub advancedState : State → Change → Change → Change → State
 advancedState s cu cv cp = record { u = advancedOf (s .u) cu; v = advancedOf (s .v) cv; mark = advancedMark (s .mark) cp }
 
 -- what carrying a plan out gives
-abbrev pub steppedOf : State → Plan → Step
-steppedOf s (Plans.End b) = Steps.End b
-steppedOf s (Plans.Go cu cv cp) = Steps.Next (advancedState s cu cv cp)
+abbrev pub movedOf : State → Plan → Move
+movedOf s (Plans.End b) = Moves.End b
+movedOf s (Plans.Go cu cv cp) = Moves.Next (advancedState s cu cv cp)
 
 -- a plan whose changes can be made
 abbrev pub Applicable : State → Plan → Type 0
@@ -103,16 +103,16 @@ pub record Poised (text table : List ℕ) (n : ℕ) (first second : Word) (s : S
   pub standing : Standing text (wordsIn text table n) first second s
 
 -- a step in the words of the rows
-abbrev pub stepNext : List ℕ → Word → Word → Step → Next
-stepNext text first second (Steps.End b) = end b
-stepNext text first second (Steps.Next s) = go (heldWord text first (s .u)) (heldWord text second (s .v)) (markWord text (s .mark))
+abbrev pub moveNext : List ℕ → Word → Word → Move → Next
+moveNext text first second (Moves.End b) = end b
+moveNext text first second (Moves.Next s) = go (heldWord text first (s .u)) (heldWord text second (s .v)) (markWord text (s .mark))
 
 -- the next state, if there is one, stands
-abbrev pub StepStands : List ℕ → List Word → Word → Word → Step → Type 0
-StepStands text B first second (Steps.End b) = Unit {0}
-StepStands text B first second (Steps.Next s) = Standing text B first second s
+abbrev pub MoveStands : List ℕ → List Word → Word → Word → Move → Type 0
+MoveStands text B first second (Moves.End b) = Unit {0}
+MoveStands text B first second (Moves.Next s) = Standing text B first second s
 
 -- one step of a state is one round of the rows from the words that it stands for
-pub record Stepping (text table : List ℕ) (n : ℕ) (first second : Word) (s : State) (step : Step) : Type 0 where
-  pub same : stepNext text first second step ≡ round (wordsIn text table n) (heldWord text first (s .u)) (heldWord text second (s .v)) (markWord text (s .mark))
-  pub stands : StepStands text (wordsIn text table n) first second step
+pub record Moving (text table : List ℕ) (n : ℕ) (first second : Word) (s : State) (step : Move) : Type 0 where
+  pub same : moveNext text first second step ≡ round (wordsIn text table n) (heldWord text first (s .u)) (heldWord text second (s .v)) (markWord text (s .mark))
+  pub stands : MoveStands text (wordsIn text table n) first second step

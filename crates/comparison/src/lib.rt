@@ -5,7 +5,7 @@ ghost use Prim.Native.Nat.{_+_, _-_, _<_, _≤_};
 ghost use mathlib.Core.List.{[]};
 ghost use Rattle.rounds.specs.Plans.{Decided};
 ghost use Rattle.layout.specs.Layout.{wordsIn};
-ghost use Rattle.comparison.specs.State.{beyondOf, Movable, advancedOf, MarkMovable, advancedMark, heldWord, markWord, Ready, Fitting, Poised, Applicable, steppedOf, Stepping};
+ghost use Rattle.comparison.specs.State.{beyondOf, Movable, advancedOf, MarkMovable, advancedMark, heldWord, markWord, Ready, Fitting, Poised, Applicable, movedOf, Moving};
 ghost use Rattle.comparison.specs.Runs.{Progressed};
 ghost use Rattle.comparison.specs.Comparing.{comparisonOf, answerOf};
 use format::Refusal;
@@ -34,7 +34,7 @@ pub struct State {
 }
 
 // One round of a comparison: its end, with 'same' for true, or the next state.
-pub enum Step {
+pub enum Move {
     End(bool),
     Next(State),
 }
@@ -136,13 +136,13 @@ fn plan_of(text: &[u8], table: &[u16], n: usize, first: &[u8], second: &[u8], s:
 }
 
 // The state after a plan, or its end.
-fn carry_out(s: State, plan: Plan) -> Step
+fn carry_out(s: State, plan: Plan) -> Move
     requires { ⌜ Applicable s plan ⌝ }
-    ensures { λ r. ⌜ r ≡ steppedOf s plan ⌝ }
+    ensures { λ r. ⌜ r ≡ movedOf s plan ⌝ }
 {
     match plan {
-        Plan::End(same) => Step::End(same),
-        Plan::Go(of_u, of_v, of_mark) => Step::Next(State {
+        Plan::End(same) => Move::End(same),
+        Plan::Go(of_u, of_v, of_mark) => Move::Next(State {
             u: advance(s.u, of_u),
             v: advance(s.v, of_v),
             mark: advance_mark(s.mark, of_mark),
@@ -151,16 +151,16 @@ fn carry_out(s: State, plan: Plan) -> Step
 }
 
 // One round.
-pub fn take_step(
+pub fn make_move(
     text: &[u8],
     table: &[u16],
     n: usize,
     first: &[u8],
     second: &[u8],
     s: State,
-) -> Step
+) -> Move
     requires { ⌜ Poised (now text) (now table) n (now first) (now second) s ⌝ }
-    ensures { λ r. ⌜ Stepping (now (text .entry)) (now (table .entry)) n (now (first .entry)) (now (second .entry)) s r ⌝ }
+    ensures { λ r. ⌜ Moving (now (text .entry)) (now (table .entry)) n (now (first .entry)) (now (second .entry)) s r ⌝ }
 {
     let plan = plan_of(text, table, n, first, second, s);
     carry_out(s, plan)
@@ -182,10 +182,10 @@ pub fn make_rounds(
     let mut s = start;
     let mut done: u32 = 0;
     loop {
-        let step = take_step(text, table, n, first, second, s);
-        match step {
-            Step::End(same) => return Progress::Ended(same, done),
-            Step::Next(next) => {
+        let made = make_move(text, table, n, first, second, s);
+        match made {
+            Move::End(same) => return Progress::Ended(same, done),
+            Move::Next(next) => {
                 if budget <= done {
                     return Progress::Paused(s, done);
                 }

@@ -69,8 +69,8 @@ abbrev pub markMost : ℕ
 markMost = 64
 
 -- the step of the places of refusals 9 and 10
-abbrev pub placeStep : ℕ
-placeStep = 5000
+abbrev pub placeSpacing : ℕ
+placeSpacing = 5000
 
 -- the bytes of the program's input are at most
 abbrev pub inputMost : ℕ
@@ -102,5 +102,5 @@ fixedAmounts =
     ∷ recordPrefix
     ∷ relationKind ∷ relationLength ∷ relationsMost ∷ sideMost
     ∷ 64 ∷ 4160 ∷ 257 ∷ 450
-    ∷ comparisonKind ∷ comparisonLength ∷ comparedMost ∷ allowanceMost ∷ roundMost ∷ nextRoom ∷ markMost ∷ placeStep
+    ∷ comparisonKind ∷ comparisonLength ∷ comparedMost ∷ allowanceMost ∷ roundMost ∷ nextRoom ∷ markMost ∷ placeSpacing
     ∷ inputMost ∷ []

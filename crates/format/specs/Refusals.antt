@@ -2,7 +2,7 @@
 use Prim.Native.Nat.{ℕ, _+_, _*_}
 use Rattle.format.specs.declared.Refusal.{Refusal}
 use Rattle.format.specs.declared.Refusal.the-variants.{Short, Kind, Length, Range, UnknownLetter, TooMany, Repeated, Loose, Long, Stranger, Spent, Narrow, Heavy}
-use Rattle.format.specs.Limits.{placeStep, inputMost}
+use Rattle.format.specs.Limits.{placeSpacing, inputMost}
 
 -- a refusal as the papers write it
 pub record Numbered : Type 0 where
@@ -19,8 +19,8 @@ numbered (UnknownLetter at) = record { number = 5; place = at }
 numbered (TooMany at) = record { number = 6; place = at }
 numbered (Repeated side) = record { number = 7; place = side }
 numbered (Loose side) = record { number = 8; place = side }
-numbered (Long word) = record { number = 9; place = placeStep * word }
-numbered (Stranger word position) = record { number = 10; place = placeStep * word + position }
+numbered (Long word) = record { number = 9; place = placeSpacing * word }
+numbered (Stranger word position) = record { number = 10; place = placeSpacing * word + position }
 numbered (Spent rounds) = record { number = 11; place = rounds }
 numbered (Narrow buffer) = record { number = 12; place = buffer }
 numbered Heavy = record { number = 13; place = inputMost }

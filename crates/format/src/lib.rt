@@ -123,7 +123,7 @@ impl Word {
     pub const ALLOWANCE: usize = 4294967295;
 
     // How far apart the places of the given words lie in refusals 9 and 10.
-    pub const STEP: usize = 5000;
+    pub const SPACING: usize = 5000;
 
     // A word of at most so many letters: COMPARED, ROUND or MARK.
     pub fn make(length: usize, most: usize) -> MadeWord
@@ -241,8 +241,8 @@ pub fn place(refusal: Refusal) -> usize
         Refusal::TooMany(at) => at,
         Refusal::Repeated(side) => side,
         Refusal::Loose(side) => side,
-        Refusal::Long(word) => Word::STEP * wide(word),
-        Refusal::Stranger(word, position) => Word::STEP * wide(word) + position as usize,
+        Refusal::Long(word) => Word::SPACING * wide(word),
+        Refusal::Stranger(word, position) => Word::SPACING * wide(word) + position as usize,
         Refusal::Spent(rounds) => rounds as usize,
         Refusal::Narrow(buffer) => buffer,
         Refusal::Heavy => Input::MOST,
@@ -273,7 +273,7 @@ pub fn fixed_amounts() -> [usize; 21]
         Word::ROUND,
         Word::NEXT,
         Word::MARK,
-        Word::STEP,
+        Word::SPACING,
         Input::MOST,
     ]
 }

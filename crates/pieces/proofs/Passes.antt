@@ -14,7 +14,7 @@ use lib.ListN.{length, getD, drop, set, replicate, length-set, length-replicate,
 use lib.Seq.{drop-cons, getD-set-same, getD-set-other}
 use Rattle.words.specs.Words.{common}
 use Rattle.words.proofs.Commons.{common-empty}
-use Rattle.pieces.specs.Longest.{most, shared, longestAt, next, entry, Room, Passed, RowOf, Ready, Stepped, Space, Tabled}
+use Rattle.pieces.specs.Longest.{most, shared, longestAt, next, entry, Room, Passed, RowOf, Ready, Advanced, Space, Tabled}
 
 -- one letter more, or none
 
@@ -149,7 +149,7 @@ module _ (text row : List ℕ) (x p : ℕ) (r : Ready text p row) (e : x ≡ get
           small = λ q l h. let m = r .bounded .most64 p q (λ i. absurd (omega (arith, i, l))) in rw (entry-after q (omega (arith, l)) h) (omega (arith, m));
         }
 
-    pub place-done : (row₂ : List ℕ) (best₂ best : ℕ) → Passed text row₁ x (p + 1) (length text) row₂ best₂ → best ≡ max best₁ best₂ → Stepped text p row row₂ best
+    pub place-done : (row₂ : List ℕ) (best₂ best : ℕ) → Passed text row₁ x (p + 1) (length text) row₂ best₂ → best ≡ max best₁ best₂ → Advanced text p row row₂ best
     unfolding longestAt
     place-done row₂ best₂ best t m =
         let i = r .inside in
@@ -209,7 +209,7 @@ module _ (text old row : List ℕ) (p : ℕ) (longest : List ℕ) (s : Tabling t
         behind = subst (λ (k : ℕ). RowOf text k row) (omega (arith, h)) (s .here);
       }
 
-  pub tabling-more : (row′ : List ℕ) (v : ℕ) → Stepped text (p - 1) row row′ v → Tabling text old row′ (p - 1) (set longest (p - 1) v)
+  pub tabling-more : (row′ : List ℕ) (v : ℕ) → Advanced text (p - 1) row row′ v → Tabling text old row′ (p - 1) (set longest (p - 1) v)
   tabling-more row′ v t =
       let l = length-set longest (p - 1) v in
       let f = s .space in

@@ -61,7 +61,7 @@ pub record Ready (text : List ℕ) (p : ℕ) (row : List ℕ) : Type 0 where
   pub behind : RowOf text (p + 1) row
 
 -- the row stands at place p, whose longest piece is `best`
-pub record Stepped (text : List ℕ) (p : ℕ) (row after : List ℕ) (best : ℕ) : Type 0 where
+pub record Advanced (text : List ℕ) (p : ℕ) (row after : List ℕ) (best : ℕ) : Type 0 where
   pub long : length after ≡ length row
   pub here : RowOf text p after
   pub longest : best ≡ longestAt text p

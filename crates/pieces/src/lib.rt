@@ -9,7 +9,7 @@ ghost use Rattle.overlap.specs.Cuts.{three};
 ghost use Rattle.overlap.specs.Verdict.{sameWord, firstRepeated, judge};
 ghost use Rattle.words.specs.Words.{front};
 ghost use Rattle.pieces.specs.Judging.{Placed, AllPlaced, looseBy, lowestLoose, Measurable, Measured, Tail, tailBy, xBy, zBy, CutBy, BothLying, AllLying, sameParts, repeatedIn, Fenced, Judging, looseVerdict};
-ghost use Rattle.pieces.specs.Longest.{next, Room, Passed, Ready, Stepped, Space, Tabled, held, Span, Parts};
+ghost use Rattle.pieces.specs.Longest.{next, Room, Passed, Ready, Advanced, Space, Tabled, held, Span, Parts};
 use format::Relation;
 use numbers::larger;
 use numbers::narrow;
@@ -53,7 +53,7 @@ fn pass(text: &[u8], row: &mut [u8], x: u8, from: usize, to: usize) -> u8
 // Place p itself is left out by two passes.
 fn longest_at(text: &[u8], row: &mut [u8], p: usize) -> u8
     requires { ⌜ Ready (now text) p (now row) ⌝ }
-    ensures { λ r. ⌜ Stepped (now (text .entry)) p (now (row .entry)) (now (row .exit)) r ⌝ }
+    ensures { λ r. ⌜ Advanced (now (text .entry)) p (now (row .entry)) (now (row .exit)) r ⌝ }
 {
     let x = text[p];
     let before = pass(text, row, x, 0, p);

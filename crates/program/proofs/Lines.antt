@@ -29,7 +29,7 @@ use Rattle.program.specs.declared.Request.{Request}
 use Rattle.program.specs.declared.Request.the-variants.{Compare, Refused}
 use Rattle.program.specs.Program.{bookText, longField, refusedLine, comparisonLine, comparisonIn, lineThen, linesFrom}
 use Rattle.program.specs.Requests.{fieldsOf, requestOf, requestAt}
-use Rattle.program.specs.Answers.{linesUnder, Lined, linesOfAccepted, Accepted}
+use Rattle.program.specs.Writing.{linesUnder, Lined, linesOfAccepted, Accepted}
 use Rattle.program.proofs.Size.{equal-of}
 
 -- a part of the input, as the code takes it and as the definition does

@@ -23,7 +23,7 @@ use Rattle.presentation.proofs.Laws.{load-refused}
 use Rattle.lines.specs.Lines.{Put}
 use Rattle.program.specs.Program.{refusedLine, bookEnd, byLoading, programOf}
 use Rattle.program.specs.Size.{outputMost}
-use Rattle.program.specs.Answers.{linesOfAccepted, Accepted, outputOf, Roomy}
+use Rattle.program.specs.Writing.{linesOfAccepted, Accepted, outputOf, Roomy}
 use Rattle.program.proofs.Size.{end-within, refused-short, output-fits}
 
 -- loading the book, and what is written for it

@@ -2,4 +2,4 @@ pub mod Program
 pub mod Examples
 pub mod Size
 pub mod Requests
-pub mod Answers
+pub mod Writing

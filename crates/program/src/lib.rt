@@ -6,7 +6,7 @@ ghost use Rattle.reader.specs.Reads.{Payload};
 ghost use Rattle.lines.specs.Lines.{Put};
 ghost use Rattle.program.specs.Program.{longField, bookEnd, refusedLine, comparisonLine, programOf};
 ghost use Rattle.program.specs.Requests.{fieldsOf, requestAt};
-ghost use Rattle.program.specs.Answers.{linesUnder, Lined, linesOfAccepted, Accepted, outputOf, Roomy};
+ghost use Rattle.program.specs.Writing.{linesUnder, Lined, linesOfAccepted, Accepted, outputOf, Roomy};
 ghost use Rattle.comparison.specs.State.{Ready};
 ghost use Rattle.layout.specs.Layout.{wordsIn};
 ghost use Rattle.program.specs.Examples.{Hold, examples, HeavyFirst};

@@ -17,8 +17,8 @@ use Rattle.layout.proofs.Parts.{part-length}
 use Rattle.rounds.specs.declared.Change.{Change}
 use Rattle.rounds.specs.declared.Plan.{Plan}
 use Rattle.rounds.specs.declared.Plan.the-variants.{End, Go}
-use Rattle.rounds.specs.declared.Stepped.{Stepped}
-use Rattle.rounds.specs.declared.Stepped.the-variants as S
+use Rattle.rounds.specs.declared.RoundLengths.{RoundLengths}
+use Rattle.rounds.specs.declared.RoundLengths.the-variants as S
 use Rattle.rounds.specs.Plans.{planned, Fit, MarkFit, PlanFit, Paired, Decided}
 use Rattle.rounds.specs.Plans.PlanFit.{goes}
 use Rattle.rounds.specs.Writing.{over, writtenBy, copied, Writable, Written, Changes, Planned, Lent}
@@ -142,7 +142,7 @@ plan-end text plan u v p a c d b e = rw e
 pub plan-changes : (text : List ℕ) (plan : Plan) (u v p a c d : List ℕ) → Planned text plan u v p a c d → (cu cv cp : Change) → plan ≡ Go cu cv cp → Changes text cu cv cp u v p a c d
 plan-changes text plan u v p a c d h cu cv cp e = h .changes cu cv cp e
 
-pub plan-go : (text : List ℕ) (plan : Plan) (u v p a c d : List ℕ) (cu cv cp : Change) → plan ≡ Go cu cv cp → (r : Stepped) (a′ c′ d′ : List ℕ)
+pub plan-go : (text : List ℕ) (plan : Plan) (u v p a c d : List ℕ) (cu cv cp : Change) → plan ≡ Go cu cv cp → (r : RoundLengths) (a′ c′ d′ : List ℕ)
     → after r a′ c′ d′ ≡ writtenBy (planned text u v p (Go cu cv cp)) a c d → after r a′ c′ d′ ≡ writtenBy (planned text u v p plan) a c d
 plan-go text plan u v p a c d cu cv cp e r a′ c′ d′ f = rw e f
 
@@ -172,7 +172,7 @@ module _ (text table : List ℕ) (n : ℕ) (u v p a c d : List ℕ) (h : Lent te
         };
   }
 
-  pub round-written : (r : Stepped) (a′ c′ d′ : List ℕ) → after r a′ c′ d′ ≡ writtenBy (planned text u v p plan) a c d
+  pub round-written : (r : RoundLengths) (a′ c′ d′ : List ℕ) → after r a′ c′ d′ ≡ writtenBy (planned text u v p plan) a c d
       → after r a′ c′ d′ ≡ writtenBy (round (wordsIn text table n) u v p) a c d
   round-written r a′ c′ d′ f = rw (← q .same) f
 

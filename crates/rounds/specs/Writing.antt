@@ -10,13 +10,13 @@ use Rattle.congruence.specs.Rows.Next.{end, go}
 use Rattle.rounds.specs.declared.Change.{Change}
 use Rattle.rounds.specs.declared.Plan.{Plan}
 use Rattle.rounds.specs.declared.Plan.the-variants.{Go}
-use Rattle.rounds.specs.declared.Stepped.{Stepped}
-use Rattle.rounds.specs.declared.Stepped.the-variants as S
+use Rattle.rounds.specs.declared.RoundLengths.{RoundLengths}
+use Rattle.rounds.specs.declared.RoundLengths.the-variants as S
 use Rattle.rounds.specs.Plans.{applied, Paired}
 
 -- an outcome, and the buffers for u, v and p after it
 pub data Outcome : Type 0 where
-  after : Stepped → List ℕ → List ℕ → List ℕ → Outcome
+  after : RoundLengths → List ℕ → List ℕ → List ℕ → Outcome
 
 -- a word at the start of a buffer, the bytes after it kept
 abbrev pub over : Word → List ℕ → List ℕ

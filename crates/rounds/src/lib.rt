@@ -75,7 +75,7 @@ pub struct Found {
 }
 
 // The end, or the lengths of the next u, v and p.
-pub enum Stepped {
+pub enum RoundLengths {
     End(bool),
     Next(usize, usize, usize),
 }
@@ -666,14 +666,14 @@ fn write_changes(
     nu: &mut [u8],
     nv: &mut [u8],
     np: &mut [u8],
-) -> Stepped
+) -> RoundLengths
     requires { ⌜ Changes (now text) cu cv cp (now u) (now v) (now p) (now nu) (now nv) (now np) ⌝ }
     ensures { λ r. ⌜ after r (now (nu .exit)) (now (nv .exit)) (now (np .exit)) ≡ writtenBy (planned (now (text .entry)) (now (u .entry)) (now (v .entry)) (now (p .entry)) (Go cu cv cp)) (now (nu .entry)) (now (nv .entry)) (now (np .entry)) ⌝ }
 {
     let a = write_change(text, cu, u, nu);
     let b = write_change(text, cv, v, nv);
     let c = write_change(text, cp, p, np);
-    Stepped::Next(a, b, c)
+    RoundLengths::Next(a, b, c)
 }
 
 // An end writes nothing.
@@ -686,12 +686,12 @@ fn write_plan(
     nu: &mut [u8],
     nv: &mut [u8],
     np: &mut [u8],
-) -> Stepped
+) -> RoundLengths
     requires { ⌜ Planned (now text) plan (now u) (now v) (now p) (now nu) (now nv) (now np) ⌝ }
     ensures { λ r. ⌜ after r (now (nu .exit)) (now (nv .exit)) (now (np .exit)) ≡ writtenBy (planned (now (text .entry)) (now (u .entry)) (now (v .entry)) (now (p .entry)) plan) (now (nu .entry)) (now (nv .entry)) (now (np .entry)) ⌝ }
 {
     match plan {
-        Plan::End(same) => Stepped::End(same),
+        Plan::End(same) => RoundLengths::End(same),
         Plan::Go(cu, cv, cp) => write_changes(text, cu, cv, cp, u, v, p, nu, nv, np),
     }
 }
@@ -707,7 +707,7 @@ pub fn write_round(
     nu: &mut [u8],
     nv: &mut [u8],
     np: &mut [u8],
-) -> Stepped
+) -> RoundLengths
     requires { ⌜ Lent (now text) (now table) n (now u) (now v) (now p) (now nu) (now nv) (now np) ⌝ }
     ensures { λ r. ⌜ after r (now (nu .exit)) (now (nv .exit)) (now (np .exit)) ≡ writtenBy (round (wordsIn (now (text .entry)) (now (table .entry)) n) (now (u .entry)) (now (v .entry)) (now (p .entry))) (now (nu .entry)) (now (nv .entry)) (now (np .entry)) ⌝ }
 {

@@ -28,8 +28,8 @@ use Rattle.given.specs.declared.Given.{Given}
 use Rattle.given.specs.declared.Given.the-variants as Words
 use Rattle.given.specs.Given.{givenOf, andThen, tripleOf}
 use Rattle.given.proofs.Laws.{fine-short, fine-both}
-use Rattle.rounds.specs.declared.Stepped.{Stepped}
-use Rattle.rounds.specs.declared.Stepped.the-variants as Steps
+use Rattle.rounds.specs.declared.RoundLengths.{RoundLengths}
+use Rattle.rounds.specs.declared.RoundLengths.the-variants as Lengths
 use Rattle.comparison.specs.declared.Comparison.{Comparison}
 use Rattle.comparison.specs.declared.Comparison.the-variants as Comparisons
 use Rattle.comparison.specs.State.{Ready}
@@ -45,7 +45,7 @@ use Rattle.program.specs.Size.{outputMost}
 use Rattle.unit.specs.declared.Round.the-variants as Rounds
 use Rattle.unit.specs.Answers.{accepted, refusal, ofVerdict, ofRound, ofComparison, ofPrinted}
 use Rattle.unit.specs.Entries.{checkOf, SheetOutcome, sheetOf, RoundOutcome, OutputOutcome, outputOf, roomOf, askedOf, writing, roundOf, compareOf}
-use Rattle.unit.specs.Parts.{SheetReady, acceptedSheet, steppedRound, loadedRound}
+use Rattle.unit.specs.Parts.{SheetReady, acceptedSheet, answeredRound, loadedRound}
 use Rattle.unit.specs.Demands.{Compared}
 use Rattle.unit.proofs.Theorems.{compared}
 
@@ -164,13 +164,13 @@ module _ (letters : ℕ) (u v p : Word) (a c d : ℕ) (g : Given) (e : g ≡ tri
 pub ruleset askeds = (asked-words, asked-room, needs)
 
 -- a round that was made
-pub stepped-end : (s : Stepped) (b : Bool) → s ≡ Steps.End b → Rounds.End b ≡ steppedRound s
-stepped-end s b e = rw e
+pub answered-end : (s : RoundLengths) (b : Bool) → s ≡ Lengths.End b → Rounds.End b ≡ answeredRound s
+answered-end s b e = rw e
 
-pub stepped-next : (s : Stepped) (a b c : ℕ) → s ≡ Steps.Next a b c → Rounds.Next a b c ≡ steppedRound s
-stepped-next s a b c e = rw e
+pub answered-next : (s : RoundLengths) (a b c : ℕ) → s ≡ Lengths.Next a b c → Rounds.Next a b c ≡ answeredRound s
+answered-next s a b c e = rw e
 
-pub ruleset steppeds = (stepped-end, stepped-next, needs)
+pub ruleset answereds = (answered-end, answered-next, needs)
 
 -- what is fine is within its limits
 fine-room : (a c d : ℕ) → roomOf a c d ≡ Words.Fine → (nextRoom ≤ a) × (nextRoom ≤ c) × (markMost ≤ d)
@@ -205,23 +205,23 @@ module _ (text table : List ℕ) (n letters : ℕ) (u v p a c d : List ℕ) (g :
       record { paired = r .paired; shortU = k .0; shortV = k .1; shortP = k .2; roomU = k .3; roomV = k .4; roomP = k .5 }
 
   -- the round's outcome in this paper's words
-  written : (x : Next) (s : Stepped) (a′ c′ d′ : List ℕ) → Writing.after s a′ c′ d′ ≡ writtenBy x a c d → RoundOutcome.after (ofRound (steppedRound s)) a′ c′ d′ ≡ writing x a c d
+  written : (x : Next) (s : RoundLengths) (a′ c′ d′ : List ℕ) → Writing.after s a′ c′ d′ ≡ writtenBy x a c d → RoundOutcome.after (ofRound (answeredRound s)) a′ c′ d′ ≡ writing x a c d
   unfolding writtenBy
   written (end b) s a′ c′ d′ q =
-      let es : s ≡ Steps.End b = cc in
+      let es : s ≡ Lengths.End b = cc in
       let ea : a′ ≡ a = cc in
       let ec : c′ ≡ c = cc in
       let ed : d′ ≡ d = cc in
       rw (es, ea, ec, ed)
   written (go x y z) s a′ c′ d′ q =
-      let es : s ≡ Steps.Next (length x) (length y) (length z) = cc in
+      let es : s ≡ Lengths.Next (length x) (length y) (length z) = cc in
       let ea : a′ ≡ x ++ drop (length x) a = cc in
       let ec : c′ ≡ y ++ drop (length y) c = cc in
       let ed : d′ ≡ z ++ drop (length z) d = cc in
       rw (es, ea, ec, ed)
 
-  pub loaded-made : g ≡ Words.Fine → (s : Stepped) (a′ c′ d′ : List ℕ) → Writing.after s a′ c′ d′ ≡ writtenBy (round (wordsIn text table n) u v p) a c d
-      → (r : Round) → r ≡ steppedRound s → RoundOutcome.after (ofRound r) a′ c′ d′ ≡ loadedRound letters (wordsIn text table n) u v p a c d
+  pub loaded-made : g ≡ Words.Fine → (s : RoundLengths) (a′ c′ d′ : List ℕ) → Writing.after s a′ c′ d′ ≡ writtenBy (round (wordsIn text table n) u v p) a c d
+      → (r : Round) → r ≡ answeredRound s → RoundOutcome.after (ofRound r) a′ c′ d′ ≡ loadedRound letters (wordsIn text table n) u v p a c d
   unfolding loadedRound
   loaded-made f s a′ c′ d′ q r h = rw (h, ← e, f) (written (round (wordsIn text table n) u v p) s a′ c′ d′ q)
 

@@ -8,8 +8,8 @@ use Rattle.words.specs.Words.{Word}
 use Rattle.congruence.specs.Rows.{round}
 use Rattle.format.specs.declared.Refusal.{Refusal}
 use Rattle.format.specs.declared.Refusal.the-variants.{Narrow}
-use Rattle.rounds.specs.declared.Stepped.{Stepped}
-use Rattle.rounds.specs.declared.Stepped.the-variants as Steps
+use Rattle.rounds.specs.declared.RoundLengths.{RoundLengths}
+use Rattle.rounds.specs.declared.RoundLengths.the-variants as Lengths
 use Rattle.sheet.specs.Sheet.{sheetBytes, CutsIn}
 use Rattle.unit.specs.declared.Round.{Round}
 use Rattle.unit.specs.declared.Round.the-variants as Rounds
@@ -27,9 +27,9 @@ acceptedSheet table relations sheet =
     cond (ltb (length sheet) (6 * relations)) (SheetOutcome.after (refusal (Narrow 0)) sheet)
     (SheetOutcome.after (accepted relations) (over (sheetBytes table (2 * relations)) sheet))
 
-abbrev pub steppedRound : Stepped → Round
-steppedRound (Steps.End b) = Rounds.End b
-steppedRound (Steps.Next a b c) = Rounds.Next a b c
+abbrev pub answeredRound : RoundLengths → Round
+answeredRound (Lengths.End b) = Rounds.End b
+answeredRound (Lengths.Next a b c) = Rounds.Next a b c
 
 -- the round under relation words of so many letters
 unfoldable pub loadedRound : ℕ → List Word → Word → Word → Word → List ℕ → List ℕ → List ℕ → RoundOutcome

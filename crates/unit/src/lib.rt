@@ -8,7 +8,7 @@ ghost use Rattle.layout.specs.Layout.{wordsIn};
 ghost use Rattle.comparison.specs.State.{Ready};
 ghost use Rattle.unit.specs.Answers.{ofVerdict, ofRound, ofComparison, ofPrinted};
 ghost use Rattle.unit.specs.Entries.{checkOf, SheetOutcome as Sheets, sheetOf, RoundOutcome as Rounds, roundOf, roomOf, askedOf, OutputOutcome as Outputs, outputOf};
-ghost use Rattle.unit.specs.Parts.{SheetReady, acceptedSheet, steppedRound, loadedRound};
+ghost use Rattle.unit.specs.Parts.{SheetReady, acceptedSheet, answeredRound, loadedRound};
 ghost use Rattle.unit.specs.Demands.{Acceptance, CutsReported, Compared};
 use comparison::Comparison;
 use format::Reading;
@@ -17,7 +17,7 @@ use format::Relation;
 use format::Word;
 use given::Given;
 use program::Output;
-use rounds::Stepped;
+use rounds::RoundLengths;
 
 // A book is accepted, with its number of relations (document 01: rules), or refused.
 pub enum Verdict {
@@ -127,12 +127,12 @@ fn check_asked(
 }
 
 // A round that was made, as an answer.
-fn stepped_round(stepped: Stepped) -> Round
-    ensures { λ r. ⌜ r ≡ steppedRound stepped ⌝ }
+fn answered_round(lengths: RoundLengths) -> Round
+    ensures { λ r. ⌜ r ≡ answeredRound lengths ⌝ }
 {
-    match stepped {
-        Stepped::End(same) => Round::End(same),
-        Stepped::Next(u, v, p) => Round::Next(u, v, p),
+    match lengths {
+        RoundLengths::End(same) => Round::End(same),
+        RoundLengths::Next(u, v, p) => Round::Next(u, v, p),
     }
 }
 
@@ -155,7 +155,7 @@ fn loaded_round(
     let asked = check_asked(letters, u, v, p, nu.len(), nv.len(), np.len());
     match asked {
         Given::Refused(refusal) => Round::Refused(refusal),
-        Given::Fine => stepped_round(rounds::write_round(text, table, n, u, v, p, nu, nv, np)),
+        Given::Fine => answered_round(rounds::write_round(text, table, n, u, v, p, nu, nv, np)),
     }
 }
 

@@ -15,7 +15,7 @@ returns-2 c =
     let made = c .before .before .before .before .before .before .before in
     let told = made .before .before .before .before in
     let asked = told .before .before in
-    loaded-made _ _ _ _ _ _ _ _ _ _ _ (asked .check-asked .ensures) (told .enum-told .given .1) _ _ _ _ (made .write-round .ensures) _ (c .stepped-round .ensures)
+    loaded-made _ _ _ _ _ _ _ _ _ _ _ (asked .check-asked .ensures) (told .enum-told .given .1) _ _ _ _ (made .write-round .ensures) _ (c .answered-round .ensures)
 
 pub loaded-round-spec : {M : Type 1} → statement M
 loaded-round-spec =

@@ -1,0 +1,11 @@
+use Rattle.comparison.proofs.Laws.{steps}
+use Rattle.comparison.proofs.make_move.Statement.{statement}
+use Rattle.comparison.proofs.make_move.Tie as tie
+
+pub make-move-spec : {M : Type 1} → statement M
+make-move-spec =
+    tie.close
+    (tie.spec
+    (λ c κs. search steps)
+    (λ c κs. search steps)
+    (λ c. search steps))
