@@ -9,11 +9,11 @@ use lib.Dec.{ltb}
 use lib.ListN.{length, drop, length-append, length-drop}
 use lib.Seq.{drop-append-le, drop-drop}
 use Rattle.words.specs.Words.{Word}
-use Rattle.words.proofs.Lists.{drop-past}
+use Rattle.words.proofs.Lists.{drop-past, part-length}
 use Rattle.congruence.proofs.Heads.{Facts}
 use Rattle.congruence.proofs.ShapeQuiet.{quiet-nil, quiet-drop, quiet-z, front-past-quiet}
 use Rattle.layout.specs.Layout.{part}
-use Rattle.layout.proofs.Parts.{part-length, part-none, part-drop}
+use Rattle.layout.proofs.Parts.{part-none, part-drop}
 use Rattle.rounds.specs.declared.Change.{Change}
 use Rattle.rounds.specs.Plans.{applied, Fit, MarkFit}
 use Rattle.comparison.specs.declared.Held.{Held}

@@ -9,6 +9,7 @@ use borrow.Author.Tests.{lt-ltb, le-ltb}
 use lib.ListN.{length, take, drop, length-append, length-drop}
 use lib.Seq.{take-all}
 use Rattle.words.specs.Words.{Word}
+use Rattle.words.proofs.Lists.{part-length}
 use Rattle.overlap.proofs.Facts.{rigid-of-c4}
 use Rattle.congruence.specs.Rows.{Next, round}
 use Rattle.congruence.specs.Rows.Next.{end, go}
@@ -17,7 +18,6 @@ use Rattle.congruence.specs.Rounds.Answer.{same}
 use Rattle.congruence.proofs.Heads.{Facts}
 use Rattle.congruence.proofs.ShapeQuiet.{quiet-nil}
 use Rattle.layout.specs.Layout.{part, wordsIn}
-use Rattle.layout.proofs.Parts.{part-length}
 use Rattle.rounds.specs.declared.Change.{Change}
 use Rattle.rounds.specs.declared.Plan.{Plan}
 use Rattle.rounds.specs.declared.Plan.the-variants as Plans

@@ -6,7 +6,7 @@ use mathlib.Core.Path.{_≡_}
 use Rattle.words.specs.Words.{Word}
 use Rattle.congruence.specs.Rows.{Next, round}
 use Rattle.congruence.specs.Rows.Next.{end, go}
-use Rattle.congruence.specs.Rounds.{Answer, ending, answerFrom}
+use Rattle.congruence.specs.Rounds.{Answer, ending}
 use Rattle.congruence.specs.Rounds.Answer.{spent}
 use Rattle.layout.specs.Layout.{wordsIn}
 use Rattle.comparison.specs.declared.State.{State}

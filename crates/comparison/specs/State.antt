@@ -1,14 +1,14 @@
 -- The words that a comparison's state stands for, and what one change makes of it.
-use Prim.Native.Nat.{ℕ, _+_, _-_, _<_, _≤_}
-use mathlib.Core.Bool.{Bool, cond}
+use Prim.Native.Nat.{ℕ, _+_, _-_, _≤_}
+use mathlib.Core.Bool.{cond}
 use mathlib.Core.List.{List, _++_}
 use mathlib.Core.Path.{_≡_}
 use lib.Dec.{ltb}
 use lib.ListN.{length, drop}
 use Rattle.words.specs.Words.{Word}
-use Rattle.congruence.proofs.ShapeQuiet.{Quiet}
 use Rattle.congruence.specs.Rows.{Next, round}
 use Rattle.congruence.specs.Rows.Next.{end, go}
+use Rattle.congruence.specs.Quiet.{Quiet}
 use Rattle.layout.specs.Layout.{part, wordsIn}
 use Rattle.rounds.specs.declared.Change.{Change}
 use Rattle.rounds.specs.declared.Plan.{Plan}

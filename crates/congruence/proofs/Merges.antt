@@ -2,7 +2,7 @@
 use Prim.Native.Nat.{ℕ, _<_}
 use mathlib.Core.List.{List, [], _++_, append-cancel-left}
 use mathlib.Core.Path.{_≡_, refl, sym, ap, subst, subst₂}
-use mathlib.Core.Logic.{⊎-elim, _⊎_, inl, inr, _↔_}
+use mathlib.Core.Logic.{⊎-elim, _⊎_, inl, inr}
 use native.Mathlib.Omega.{arith}
 use lib.ListN.{length}
 use Rattle.words.specs.Words.{Word}
@@ -75,9 +75,6 @@ module _ {B : List Word} (R : Facts B) {fam : ℕ → ℕ} where
   pub meets-kin : {i j : ℕ} {t t′ : Word} → Kin B fam i j → Meets B fam j t t′ → Meets B fam i t t′
   meets-kin k m = record { by = m .by; kin = kin-trans k (m .kin); chain = m .chain }
 
-  pub meets-of-chain : {i : ℕ} {t t′ : Word} → i < length B → Chain B fam t t′ → Meets B fam i t t′
-  meets-of-chain {i} h c = record { by = i; kin = kin-refl h; chain = chain-behind (zOf B i) c }
-
   -- the member may be any for which t is active
   pub chain-of-active : {i c : ℕ} {t t′ : Word} {j k : ℕ} → Meets B fam i t t′ → Kin B fam i c → Hangs B (zOf B c) t j k → Chain B fam (zOf B c ++ t) (zOf B c ++ t′)
   chain-of-active {i} {c} {t} {t′} m k h = swap-fronts R t′ (ending-z R (m .by) (m .kin .there)) (ending-z R c (k .there)) h (m .chain)
@@ -129,9 +126,6 @@ module _ {B : List Word} (R : Facts B) {fam : ℕ → ℕ} where
       record { rest = x .left; from = x .from; to = chain-join (chain-sym (chain-of-active (meets-sym (x .meets)) k (h .2))) (x .to) })
 
   -- and the other way: each form is a chain
-  pub chain-of-plain : {i j : ℕ} {s t : Word} → Plain B fam i s j t → Chain B fam (xyOf B i ++ s) (xyOf B j ++ t)
-  chain-of-plain {i} {j} {s} {t} p = chain-to (chain-behind (xyOf B i) (p .1)) (ap (λ (n : ℕ). xyOf B n ++ t) (p .0))
-
   pub chain-of-meets : {i j : ℕ} {s t : Word} → Kin B fam i j → Meets B fam i s t → Chain B fam (word B i ++ s) (word B j ++ t)
   chain-of-meets {i} {j} {s} {t} k m =
       let c : Chain B fam (word B (m .by) ++ s) (word B (m .by) ++ t) = chain-from (sym (xy-z B (m .by) s)) (chain-to (chain-behind (xyOf B (m .by)) (m .chain)) (xy-z B (m .by) t)) in
@@ -159,8 +153,3 @@ module _ {B : List Word} (R : Facts B) {fam : ℕ → ℕ} where
         subst (Kin B fam i) (sym (e .0)) (r .kin),
         subst₂ (λ (n : ℕ) (w : Word). Plain B fam i s n w ⊎ Turned B fam i s n w) (sym (e .0)) (sym (e .1)) (r .how),
       )
-
-  -- the whole of Lemma 3 in one: congruent are exactly the words with the rest plain or turned
-  pub fronts-iff : {i j : ℕ} (s t : Word) → Clean B (xyOf B i ++ s) 0 i → Kin B fam i j
-      → Chain B fam (xyOf B i ++ s) (xyOf B j ++ t) ↔ (Plain B fam i s j t ⊎ Turned B fam i s j t)
-  fronts-iff s t h k = ((λ c. reached-front h (k .there) c .1), ⊎-elim chain-of-plain (chain-of-turned k))

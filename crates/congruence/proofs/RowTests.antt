@@ -9,7 +9,7 @@ use native.Mathlib.Decide.{decLt}
 use lib.Dec.{leb}
 use borrow.Author.Tests.{leb-true, le-leb, not-true}
 use lib.ListN.{length, getD, take, drop}
-use lib.Seq.{getD-take, length-take-le, take-length}
+use lib.Seq.{getD-take, length-take-le}
 use Rattle.words.specs.Words.{Word, front}
 use Rattle.words.proofs.Tests.{false-of}
 use Rattle.words.proofs.Segments.{Same, same-sym, same-via}
@@ -18,7 +18,7 @@ use Rattle.words.proofs.Searching.{any-of, any-found, least-passes, least-first
 use Rattle.overlap.specs.Pieces.{word}
 use Rattle.overlap.specs.Cuts.{len, xlen, xylen, xyOf}
 use Rattle.congruence.specs.Rows.{choose, standsAt, crowded, clean, cleanFront, active}
-use Rattle.congruence.proofs.Heads.{Facts, Head, Front, Whole, Clean, one-word, behind}
+use Rattle.congruence.proofs.Heads.{Facts, Head, Front, Clean, one-word, behind}
 
 -- a property of both choices, each where it is chosen
 pub by-choose : {A : Type 0} (P : A → Type 0) (b : Bool) (x y : Unit {0} → A) → (b ≡ true → P (x tt)) → (b ≡ false → P (y tt)) → P (choose b x y)
@@ -67,17 +67,9 @@ module _ {B : List Word} where
       let s : Same (take n (word B i)) 0 u q n = same-via (same-take (word B i) n) (h .same) (omega arith) in
       same-front (take n (word B i)) u q (let f = h .fits in omega arith) (subst (Same (take n (word B i)) 0 u q) (sym l) s)
 
-  -- the whole relation word i is a front of what is left of u behind q
-  pub test-of-whole : {u : Word} {q i : ℕ} → Whole B u q i → front (word B i) (drop q u) ≡ true
-  test-of-whole {u} {q} {i} h = rw (take-length (word B i)) at (test-of-head h)
-
   module _ (R : Facts B) where
     pub front-of-test : (u : Word) (q i : ℕ) → i < length B → front (xyOf B i) (drop q u) ≡ true → Front B u q i
     front-of-test u q i h e = let a = R .some i h in head-of-test u q i (xylen B i) (omega arith) e
-
-    pub whole-of-test : (u : Word) (q i : ℕ) → i < length B → front (word B i) (drop q u) ≡ true → Whole B u q i
-    whole-of-test u q i h e =
-        let a = R .some i h in head-of-test u q i (len B i) (omega arith) (subst (λ (w : Word). front w (drop q u) ≡ true) (sym (take-length (word B i))) e)
 
     -- X and Y of one relation word at most are a front of w
     pub one-front : (w : Word) (i j : ℕ) → i < length B → j < length B → front (xyOf B i) w ≡ true → front (xyOf B j) w ≡ true → i ≡ j
@@ -148,7 +140,3 @@ module _ {B : List Word} where
     pub active-none : (z t : Word) → active B z t ≡ false → (d j : ℕ) → d < length z → Front B (z ++ t) d j → ⊥
     unfolding active
     active-none z t e d j h f = crowded-none (z ++ t) 0 (length z) e d j (omega arith) f
-
-    pub active-of-front : (z t : Word) (d j : ℕ) → d < length z → Front B (z ++ t) d j → active B z t ≡ true
-    unfolding active
-    active-of-front z t d j h f = crowded-of-front 0 (length z) (omega arith) f

@@ -24,8 +24,8 @@ use Rattle.congruence.proofs.Places.{xy-z}
 use Rattle.congruence.proofs.Chains.{Kin, Chain, kin-refl, chain-sym, chain-behind, chain-from, chain-to, chain-turn}
 use Rattle.congruence.proofs.Activity.{Ending, ending-z, ending-rest, hangs-of-front, hangs-or-quiet}
 use Rattle.congruence.proofs.Activity.Ending.{nothing}
-use Rattle.congruence.proofs.Merges.{Meets, Unlike, reached, chain-of-active, chain-of-quiet, chain-of-meets}
-use Rattle.congruence.proofs.CleanFronts.{PossibleFront, Parted, meets-of-wholes, rests-of-same, rests-of-left, rests-of-right, parted-of-unlikes}
+use Rattle.congruence.proofs.Merges.{Meets, Unlike, reached, chain-of-active, chain-of-quiet}
+use Rattle.congruence.proofs.CleanFronts.{PossibleFront, Parted, wholes-iff, rests-of-same, rests-of-left, rests-of-right, parted-of-unlikes}
 use Rattle.congruence.proofs.PossibleFronts.{possible-nothing, possible-along, possible-of-x, x-of-possible, possible-of-turn}
 use Rattle.congruence.proofs.CommonEnds.{longest-end}
 use Rattle.congruence.proofs.Sides.{half, kin-other, kin-two}
@@ -285,9 +285,9 @@ module _ {B : List Word} (R : Facts B) (even : Even B) (i : ℕ) (u v p : Word) 
           by-tail : (m : ℕ) → Kin B half i m → (Meets B half i a b → Chain B half (zOf B m ++ a) (zOf B m ++ b)) → Says B u v p (go (zOf B m ++ a) (zOf B m ++ b) [])
           by-tail m q to = (
             (
-              λ d. (to (meets-of-wholes R a b (k .here) (l .there) (chain-from (sym e) (chain-to (d .0) f)) .1), possible-nothing (zOf B m ++ a)),
+              λ d. (to (wholes-iff R a b l .0 (chain-from (sym e) (chain-to (d .0) f))), possible-nothing (zOf B m ++ a)),
               λ d. (
-                chain-from e (chain-to (chain-of-meets R l (record { by = m; kin = q; chain = d .0 })) (sym f)),
+                chain-from e (chain-to (wholes-iff R a b l .1 (record { by = m; kin = q; chain = d .0 })) (sym f)),
                 possible-by-other x (zOf B j ++ a) (chain-from e (chain-to (chain-turn k a) (sym (xy-z B j a)))),
               ),
             ),

@@ -51,13 +51,6 @@ held-start B u v = record { first = tailed-whole B u; second = tailed-whole B v;
 pub tailed-length : (B : List Word) (u₀ u : Word) (t : Tailed B u₀ u) → length u ≡ length (t .tail) + (length u₀ - t .from)
 tailed-length B u₀ u t = ap length (t .made) ∙ rw (length-append, length-drop)
 
--- no word of a comparison is longer than the word that it began with by more than k
-pub tailed-at-most : (B : List Word) (u₀ u : Word) → Tailed B u₀ u → length u ≤ kOf B + length u₀
-tailed-at-most B u₀ u t =
-    let l = tailed-length B u₀ u t in
-    let m = tail-at-most B (t .tail) (t .ends) in
-    omega arith
-
 -- fewer letters of the rest pay for any tail
 scale : (k a b : ℕ) → a < b → (k + 1) * a + k < (k + 1) * b
 scale k a b h = let m = mul-le-mul-left {m = suc a} {n = b} (k + 1) (omega arith) in omega arith

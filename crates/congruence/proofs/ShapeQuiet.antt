@@ -1,6 +1,6 @@
 -- Words in which no X and Y stands: ends of a Z are such words, so a front XY of z r reaches past z (document 003, Lemma 6).
 use Prim.Native.Nat.{ℕ, zero, suc, _+_, _≤_, _<_}
-use mathlib.Core.Bool.{true, false, true≢false}
+use mathlib.Core.Bool.{true, true≢false}
 use mathlib.Core.Logic.{by-cases}
 use mathlib.Core.List.{List, [], _++_}
 use mathlib.Core.Path.{_≡_, refl, sym, ap, _∙_, subst}
@@ -13,15 +13,12 @@ use Rattle.words.proofs.Tests.{false-of}
 use Rattle.words.proofs.Segments.{Same}
 use Rattle.words.proofs.Fronts.{front-at, at-front, front-same, front-fits}
 use Rattle.overlap.specs.Pieces.{word}
-use Rattle.overlap.specs.Cuts.{len, zlen, xylen, xyOf, zOf, zmost, kOf}
+use Rattle.overlap.specs.Cuts.{zlen, xylen, xyOf, zOf, zmost, kOf}
 use Rattle.overlap.proofs.Facts.{z-bound, length-xy, length-z}
 use Rattle.congruence.specs.Rows.{standsAt}
+use Rattle.congruence.specs.Quiet.{Quiet}
 use Rattle.congruence.proofs.Heads.{Facts}
 use Rattle.congruence.proofs.RowTests.{stands-of-test, test-of-stands}
-
--- X and Y of no relation word stand anywhere in z
-pub record Quiet (B : List Word) (z : Word) : Type 0 where
-  pub nowhere : (q : ℕ) → standsAt B z q ≡ false
 
 -- a front of z r that fits in z is a front of z
 pub front-of-part : (a z r : Word) → length a ≤ length z → front a (z ++ r) ≡ true → front a z ≡ true
@@ -37,19 +34,6 @@ z-most B (suc n) i h = by-cases (decLt i n)
 
 pub z-at-most : (B : List Word) (i : ℕ) → i < length B → length (zOf B i) ≤ kOf B
 z-at-most B i h = let m = z-most B (length B) i h in let d = length-z B i in omega arith
-
--- k is at most the length of the longest relation word
-most-at-most : (B : List Word) (n m : ℕ) → ((i : ℕ) → i < n → len B i ≤ m) → zmost B n ≤ m
-unfolding zmost
-most-at-most B zero m f = omega arith
-most-at-most B (suc n) m f =
-    let r = most-at-most B n m (λ i h. f i (omega arith)) in
-    let l = f n (omega arith) in
-    let g = z-bound B n in
-    omega arith
-
-pub k-at-most : (B : List Word) (m : ℕ) → ((i : ℕ) → i < length B → len B i ≤ m) → kOf B ≤ m
-k-at-most B m f = most-at-most B (length B) m f
 
 -- nothing stands in the empty word
 pub quiet-nil : (B : List Word) → Facts B → Quiet B []

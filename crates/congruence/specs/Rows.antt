@@ -2,7 +2,7 @@
 -- A round works on u, v and a front mark p. Of the relation word number i, `xOf`, `xyOf`, `zOf` are X, X with Y, and Z.
 use Prim.Native.Nat.{ℕ, _+_, _-_}
 use mathlib.Core.Bool.{Bool, true, false, _&&_, _||_, not}
-use mathlib.Core.List.{List, [], _∷_, _++_}
+use mathlib.Core.List.{List, [], _++_}
 use lib.Dec.{eqb, leb, ltb}
 use lib.ListN.{length, getD, take, drop}
 use Rattle.words.specs.Search.{anyBelow, least}

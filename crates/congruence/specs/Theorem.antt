@@ -6,7 +6,7 @@
 use Prim.Native.Nat.{ℕ, _+_, _*_, _<_, _≤_}
 use mathlib.Core.Bool.{Bool, true, false}
 use mathlib.Core.List.{List, [], _++_}
-use mathlib.Core.Logic.{_↔_, _⊎_}
+use mathlib.Core.Logic.{_↔_}
 use mathlib.Core.Path.{_≡_}
 use lib.ListN.{length, drop}
 use Rattle.words.specs.Words.{Word}
@@ -16,7 +16,7 @@ use Rattle.overlap.specs.Cuts.{zOf, kOf}
 use Rattle.congruence.specs.Congruence.{Congruent}
 use Rattle.congruence.specs.Rows.{round}
 use Rattle.congruence.specs.Rows.Next.{go}
-use Rattle.congruence.specs.Rounds.{Rounds, Answer, compareUnder}
+use Rattle.congruence.specs.Rounds.{Rounds, compareUnder}
 use Rattle.congruence.specs.Rounds.Answer.{same, different, spent}
 
 -- what the rows decide of two words under relation words B

@@ -1,22 +1,20 @@
 -- Reading the bytes of relations within the limits gives them back.
-use Prim.Native.Nat.{ℕ, zero, suc, _+_, _*_, _-_, _/_, _%_, _≤_, _<_}
-use mathlib.Core.Bool.{Bool, true, false, _||_, not, cond}
+use Prim.Native.Nat.{ℕ, zero, suc, _+_, _-_, _/_, _%_, _≤_, _<_}
+use mathlib.Core.Bool.{Bool, true, false, cond}
 use mathlib.Core.List.{List, [], _∷_, _++_, append-assoc, append-nil}
-use mathlib.Core.Path.{_≡_, refl, sym, ap, _∙_, subst}
+use mathlib.Core.Path.{_≡_, refl, sym, ap, _∙_}
 use native.Mathlib.Omega.{arith}
-use lib.Dec.{eqb, leb, ltb}
-use lib.ListN.{length, getD, take, drop, length-append}
-use lib.Seq.{getD-append-add, drop-append-add, take-append-seam, drop-append-seam, take-at, drop-at, take-all, drop-drop}
-use borrow.Author.Tests.{eq-eqb, lt-ltb, le-ltb, le-leb, lt-leb}
+use lib.Dec.{ltb}
+use lib.ListN.{length, drop, length-append}
+use lib.Seq.{getD-append-add, drop-append-add, drop-append-seam, take-at}
+use borrow.Author.Tests.{eq-eqb, le-ltb, le-leb, lt-leb}
 use Rattle.words.specs.Words.{Word}
 use Rattle.words.specs.Relations.{Relation}
-use Rattle.format.specs.declared.Record.{Record}
-use Rattle.format.specs.declared.Record.the-variants.{Whole, CutOff}
-use Rattle.format.specs.declared.Reading.{Reading}
-use Rattle.format.specs.declared.Reading.the-variants.{Read, Refused}
-use Rattle.format.specs.Limits.{headKind, relationKind, lettersMost, relationsMost, sideMost, outside}
-use Rattle.format.specs.Book.{BookReading, read, refused, byte, field, between, recordAt, onWhole, differs, firstUnknown, unknownIn, headAt, fieldsAt, relationAt, relationIn, onRead, relationsFrom, readBook}
-use Rattle.format.specs.Bytes.{fieldBytes, recordBytes, headBytes, relationBytes, relationsBytes, bookBytes, WordWithin, RelationWithin, AllWithin, none, more, Within, ReadBytes}
+use Rattle.format.specs.declared.Record.the-variants.{Whole}
+use Rattle.format.specs.declared.Reading.the-variants.{Read}
+use Rattle.format.specs.Limits.{lettersMost, relationsMost, outside}
+use Rattle.format.specs.Book.{read, byte, field, between, recordAt, differs, firstUnknown, unknownIn, headAt, fieldsAt, relationAt, relationIn, relationsFrom, readBook}
+use Rattle.format.specs.Bytes.{recordBytes, headBytes, relationBytes, relationsBytes, bookBytes, RelationWithin, AllWithin, none, more, ReadBytes}
 use Rattle.format.proofs.Readings.{of-known}
 
 -- a check that passes

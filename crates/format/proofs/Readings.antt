@@ -1,25 +1,24 @@
 -- What a record that was read says, and that what is read lies within the limits.
-use Prim.Native.Nat.{ℕ, zero, suc, _+_, _*_, _-_, _≤_, _<_}
-use mathlib.Core.Bool.{Bool, true, false, _||_, not, cond}
+use Prim.Native.Nat.{ℕ, zero, suc, _+_, _-_, _≤_, _<_}
+use mathlib.Core.Bool.{Bool, true, false, _||_, cond}
 use mathlib.Core.List.{List, [], _∷_, _++_}
-use mathlib.Core.Path.{_≡_, refl, sym, ap, _∙_, subst}
+use mathlib.Core.Path.{_≡_, refl, sym, ap, subst}
 use native.Mathlib.Omega.{arith}
-use native.Mathlib.Numerals.{add-one}
 use lib.Dec.{eqb, leb, ltb}
-use lib.ListN.{length, getD, take, drop, length-append, length-drop, length-take}
-use lib.Seq.{length-take-le, getD-take, getD-drop}
-use borrow.Author.Tests.{eqb-true, ltb-true, ltb-false, leb-true, leb-false, lt-ltb, le-ltb}
+use lib.ListN.{length, getD, length-append}
+use borrow.Author.Tests.{eqb-true, not-false, ltb-true, ltb-false, leb-false, lt-ltb}
 use Rattle.words.specs.Words.{Word}
 use Rattle.words.specs.Relations.{Relation}
+use Rattle.words.proofs.Tests.{or-neither}
+use Rattle.words.proofs.Lists.{part-length, part-at}
 use Rattle.format.specs.declared.Refusal.{Refusal}
-use Rattle.format.specs.declared.Refusal.the-variants.{Short, Kind, Length, Range, UnknownLetter, TooMany}
 use Rattle.format.specs.declared.Record.{Record}
 use Rattle.format.specs.declared.Record.the-variants.{Whole, CutOff}
 use Rattle.format.specs.declared.Reading.{Reading}
 use Rattle.format.specs.declared.Reading.the-variants.{Read, Refused}
 use Rattle.format.specs.Limits.{lettersMost, relationsMost, sideMost, outside}
-use Rattle.format.specs.Book.{BookReading, read, refused, byte, field, between, recordAt, onWhole, differs, firstUnknown, unknownIn, headAt, fieldsAt, relationAt, relationIn, onRead, relationsFrom, readBook}
-use Rattle.format.specs.Bytes.{WordWithin, RelationWithin, AllWithin, none, more, Within, ReadWithin}
+use Rattle.format.specs.Book.{read, byte, field, between, recordAt, onWhole, differs, firstUnknown, unknownIn, headAt, fieldsAt, relationAt, relationIn, onRead, relationsFrom, readBook}
+use Rattle.format.specs.Bytes.{RelationWithin, AllWithin, none, more, Within, ReadWithin}
 
 -- a check that was passed
 passed : (b : Bool) (r : Refusal) (x : Reading) (m to : ℕ) → cond b (Refused r) x ≡ Read m to → (b ≡ false) × (x ≡ Read m to)
@@ -30,26 +29,12 @@ passed-cut : (b : Bool) (x : Record) (kind from to : ℕ) → cond b CutOff x �
 passed-cut true x kind from to e = absurd (let z : _≡_ {A = ℕ} 0 1 = cc in omega arith)
 passed-cut false x kind from to e = (refl, e)
 
-equal-of : (m n : ℕ) → differs m n ≡ false → m ≡ n
-equal-of m n e = go (eqb m n) refl e
-  where
-    go : (b : Bool) → eqb m n ≡ b → not b ≡ false → m ≡ n
-    go true q h = eqb-true m n q
-    go false q h = absurd (let z : _≡_ {A = ℕ} 0 1 = cc in omega arith)
-
-or-false : (a b : Bool) → (a || b) ≡ false → (a ≡ false) × (b ≡ false)
-or-false true b e = absurd (let z : _≡_ {A = ℕ} 0 1 = cc in omega arith)
-or-false false b e = (refl, e)
+-- numbers that do not differ are equal
+pub equal-of : (m n : ℕ) → differs m n ≡ false → m ≡ n
+equal-of m n e = eqb-true m n (not-false (eqb m n) e)
 
 inside-of : (least most x : ℕ) → outside least most x ≡ false → (least ≤ x) × (x ≤ most)
-inside-of least most x e = let r = or-false (ltb x least) (ltb most x) e in (ltb-false x least (r .0), ltb-false most x (r .1))
-
--- a part of the book: its length, and its letters by their positions in the whole
-pub between-length : (book : List ℕ) (from to : ℕ) → to ≤ length book → length (between book from to) ≡ to - from
-between-length book from to h = length-take-le (to - from) (drop from book) (simp length-drop (omega arith))
-
-pub between-at : (book : List ℕ) (from to i : ℕ) → i < to - from → getD (between book from to) i 0 ≡ getD book (from + i) 0
-between-at book from to i h = getD-take (to - from) (drop from book) i 0 h ∙ getD-drop from book i 0
+inside-of least most x e = let r = or-neither (ltb x least) (ltb most x) e in (ltb-false x least (r .0), ltb-false most x (r .1))
 
 -- a word with no unknown letter
 pub known-of : (letters : ℕ) (w : Word) → length w ≤ firstUnknown letters w → (i : ℕ) → i < length w → getD w i 0 < letters
@@ -131,14 +116,14 @@ relation-read letters count book at m to e =
     let d = passed (differs (a .2 - a .1) (2 + byte book (a .1) + byte book (a .1 + 1))) _ _ m to (c .1) in
     let f = passed (outside 1 64 (byte book (a .1)) || outside 1 64 (byte book (a .1 + 1))) _ _ m to (d .1) in
     let g = passed (unknownIn letters (between book (a .1 + 2) (a .2))) _ _ m to (f .1) in
-    let o = or-false (outside 1 64 (byte book (a .1))) (outside 1 64 (byte book (a .1 + 1))) (f .0) in
+    let o = or-neither (outside 1 64 (byte book (a .1))) (outside 1 64 (byte book (a .1 + 1))) (f .0) in
     let l = equal-of (a .2 - a .1) (2 + byte book (a .1) + byte book (a .1 + 1)) (d .0) in
     let p = inside-of 1 64 (byte book (a .1)) (o .0) in
     let q = inside-of 1 64 (byte book (a .1 + 1)) (o .1) in
     let x : byte book (a .1) ≡ m = cc (g .1) in
     let y : a .2 ≡ to = cc (g .1) in
     let k = leb-false 32 count (c .0) in
-    let n = between-length book (a .1 + 2) (a .2) (omega (arith, w .fits)) in
+    let n = part-length book (a .1 + 2) (a .2) (omega (arith, w .fits)) in
     let u = known-of letters (between book (a .1 + 2) (a .2)) (ltb-false (firstUnknown letters (between book (a .1 + 2) (a .2))) (length (between book (a .1 + 2) (a .2))) (g .0)) in
     record {
       room = omega arith;
@@ -148,7 +133,7 @@ relation-read letters count book at m to e =
       rightSome = omega (arith, w .start);
       rightShort = omega (arith, w .start);
       known = λ i lo hi.
-          let s = between-at book (a .1 + 2) (a .2) (i - (at + 6)) (omega (arith, w .start)) in
+          let s = part-at book (a .1 + 2) (a .2) (i - (at + 6)) (omega (arith, w .start)) in
           let v = u (i - (at + 6)) (omega (arith, w .start)) in
           let z : a .1 + 2 + (i - (at + 6)) ≡ i = omega (arith, w .start) in
           subst (λ (j : ℕ). getD book j 0 < letters) z (subst (λ (t : ℕ). t < letters) s v);
@@ -157,18 +142,18 @@ relation-read letters count book at m to e =
 -- the relation in the record is within the limits
 pub relation-within : (letters count : ℕ) (book : List ℕ) (at m to : ℕ) → RelationRead letters count book at m to → RelationWithin letters (relationIn book at m to)
 relation-within letters count book at m to r =
-    let l = between-length book (at + 6) (at + 6 + m) (omega arith) in
-    let k = between-length book (at + 6 + m) to (omega arith) in
+    let l = part-length book (at + 6) (at + 6 + m) (omega arith) in
+    let k = part-length book (at + 6 + m) to (omega arith) in
     record {
       left = record {
         some = omega arith;
         short = omega arith;
-        known = λ i h. subst (λ (t : ℕ). t < letters) (sym (between-at book (at + 6) (at + 6 + m) i (omega arith))) (r .known (at + 6 + i) (omega arith) (omega arith));
+        known = λ i h. subst (λ (t : ℕ). t < letters) (sym (part-at book (at + 6) (at + 6 + m) i (omega arith))) (r .known (at + 6 + i) (omega arith) (omega arith));
       };
       right = record {
         some = omega arith;
         short = omega arith;
-        known = λ i h. subst (λ (t : ℕ). t < letters) (sym (between-at book (at + 6 + m) to i (omega arith))) (r .known (at + 6 + m + i) (omega arith) (omega arith));
+        known = λ i h. subst (λ (t : ℕ). t < letters) (sym (part-at book (at + 6 + m) to i (omega arith))) (r .known (at + 6 + m + i) (omega arith) (omega arith));
       };
     }
 

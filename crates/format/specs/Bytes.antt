@@ -1,12 +1,12 @@
 -- The bytes of a book (document 01, "Book bytes"), the inverse of reading.
-use Prim.Native.Nat.{ℕ, _+_, _*_, _/_, _%_, _<_, _≤_}
+use Prim.Native.Nat.{ℕ, _+_, _/_, _%_, _<_, _≤_}
 use mathlib.Core.List.{List, [], _∷_, _++_}
 use mathlib.Core.Path.{_≡_}
 use lib.ListN.{length, getD}
 use Rattle.words.specs.Words.{Word}
 use Rattle.words.specs.Relations.{Relation}
 use Rattle.format.specs.Limits.{headKind, relationKind, lettersMost, relationsMost, sideMost}
-use Rattle.format.specs.Book.{BookReading, read, readBook}
+use Rattle.format.specs.Book.{read, readBook}
 
 -- a two-byte field, little-endian
 abbrev pub fieldBytes : ℕ → List ℕ

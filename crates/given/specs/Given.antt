@@ -4,7 +4,6 @@ use mathlib.Core.Bool.{cond}
 use lib.Dec.{ltb}
 use lib.ListN.{length}
 use Rattle.words.specs.Words.{Word}
-use Rattle.format.specs.declared.Refusal.{Refusal}
 use Rattle.format.specs.declared.Refusal.the-variants.{Long, Stranger}
 use Rattle.format.specs.Limits.{comparedMost, roundMost, markMost}
 use Rattle.format.specs.Book.{firstUnknown}

@@ -1,6 +1,6 @@
 -- The relation word whose X and Y stand at a place: there is one just where the rows say that some stand there.
-use Prim.Native.Nat.{ℕ, _≤_, _<_}
-use mathlib.Core.Bool.{Bool, true}
+use Prim.Native.Nat.{ℕ}
+use mathlib.Core.Bool.{Bool}
 use mathlib.Core.List.{List}
 use mathlib.Core.Path.{_≡_, sym, _∙_}
 use mathlib.Core.Logic.{by-cases}
@@ -26,12 +26,3 @@ any-least n p =
 pub stands-front : (B : List Word) (w : Word) (q : ℕ) → standsAt B w q ≡ ltb (frontAt B w q) (length B)
 unfolding standsAt frontAt
 stands-front B w q = any-least (length B) (λ j. front (xyOf B j) (drop q w))
-
--- what is found stands there
-pub front-stands : (B : List Word) (w : Word) (q : ℕ) → frontAt B w q < length B → front (xyOf B (frontAt B w q)) (drop q w) ≡ true
-unfolding frontAt
-front-stands B w q h = least-passes (length B) (λ j. front (xyOf B j) (drop q w)) h
-
-pub front-bound : (B : List Word) (w : Word) (q : ℕ) → frontAt B w q ≤ length B
-unfolding frontAt
-front-bound B w q = least-bound (length B) (λ j. front (xyOf B j) (drop q w))

@@ -15,10 +15,10 @@ use lib.Seq.{getD-set-other, getD-set-same, getD-drop}
 use mir.Syntax.{w64}
 use mir.Val.{Fits}
 use Rattle.words.specs.Words.{common}
+use Rattle.words.proofs.Lists.{part-length, part-at}
 use Rattle.words.proofs.Commons.{common-within, common-at, common-differ, common-is}
 use Rattle.overlap.specs.Pieces.{word}
 use Rattle.layout.specs.Layout.{startOf, endOf, part, wordsIn, firstOf, orderOf, sharedOf, Laid}
-use Rattle.layout.proofs.Parts.{part-length, part-at}
 use Rattle.layout.proofs.Placed.{word-part, end-inside, word-length}
 use Rattle.index.specs.Index.{Agreed}
 use Rattle.index.specs.Making.{letterOf, count, earlier, sinksOf, Kept, Unlisted, One, Two, Sinking, Lists, Gathering, Listable, Looked, Begun, Neighbours, Gathered, AllListed, IndexMade}

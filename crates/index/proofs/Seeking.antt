@@ -12,6 +12,7 @@ use lib.ListN.{length, getD, drop, length-take, length-drop, length-append}
 use lib.Seq.{getD-drop}
 use Rattle.words.specs.Words.{Word, front, common}
 use Rattle.words.proofs.Tests.{false-of}
+use Rattle.words.proofs.Lists.{part-length, part-at}
 use Rattle.words.proofs.Searching.{least-is, least-none}
 use Rattle.words.proofs.Fronts.{front-length, front-at}
 use Rattle.words.proofs.Commons.{common-within, common-at, common-front, common-no-front, common-take, common-later, common-sooner, common-via}
@@ -21,7 +22,6 @@ use Rattle.overlap.proofs.Rigid.{Rigid}
 use Rattle.overlap.proofs.Facts.{length-xy}
 use Rattle.congruence.proofs.RowTests.{one-front}
 use Rattle.layout.specs.Layout.{startOf, zStartOf, part, wordsIn, firstOf, orderOf, sharedOf, Checked}
-use Rattle.layout.proofs.Parts.{part-length, part-at}
 use Rattle.layout.proofs.Placed.{words-length}
 use Rattle.layout.proofs.CutPlaces.{xy-long, xy-part}
 use Rattle.index.specs.declared.Meeting.{Meeting}

@@ -1,5 +1,5 @@
 -- Which relation word's X and Y stand at a place of a word (document 003: relation prefixes), and what the functions that look for it ask.
-use Prim.Native.Nat.{ℕ, _+_, _-_, _<_, _≤_}
+use Prim.Native.Nat.{ℕ, _≤_}
 use mathlib.Core.Bool.{Bool, _&&_}
 use mathlib.Core.List.{List}
 use lib.Dec.{eqb, ltb}

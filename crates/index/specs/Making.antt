@@ -5,9 +5,9 @@ use mathlib.Core.List.{List}
 use mathlib.Core.Path.{_≡_}
 use lib.Dec.{eqb, ltb}
 use lib.ListN.{length, getD}
-use Rattle.words.specs.Words.{Word, common}
+use Rattle.words.specs.Words.{common}
 use Rattle.overlap.specs.Pieces.{word}
-use Rattle.layout.specs.Layout.{startOf, wordsIn, firstOf, orderOf, sharedOf, Laid, Indexed}
+use Rattle.layout.specs.Layout.{startOf, wordsIn, firstOf, orderOf, Laid, Indexed}
 
 -- the first letter of relation word k
 abbrev pub letterOf : List ℕ → List ℕ → ℕ → ℕ

@@ -25,6 +25,9 @@ const ORDER: usize = FIRST + Head::LETTERS + 1;
 
 const SHARED: usize = ORDER + Relation::WORDS;
 
+// One place before the list: BEFORE + i is the entry before ORDER + i.
+const BEFORE: usize = ORDER - 1;
+
 // A relation word met with the word that is compared.
 pub enum Meeting {
     // its X and Y stand there: its number
@@ -315,7 +318,7 @@ fn insert(text: &[u8], table: &mut [u16], n: usize, c: usize, from: usize, j: us
 {
     let mut i = j;
     while sinks(text, table, n, from, i, k) {
-        table[ORDER + i] = table[321 + i];
+        table[ORDER + i] = table[BEFORE + i];
         i -= 1;
     }
     table[ORDER + i] = narrow(k);

@@ -1,18 +1,12 @@
--- Parts of a text: their letters and lengths, and parts of parts.
+-- Parts of a text: parts of parts, and parts of texts that agree. Their letters and lengths are in crate `words`, proofs/Lists.antt.
 use Prim.Native.Nat.{ℕ, _+_, _-_, _≤_, _<_}
 use mathlib.Core.List.{List, []}
 use mathlib.Core.Path.{_≡_, sym, ap, _∙_}
 use native.Mathlib.Omega.{arith}
 use lib.ListN.{length, getD, take, drop, length-take, length-drop}
-use lib.Seq.{length-take-le, getD-take, getD-drop, take-take, drop-drop, ext-getD}
-use Rattle.words.proofs.Lists.{drop-take}
+use lib.Seq.{take-take, drop-drop, ext-getD}
+use Rattle.words.proofs.Lists.{drop-take, part-at}
 use Rattle.layout.specs.Layout.{part}
-
-pub part-length : (text : List ℕ) (a b : ℕ) → b ≤ length text → length (part text a b) ≡ b - a
-part-length text a b h = let d = length-drop a text in length-take-le (b - a) (drop a text) (omega (arith, h, d))
-
-pub part-at : (text : List ℕ) (a b k : ℕ) → k < b - a → getD (part text a b) k 0 ≡ getD text (a + k) 0
-part-at text a b k h = getD-take (b - a) (drop a text) k 0 h ∙ getD-drop a text k 0
 
 pub part-none : (text : List ℕ) (a b : ℕ) → b ≤ a → part text a b ≡ []
 part-none text a b h = let e : b - a ≡ 0 = omega (arith, h) in rw e

@@ -1,5 +1,5 @@
 -- Laws of decimals, of writing at a place, and of the loops that do it.
-use Prim.Native.Nat.{ℕ, zero, suc, _+_, _-_, _/_, _%_, _≤_, _<_, _^_, _*_}
+use Prim.Native.Nat.{ℕ, zero, suc, _+_, _-_, _/_, _%_, _≤_, _<_, _*_}
 use mathlib.Core.Bool.{Bool, true, false}
 use mathlib.Core.List.{List, [], _∷_, _++_, append-assoc, append-nil}
 use mathlib.Core.Path.{_≡_, refl, sym, ap, _∙_}
@@ -9,10 +9,10 @@ use native.Mathlib.Nat.{add-zero, add-assoc}
 use borrow.Author.Needs.{needs}
 use borrow.Author.Tests.{lt-ltb, le-ltb, ltb-true, ltb-false}
 use lib.Dec.{ltb}
-use lib.ListN.{length, getD, take, drop, set, length-append, length-take, length-drop, length-set, take-append-drop}
-use lib.Seq.{take-suc, drop-cons, set-at, length-take-le, take-at, drop-at, take-take, drop-drop, take-append-le, drop-append-le, take-length, drop-append-add, paste, paste-zero, paste-suc, length-paste, set-split}
+use lib.ListN.{length, getD, take, drop, set, length-append, length-set, take-append-drop}
+use lib.Seq.{take-suc, set-at, length-take-le, take-at, drop-drop, take-length, drop-append-add, paste, paste-zero, paste-suc, set-split}
 use mir.Val.{Fits}
-use mir.Syntax.{w8, w64}
+use mir.Syntax.{w64}
 use Rattle.lines.specs.Decimal.{digitsOf, countUpTo, digitCount, decimal}
 use Rattle.lines.specs.Lines.{numbered, lineOf, pairLineOf, Put}
 

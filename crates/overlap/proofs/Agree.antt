@@ -1,23 +1,21 @@
 -- The tests that compute agree with the definitions in words (document 003, section 1): pieces, products of fewer than four pieces, C(4).
 use Prim.Native.Nat.{ℕ, zero, suc, _+_, _-_, _≤_, _<_}
 use mathlib.Core.Bool.{Bool, true, false, _&&_, true≢false, and-eq-true-iff}
-use mathlib.Core.List.{List, [], _∷_, _++_, append-assoc}
+use mathlib.Core.List.{List, [], _++_, append-assoc}
 use mathlib.Core.Path.{_≡_, refl, sym, ap, _∙_, subst}
-use mathlib.Core.Logic.{by-cases, _↔_}
+use mathlib.Core.Logic.{_↔_}
 use native.Mathlib.Omega.{arith}
-use native.Mathlib.Decide.{ℕ-discrete}
 use lib.Dec.{leb}
 use borrow.Author.Tests.{leb-true, le-leb}
 use lib.ListN.{length, take, drop, length-append}
 use Rattle.words.specs.Search.{anyBelow, least}
-use Rattle.words.specs.Words.{Word, front}
+use Rattle.words.specs.Words.{Word}
 use Rattle.words.proofs.Searching.{any-of, any-found, least-bound, least-passes, least-first, least-is, least-none}
-use Rattle.words.proofs.Fronts.{front-same, front-fits, same-front}
-use Rattle.overlap.specs.Pieces.{word, Occurs, IsPiece, empty, twice, IsProduct, C4}
+use Rattle.overlap.specs.Pieces.{word, Occurs, IsPiece, empty, IsProduct, C4}
 use Rattle.overlap.specs.Cuts.{len, pieceAt, three, loose, firstLoose}
 use Rattle.overlap.specs.Verdict.{FewPieces, Lowest}
 use Rattle.overlap.proofs.Places.{piece-of-test, test-of-piece, piece-part, length-segment}
-use Rattle.overlap.proofs.Occurrences.{occurs-segment, occurs-fits, occurs-same, occurs-of-same, is-piece-of-occurs, place-of-is-piece}
+use Rattle.overlap.proofs.Occurrences.{occurs-segment, occurs-fits, is-piece-of-occurs, place-of-is-piece}
 use Rattle.overlap.proofs.Facts.{product-of-three}
 
 -- of a word that occurs, the test at that place says whether it is a piece
@@ -30,40 +28,6 @@ pub pieceAt-iff-segment-piece : (B : List Word) (i p n : ℕ) → i < length B �
 pieceAt-iff-segment-piece B i p n h f =
     subst (λ m. pieceAt B i p m ≡ true ↔ IsPiece B (take n (drop p (word B i)))) (length-segment (word B i) p n f)
     (pieceAt-iff-piece B (take n (drop p (word B i))) i p (occurs-segment B i p n h f))
-
--- whether a word is a piece is decided
-pub decPiece : (B : List Word) (w : Word) → Dec (IsPiece B w)
-decPiece B [] = yes (empty refl)
-decPiece B (x ∷ w) = found (anyBelow (length B) hit) refl
-  where
-    at : ℕ → ℕ → Bool
-    at i p = front (x ∷ w) (drop p (word B i))
-
-    hit : ℕ → Bool
-    hit i = anyBelow (len B i) (at i)
-
-    occurs : (i p : ℕ) → i < length B → at i p ≡ true → Occurs B (x ∷ w) i p
-    occurs i p h e = occurs-of-same B (x ∷ w) i p h (front-fits (x ∷ w) (word B i) p (omega arith) e) (front-same (x ∷ w) (word B i) p e)
-
-    missed : (i p : ℕ) → Occurs B (x ∷ w) i p → anyBelow (length B) hit ≡ true
-    missed i p o =
-        let f = occurs-fits o in
-        any-of (length B) hit i (o .there) (any-of (len B i) (at i) p (omega arith) (same-front (x ∷ w) (word B i) p f (occurs-same o)))
-
-    tested : (i p : ℕ) → Occurs B (x ∷ w) i p → (t : Bool) → pieceAt B i p (length (x ∷ w)) ≡ t → Dec (IsPiece B (x ∷ w))
-    tested i p o true e = yes (pieceAt-iff-piece B (x ∷ w) i p o .0 e)
-    tested i p o false e = no (λ c. true≢false (sym (pieceAt-iff-piece B (x ∷ w) i p o .1 c) ∙ e))
-
-    found : (t : Bool) → anyBelow (length B) hit ≡ t → Dec (IsPiece B (x ∷ w))
-    found true e =
-        let f = any-found (length B) hit e in
-        let g = any-found (len B (f .0)) (at (f .0)) (f .2) in
-        tested (f .0) (g .0) (occurs (f .0) (g .0) (f .1) (g .2)) (pieceAt B (f .0) (g .0) (length (x ∷ w))) refl
-    found false e = no (none e)
-      where
-        none : anyBelow (length B) hit ≡ false → IsPiece B (x ∷ w) → ⊥
-        none e (empty z) = let l = ap length z in absurd (omega arith)
-        none e (twice i p j q o b d) = true≢false (sym (missed i p o) ∙ e)
 
 -- what the search for three parts finds
 pub three-found : (piece : ℕ → ℕ → Bool) (n : ℕ) → three piece n ≡ true
@@ -166,7 +130,3 @@ unfolding firstLoose
 firstLoose-iff-c4 B =
     let r = least-iff-none (length B) (loose B) (FewPieces 4 B) (loose-iff-few-pieces B) in
     (λ e i n h l c. r .0 e i h (n, l, c), λ c. r .1 (λ i h f. c i (f .0) h (f .1) (f .2)))
-
--- whether C(4) holds is decided
-pub decC4 : (B : List Word) → Dec (C4 B)
-decC4 B = by-cases (ℕ-discrete (firstLoose B) (length B)) (λ e. yes (firstLoose-iff-c4 B .0 e)) (λ e. no (λ c. e (firstLoose-iff-c4 B .1 c)))

@@ -2,7 +2,7 @@
 -- (document 003, section 1; document 01, "Pieces, C(4) and cuts").
 use Prim.Native.Nat.{ℕ, _+_, _-_, _≤_, _<_}
 use mathlib.Core.Bool.{true}
-use mathlib.Core.List.{List, [], _∷_, _++_, append-nil, append-assoc}
+use mathlib.Core.List.{List, [], _++_, append-nil, append-assoc}
 use mathlib.Core.Path.{_≡_, refl, sym, ap, _∙_, subst}
 use mathlib.Core.Logic.{by-cases, _↔_}
 use native.Mathlib.Omega.{arith}
@@ -10,6 +10,7 @@ use native.Mathlib.Decide.{decLe}
 use lib.ListN.{length, take, drop, length-append, take-append-drop}
 use lib.Seq.{length-slice, take-take, take-all, take-append-add, drop-append-le}
 use Rattle.words.specs.Words.{Word, front}
+use Rattle.words.proofs.Lists.{no-letters}
 use Rattle.words.proofs.Fronts.{front-append, front-split}
 use Rattle.overlap.specs.Pieces.{word, Occurs, IsPiece, C4}
 use Rattle.overlap.specs.Cuts.{xlen, zlen, xylen, xOf, xyOf, zOf}
@@ -69,11 +70,8 @@ z-maximal B i h =
         by-cases (decLe (xylen B i) (length (s .0))) (λ k. k) (λ k.
         absurd (z-longest B i (length (s .0)) (omega arith) (piece-part (place-of-is-piece (suffix-occurs B i a h s) c) (omega arith))))
 
--- words that are parts of one another are equal, so there is one maximal piece prefix and one maximal piece suffix
-no-letters : (t : Word) → length t ≡ 0 → t ≡ []
-no-letters [] h = refl
-no-letters (x ∷ t) h = absurd (omega arith)
-
+-- The next three laws are for the reader, nothing rests on them: a relation word has only one maximal piece prefix and only one maximal piece suffix,
+-- so X and Z of documents 003 and 01 can be no other words than `xOf` and `zOf`. Words that are prefixes, or suffixes, of one another are equal,
 pub prefix-antisym : (a b : Word) → IsPrefix a b → IsPrefix b a → a ≡ b
 prefix-antisym a b (t, e) (s, f) =
     let l = simp length-append at (ap length e) in
@@ -86,6 +84,7 @@ suffix-antisym a b (t, e) (s, f) =
     let m = simp length-append at (ap length f) in
     ap (_++ a) (sym (no-letters t (omega arith))) ∙ e
 
+-- so two maximal pieces of one kind are equal
 pub maximal-unique : (IsPart : Word → Word → Type 0) → ((a b : Word) → IsPart a b → IsPart b a → a ≡ b)
     → (B : List Word) (i : ℕ) (x y : Word) → MaximalPiece IsPart B i x → MaximalPiece IsPart B i y → x ≡ y
 maximal-unique IsPart anti B i x y m n = anti x y (n .longest x (m .part) (m .piece)) (m .longest y (n .part) (n .piece))

@@ -1,14 +1,15 @@
 -- Occurrences of words and pieces among words, against segments by place (document 003, section 1); and the laws of pieces as words:
--- a factor of a piece is a piece, and more relation words make no fewer pieces.
+-- a factor of a piece is a piece, more relation words make no fewer pieces, and fewer of them are C(m) where all are.
 use Prim.Native.Nat.{ℕ, zero, suc, _+_, _≤_, _<_}
-use mathlib.Core.List.{List, [], _∷_, _++_, append-nil, append-assoc}
+use mathlib.Core.List.{List, [], _++_, append-nil, append-assoc}
 use mathlib.Core.Path.{_≡_, refl, sym, ap, _∙_, subst}
 use mathlib.Core.Logic.{by-cases}
 use native.Mathlib.Omega.{arith}
 use native.Mathlib.Decide.{ℕ-discrete}
 use lib.ListN.{length, take, drop, length-append, take-append-drop, List·getD-append}
-use lib.Seq.{length-take-le, getD-take, getD-drop, getD-append-add, ext-getD, take-at, drop-at, take-length}
+use lib.Seq.{length-take-le, getD-take, getD-drop, getD-append-add, ext-getD, take-at, drop-at}
 use Rattle.words.specs.Words.{Word}
+use Rattle.words.proofs.Lists.{no-letters}
 use Rattle.words.proofs.Segments.{Same, same-sym, same-via}
 use Rattle.overlap.specs.Pieces.{word, Occurs, IsPiece, empty, twice, IsProduct, SmallOverlap}
 use Rattle.overlap.specs.Cuts.{len}
@@ -57,12 +58,6 @@ occurs-is {B} {w} {i} {p} o =
 pub occurs-same : {B : List Word} {w : Word} {i p : ℕ} → Occurs B w i p → Same w 0 (word B i) p (length w)
 occurs-same {B} {w} {i} {p} o = subst (λ v. Same v 0 (word B i) p (length w)) (occurs-is o) (segment-same (word B i) p (length w))
 
--- a word whose letters stand in a relation word occurs there
-pub occurs-of-same : (B : List Word) (w : Word) (i p : ℕ) → i < length B → p + length w ≤ len B i → Same w 0 (word B i) p (length w) → Occurs B w i p
-occurs-of-same B w i p h f s =
-    let e = segment-eq w 0 (word B i) p (length w) (omega arith) f s in
-    subst (λ v. Occurs B v i p) (sym e ∙ take-length w) (occurs-segment B i p (length w) h f)
-
 -- a factor of a word that occurs, occurs
 pub occurs-factor : (B : List Word) (a w b : Word) (i p : ℕ) → Occurs B (a ++ (w ++ b)) i p → Occurs B w i (p + length a)
 occurs-factor B a w b i p o =
@@ -99,11 +94,7 @@ occurs-once {B} {w} {i} {p} {j} {q} np a b =
 
 -- a factor of a piece is a piece
 pub factor-of-piece : (B : List Word) (a w b : Word) → IsPiece B (a ++ (w ++ b)) → IsPiece B w
-factor-of-piece B a w b (empty e) = empty (go w (let l = simp length-append at (ap length e) in omega arith))
-  where
-    go : (w : Word) → length w ≡ 0 → w ≡ []
-    go [] h = refl
-    go (x ∷ w) h = absurd (omega arith)
+factor-of-piece B a w b (empty e) = empty (no-letters w (let l = simp length-append at (ap length e) in omega arith))
 factor-of-piece B a w b (twice i p j q o o′ d) =
     twice i (p + length a) j (q + length a) (occurs-factor B a w b i p o) (occurs-factor B a w b j q o′) (λ c. d (c .0, let e = c .1 in omega arith))
 
@@ -142,13 +133,17 @@ piece-of-more A B C w =
     (λ i h. subst (λ v. Occurs (A ++ (B ++ C)) v (length A + i) 0) (word-of-more A B C i h) (occurs-whole (A ++ (B ++ C)) (length A + i) (number-of-more A B C i h)))
     (λ i j h k e. omega arith) w
 
--- so a part of a presentation that is C(m) is C(m)
+-- where the pieces of B are pieces of C, the products of n of them are products of n
 pub product-of-pieces : (B C : List Word) → ((w : Word) → IsPiece B w → IsPiece C w) → (n : ℕ) (w : Word) → IsProduct B n w → IsProduct C n w
 unfolding IsProduct
 product-of-pieces B C f zero w e = e
 product-of-pieces B C f (suc n) w (a, b, e, p, r) = (a, b, e, f a p, product-of-pieces B C f n b r)
 
-pub small-overlap-of-more : (m : ℕ) (A B C : List Word) → SmallOverlap m (A ++ (B ++ C)) → SmallOverlap m B
-small-overlap-of-more m A B C c i n h l p =
-    c (length A + i) n (number-of-more A B C i h) l
-    (product-of-pieces B (A ++ (B ++ C)) (piece-of-more A B C) n (word (A ++ (B ++ C)) (length A + i)) (subst (IsProduct B n) (sym (word-of-more A B C i h)) p))
+-- so any choice of the relation words of a presentation that is C(m) is C(m). Nothing rests on it yet: it is for presentations from which
+-- relations are withdrawn or chosen (document 02, slips 5 and 13)
+pub small-overlap-of-choice : (m : ℕ) (B C : List Word) (f : ℕ → ℕ) → ((i : ℕ) → i < length B → (f i < length C) × (word C (f i) ≡ word B i))
+    → ((i j : ℕ) → i < length B → j < length B → f i ≡ f j → i ≡ j) → SmallOverlap m C → SmallOverlap m B
+small-overlap-of-choice m B C f o inj c i n h l p = c (f i) n (o i h .0) l (product-of-pieces B C pieces n (word C (f i)) (subst (IsProduct B n) (sym (o i h .1)) p))
+  where
+    pieces : (w : Word) → IsPiece B w → IsPiece C w
+    pieces = piece-through B C f (λ i. 0) (λ i h. subst (λ v. Occurs C v (f i) 0) (o i h .1) (occurs-whole C (f i) (o i h .0))) inj

@@ -95,14 +95,6 @@ test-of-piece B i p n fit (another j q t) =
     (any-of (length B) (λ j. anyBelow (len B j) (twin B i p n j)) j (t .there)
     (any-of (len B j) (twin B i p n j) q (let f = t .fits in omega arith) (test-of-twin B i p n j q fit t))))
 
--- being a piece is decided
-pub decPieceAt : (B : List Word) (i p n : ℕ) → p + n ≤ len B i → Dec (Piece B i p n)
-decPieceAt B i p n fit = go (pieceAt B i p n) refl
-  where
-    go : (t : Bool) → pieceAt B i p n ≡ t → Dec (Piece B i p n)
-    go true e = yes (piece-of-test B i p n fit e)
-    go false e = no (λ c. true≢false (sym (test-of-piece B i p n fit c) ∙ e))
-
 -- where the test is false there is no piece
 pub no-piece-of-test : (B : List Word) (i p n : ℕ) → p + n ≤ len B i → pieceAt B i p n ≡ false → ¬ Piece B i p n
 no-piece-of-test B i p n fit e c = true≢false (sym (test-of-piece B i p n fit c) ∙ e)

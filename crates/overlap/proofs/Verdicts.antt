@@ -60,20 +60,6 @@ firstRepeated-iff-distinct B =
           r .1 (λ k h (j, l, e). let g = d j k (omega arith) h e in absurd (omega arith)),
     )
 
--- there is one exactly when relation words of different numbers are equal
-pub firstRepeated-iff-two-equal : (B : List Word) → firstRepeated B < length B ↔ ((i : ℕ) × (j : ℕ) × (i < j) × (j < length B) × (word B i ≡ word B j))
-firstRepeated-iff-two-equal B = (two, found)
-  where
-    two : firstRepeated B < length B → (i : ℕ) × (j : ℕ) × (i < j) × (j < length B) × (word B i ≡ word B j)
-    two h = let (i, l, e) = firstRepeated-iff-lowest B (firstRepeated B) h .0 refl .holds in (i, firstRepeated B, l, h, e)
-
-    found : (i : ℕ) × (j : ℕ) × (i < j) × (j < length B) × (word B i ≡ word B j) → firstRepeated B < length B
-    found (i, j, l, h, e) =
-        let b = firstRepeated-bound B in
-        by-cases (decLt (firstRepeated B) (length B)) (λ a. a) (λ a.
-        let g = firstRepeated-iff-distinct B .0 (omega arith) i j (omega arith) h e in
-        absurd (omega arith))
-
 -- equal relation words are pieces, so C(4) leaves none
 pub distinct-of-c4 : (B : List Word) → C4 B → Distinct B
 unfolding IsProduct
@@ -81,9 +67,6 @@ distinct-of-c4 B c i j h k e =
     by-cases (ℕ-discrete i j) (λ a. a) (λ a.
     let p : IsPiece B (word B i) = IsPiece.twice i 0 j 0 (occurs-whole B i h) (subst (λ w. Occurs B w j 0) (sym e) (occurs-whole B j k)) (λ d. a (d .0)) in
     absurd (c i 1 h (omega arith) (word B i, [], append-nil (word B i), p, refl)))
-
-pub firstRepeated-of-c4 : (B : List Word) → C4 B → firstRepeated B ≡ length B
-firstRepeated-of-c4 B c = firstRepeated-iff-distinct B .1 (distinct-of-c4 B c)
 
 -- the verdict is right
 pub judge-right : (B : List Word) → RightVerdict B (judge B)

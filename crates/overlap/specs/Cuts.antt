@@ -1,8 +1,8 @@
 -- What computes: the test for a piece, the search for three pieces, and the cut X, Y, Z of a relation word (document 003, section 1).
 use Prim.Native.Nat.{ℕ, zero, suc, _+_, _-_, max}
-use mathlib.Core.Bool.{Bool, true, false, _&&_, _||_, not}
-use mathlib.Core.List.{List, [], _∷_}
-use lib.Dec.{eqb, leb, ltb}
+use mathlib.Core.Bool.{Bool, _&&_, _||_, not}
+use mathlib.Core.List.{List}
+use lib.Dec.{eqb, leb}
 use lib.ListN.{length, take, drop}
 use Rattle.words.specs.Search.{anyBelow, least, greatest}
 use Rattle.words.specs.Words.{Word, front}

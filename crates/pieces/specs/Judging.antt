@@ -5,7 +5,7 @@ use mathlib.Core.Bool.{Bool, cond}
 use mathlib.Core.List.{List}
 use mathlib.Core.Path.{_≡_}
 use lib.Dec.{leb, ltb}
-use lib.ListN.{length, getD, set}
+use lib.ListN.{length, getD}
 use Rattle.words.specs.Search.{anyBelow, least, greatest}
 use Rattle.overlap.specs.Cuts.{three, firstLoose}
 use Rattle.overlap.specs.Verdict.{sameWord, Verdict}

@@ -1,5 +1,4 @@
 -- The worked examples hold, by computation.
-use Prim.Native.Nat.{_<_}
 use mathlib.Core.Path.{refl}
 use borrow.Author.Tests.{lt-ltb}
 use lib.ListN.{length}

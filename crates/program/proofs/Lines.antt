@@ -19,7 +19,7 @@ use Rattle.format.specs.declared.Record.{Record}
 use Rattle.format.specs.declared.Record.the-variants.{Whole, CutOff}
 use Rattle.format.specs.Limits.{comparisonKind, comparisonLength}
 use Rattle.format.specs.Book.{field, between, recordAt, differs}
-use Rattle.format.proofs.Readings.{WholeAt, whole-at}
+use Rattle.format.proofs.Readings.{equal-of, WholeAt, whole-at}
 use Rattle.comparison.specs.declared.Comparison.{Comparison}
 use Rattle.comparison.specs.State.{Ready}
 use Rattle.comparison.specs.Comparing.{comparisonOf}
@@ -30,7 +30,6 @@ use Rattle.program.specs.declared.Request.the-variants.{Compare, Refused
 use Rattle.program.specs.Program.{bookText, longField, refusedLine, comparisonLine, comparisonIn, lineThen, linesFrom}
 use Rattle.program.specs.Requests.{fieldsOf, requestOf, requestAt}
 use Rattle.program.specs.Writing.{linesUnder, Lined, linesOfAccepted, Accepted}
-use Rattle.program.proofs.Size.{equal-of}
 
 -- a part of the input, as the code takes it and as the definition does
 slice-between : (from to : ℕ) (l : List ℕ) → between l from to ≡ slice from to l

@@ -4,7 +4,7 @@ use mathlib.Core.Bool.{Bool, true, false, cond}
 use mathlib.Core.List.{List, [], _∷_, _++_}
 use mathlib.Core.Path.{_≡_, refl}
 use native.Mathlib.Omega.{arith}
-use borrow.Author.Tests.{eqb-true, not-false, ltb-true, ltb-false, leb-false}
+use borrow.Author.Tests.{ltb-true, ltb-false, leb-false}
 use lib.Dec.{eqb, leb, ltb}
 use lib.ListN.{length, take, length-append, length-take}
 use lib.Seq.{slice}
@@ -25,7 +25,7 @@ use Rattle.format.specs.declared.Reading.the-variants as Readings
 use Rattle.format.specs.Limits.{inputMost, lettersMost, relationsMost, comparisonKind, comparisonLength, comparedMost}
 use Rattle.format.specs.Refusals.{numberOf, placeOf}
 use Rattle.format.specs.Book.{BookReading, field, recordAt, differs, firstUnknown, headAt, fieldsAt, relationAt, relationIn, onWhole, onRead, relationsFrom, readBook}
-use Rattle.format.proofs.Readings.{WholeAt, whole-at, read-within}
+use Rattle.format.proofs.Readings.{equal-of, WholeAt, whole-at, read-within}
 use Rattle.presentation.specs.Loading.{BookLoading, byVerdict, byReading, loadBook}
 use Rattle.given.specs.declared.Given.{Given}
 use Rattle.given.specs.declared.Given.the-variants as Givens
@@ -187,9 +187,6 @@ few-more : (n at to : ℕ) (s t : List ℕ) → at + 12 ≤ to → length s ≤ 
 few-more n at to s t h k f =
     let l = length-append s t in
     record { count = suc (f .count); lines = omega (arith, f .lines); records = omega (arith, f .records) }
-
-pub equal-of : (m n : ℕ) → differs m n ≡ false → m ≡ n
-equal-of m n e = eqb-true m n (not-false (eqb m n) e)
 
 module _ (letters : ℕ) (B : List Word) (input : List ℕ) (bytes : AreBytes input) (small : length input ≤ inputMost) where
   -- a whole record of the right kind and length

@@ -1,12 +1,11 @@
 -- The reader's loop: what it knows at its head, and a law for each way on.
 use Prim.Native.Nat.{ℕ, zero, suc, _+_, _*_, _-_, _≤_, _<_}
-use mathlib.Core.Bool.{Bool, true, false, cond}
 use mathlib.Core.List.{List, [], _∷_, _++_, append-assoc}
 use mathlib.Core.Path.{_≡_, refl, sym, ap, _∙_, subst}
 use native.Mathlib.Omega.{arith}
 use borrow.Author.Needs.{needs}
 use borrow.Author.Tests.{le-leb, lt-leb}
-use lib.ListN.{length, getD, take, drop, set, length-append, length-set}
+use lib.ListN.{length, getD, set, length-append, length-set}
 use lib.Seq.{getD-set-same}
 use Rattle.words.specs.Relations.{Relation, sides}
 use Rattle.layout.specs.Layout.{wordsIn, Laid}
@@ -14,10 +13,10 @@ use Rattle.format.specs.declared.Refusal.{Refusal}
 use Rattle.format.specs.declared.Reading.{Reading}
 use Rattle.format.specs.declared.Reading.the-variants.{Read, Refused}
 use Rattle.numbers.specs.Widths.{Widened}
-use Rattle.format.specs.Book.{BookReading, read, refused, between, headAt, relationAt, relationIn, relationsFrom, readBook, told}
+use Rattle.format.specs.Book.{read, refused, between, headAt, relationAt, relationIn, relationsFrom, readBook}
 use Rattle.format.specs.Bytes.{Within}
-use Rattle.format.proofs.Readings.{RelationRead, relation-read, relation-within, within-more, head-read, within-head, between-length}
-use Rattle.reader.specs.Laying.{Arrays, Room, Appended, RelationRoom, RelationAppended, Held, BookRead}
+use Rattle.format.proofs.Readings.{RelationRead, relation-read, relation-within, within-more, head-read, within-head}
+use Rattle.reader.specs.Laying.{Arrays, Room, Appended, RelationRoom, RelationAppended, BookRead}
 
 -- both words of a relation
 module _ (book : List ℕ) (at m to : ℕ) (text table : List ℕ) (count : ℕ) (r : RelationRoom book at m to text table count) where

@@ -1,13 +1,14 @@
 -- The definition of reading a record, by the tests that the code makes.
-use Prim.Native.Nat.{ℕ, zero, suc, _+_, _*_, _-_, _≤_, _<_}
-use mathlib.Core.Bool.{Bool, true, false, _||_, not, cond}
-use mathlib.Core.List.{List, [], _∷_, _++_}
-use mathlib.Core.Path.{_≡_, refl, sym, ap, _∙_}
+use Prim.Native.Nat.{ℕ, _+_, _-_, _≤_, _<_}
+use mathlib.Core.Bool.{Bool, true, false, _||_, cond}
+use mathlib.Core.List.{List}
+use mathlib.Core.Path.{_≡_, refl, sym, _∙_}
 use native.Mathlib.Omega.{arith}
 use borrow.Author.Needs.{needs}
 use borrow.Author.Tests.{eq-eqb, ne-eqb, lt-ltb, le-ltb, le-leb, lt-leb}
-use lib.Dec.{eqb, leb, ltb}
-use lib.ListN.{length, getD, take, drop}
+use lib.Dec.{ltb}
+use lib.ListN.{length}
+use Rattle.words.proofs.Lists.{part-length}
 use Rattle.format.specs.declared.Refusal.the-variants.{Short, Kind, Length, Range, UnknownLetter, TooMany}
 use Rattle.format.specs.declared.Record.{Record}
 use Rattle.format.specs.declared.Record.the-variants.{Whole, CutOff}
@@ -21,8 +22,8 @@ use Rattle.format.specs.declared.MadeRelation.{MadeRelation}
 use Rattle.format.specs.declared.MadeRelation.the-variants as Relations
 use Rattle.numbers.specs.Widths.{Widened}
 use Rattle.format.specs.Limits.{headOf, relationOf, outside}
-use Rattle.format.specs.Book.{byte, field, between, recordAt, differs, firstUnknown, unknownIn, headAt, fieldsAt, relationAt}
-use Rattle.format.proofs.Readings.{whole-at, between-length}
+use Rattle.format.specs.Book.{byte, field, between, recordAt, firstUnknown, unknownIn, headAt, fieldsAt, relationAt}
+use Rattle.format.proofs.Readings.{whole-at}
 use Rattle.reader.specs.Reads.{Payload}
 
 -- a record: too few bytes for its first four, for its payload, or whole
@@ -169,6 +170,6 @@ pub ruleset fieldsets = (fields-none, fields-length, fields-range, fields-part, 
 -- some letter of a part is unknown
 pub unknown-part : (letters : ℕ) (book : List ℕ) (from to known : ℕ) → Payload book from to → known ≡ firstUnknown letters (between book from to)
     → ltb known (to - from) ≡ unknownIn letters (between book from to)
-unknown-part letters book from to known p e = rw (between-length book from to (p .inside), e)
+unknown-part letters book from to known p e = rw (part-length book from to (p .inside), e)
 
 pub ruleset unknowns = (unknown-part, needs)

@@ -7,7 +7,7 @@ use Rattle.words.specs.Words.{Word}
 use Rattle.words.specs.Relations.{Relation, sides}
 use Rattle.layout.specs.Layout.{Laid, wordsIn}
 use Rattle.format.specs.declared.Reading.{Reading}
-use Rattle.format.specs.Book.{BookReading, read, refused, lettersFrom, relationIn, readBook, told}
+use Rattle.format.specs.Book.{read, lettersFrom, relationIn, readBook, told}
 use Rattle.format.specs.Bytes.{RelationWithin, Within}
 use Rattle.format.specs.Limits.{lettersMost, relationsMost}
 

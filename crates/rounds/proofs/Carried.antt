@@ -9,6 +9,7 @@ use lib.Seq.{length-take-le, drop-length, drop-drop, drop-append-le}
 use Rattle.words.specs.Words.{Word, front, commonEnd}
 use Rattle.words.proofs.Fronts.{front-length, front-split}
 use Rattle.words.proofs.Tests.{or-second}
+use Rattle.words.proofs.Lists.{part-length}
 use Rattle.overlap.specs.Pieces.{word}
 use Rattle.overlap.specs.Cuts.{len, xylen, xOf, xyOf, zOf}
 use Rattle.congruence.specs.Rows.{Next, choose, crowded, active, row3, row4, row5, row6, row7, row8}
@@ -16,7 +17,7 @@ use Rattle.congruence.specs.Rows.Next.{end, go}
 use Rattle.overlap.proofs.Facts.{length-xy}
 use Rattle.congruence.proofs.CommonEnds.{end-within}
 use Rattle.layout.specs.Layout.{part}
-use Rattle.layout.proofs.Parts.{part-take, part-drop, part-length}
+use Rattle.layout.proofs.Parts.{part-take, part-drop}
 use Rattle.rounds.specs.declared.Plan.{Plan}
 use Rattle.rounds.specs.declared.Plan.the-variants.{End}
 use Rattle.rounds.specs.declared.Site.{Site}

@@ -11,9 +11,10 @@ use lib.ListN.{length, getD, drop}
 use Rattle.words.specs.Words.{front, lastLetters, commonEnd}
 use Rattle.words.proofs.Searching.{greatest-is}
 use Rattle.words.proofs.Tests.{false-of}
+use Rattle.words.proofs.Lists.{part-length, part-at}
 use Rattle.words.proofs.Fronts.{front-at, at-front}
 use Rattle.layout.specs.Layout.{part}
-use Rattle.layout.proofs.Parts.{part-length, part-at, part-drop}
+use Rattle.layout.proofs.Parts.{part-drop}
 use Rattle.rounds.specs.declared.Site.{Site}
 use Rattle.rounds.specs.Plans.{Mates, BackRoom, AgreeBack}
 use Rattle.rounds.specs.Numbers.{sharedEnd}

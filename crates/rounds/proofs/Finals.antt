@@ -9,12 +9,11 @@ use borrow.Author.Tests.{ne-eqb, lt-ltb, le-ltb}
 use lib.ListN.{length}
 use Rattle.words.specs.Words.{Word, isEmpty}
 use Rattle.words.specs.Relations.{other}
-use Rattle.words.proofs.Lists.{some-letter}
+use Rattle.words.proofs.Lists.{some-letter, part-length}
 use Rattle.words.proofs.Relations.{other-there}
 use Rattle.congruence.specs.Rows.{cleanFront}
 use Rattle.congruence.proofs.CommonEnds.{end-within}
 use Rattle.layout.specs.Layout.{part, wordsIn}
-use Rattle.layout.proofs.Parts.{part-length}
 use Rattle.layout.proofs.Placed.{words-length}
 use Rattle.rounds.specs.declared.Found.{Found}
 use Rattle.rounds.specs.declared.Plan.{Plan}

@@ -12,6 +12,7 @@ use lib.ListN.{length, take, drop}
 use borrow.Author.Tests.{eqb-true, eq-eqb, ne-eqb, le-leb, lt-leb}
 use Rattle.words.specs.Words.{Word, isEmpty, front}
 use Rattle.words.proofs.Tests.{false-of}
+use Rattle.words.proofs.Lists.{part-length}
 use Rattle.words.proofs.Fronts.{front-length}
 use Rattle.layout.specs.Layout.{startOf, xEndOf, zStartOf, endOf, part, wordsIn, Checked}
 use Rattle.words.proofs.Searching.{NoneBelow, none-more, any-of, any-none}
@@ -19,7 +20,7 @@ use Rattle.overlap.proofs.Facts.{rigid-of-c4}
 use Rattle.congruence.specs.Rows.{standsAt, crowded, cleanFront}
 use Rattle.index.specs.Index.{Span, frontAt}
 use Rattle.index.proofs.FrontAt.{stands-front}
-use Rattle.layout.proofs.Parts.{part-take, part-length}
+use Rattle.layout.proofs.Parts.{part-take}
 use Rattle.layout.proofs.Placed.{words-length}
 use Rattle.rounds.specs.declared.Site.{Site}
 use Rattle.rounds.specs.Plans.{Placed, Known}

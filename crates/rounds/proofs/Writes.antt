@@ -11,9 +11,9 @@ use mir.Val.{Fits}
 use lib.ListN.{length, getD, take, drop, set, length-set, length-append, length-drop}
 use lib.Seq.{paste, paste-zero, paste-suc, length-paste, take-length, take-all, take-append-seam, drop-append-add, drop-drop}
 use Rattle.words.specs.Words.{Word}
-use Rattle.congruence.specs.Rows.{Next, round}
+use Rattle.words.proofs.Lists.{part-length}
+use Rattle.congruence.specs.Rows.{round}
 use Rattle.layout.specs.Layout.{part, wordsIn}
-use Rattle.layout.proofs.Parts.{part-length}
 use Rattle.rounds.specs.declared.Change.{Change}
 use Rattle.rounds.specs.declared.Plan.{Plan}
 use Rattle.rounds.specs.declared.Plan.the-variants.{End, Go}

@@ -7,7 +7,6 @@ use native.Mathlib.Numerals.{add-one}
 use borrow.Author.Needs.{needs}
 use lib.ListN.{length, take, drop, length-append}
 use lib.Seq.{take-at, drop-append-add, drop-drop}
-use Rattle.words.specs.Words.{Word}
 use Rattle.overlap.specs.Cuts.{xlen, ylen, zlen}
 use Rattle.overlap.proofs.Facts.{rigid-of-c4}
 use Rattle.layout.specs.Layout.{wordsIn, Checked}
@@ -17,9 +16,6 @@ use Rattle.lines.specs.Lines.{Put}
 use Rattle.sheet.specs.Sheet.{cutBytes, cutSheet, xAt, yAt, zAt, lengthsAt, sheetBytes, CutsIn, Room, SheetRoom}
 
 module _ (text table : List ℕ) (n : ℕ) (c : Checked text table n) where
-  words : List Word
-  words = wordsIn text table n
-
   -- the positions are in order: Y is not empty
   pub cuts-in : (i : ℕ) → i < n → CutsIn table i
   cuts-in i h =
@@ -54,9 +50,6 @@ module _ (text table : List ℕ) (n : ℕ) (c : Checked text table n) where
   -- the sheet by the table is the cut sheet of the relation words
   pub sheet-cut : sheetBytes table n ≡ cutSheet (wordsIn text table n)
   sheet-cut = bytes-cut n (omega arith) ∙ sym (rw (words-length text table n))
-
-  pub sheet-room : (sheet : List ℕ) → 3 * n ≤ length sheet → SheetRoom table n sheet
-  sheet-room sheet h = record { cuts = cuts-in; place = h; few = c .laid .few }
 
 pub length-sheet : (table : List ℕ) (n : ℕ) → length (sheetBytes table n) ≡ 3 * n
 unfolding sheetBytes

@@ -1,7 +1,7 @@
 -- The demands, from the theorems on verdicts and on the rows.
-use Prim.Native.Nat.{ℕ, _+_, _*_, _<_, _≤_}
+use Prim.Native.Nat.{ℕ, _<_, _≤_}
 use mathlib.Core.Bool.{Bool, true, false}
-use mathlib.Core.List.{List, []}
+use mathlib.Core.List.{List}
 use mathlib.Core.Logic.{_↔_, _⊎_, inl, inr, by-cases}
 use mathlib.Core.Path.{_≡_, refl, sym, ap, _∙_, subst}
 use native.Mathlib.Omega.{arith}
@@ -10,8 +10,7 @@ use lib.ListN.{length}
 use Rattle.words.specs.Words.{Word}
 use Rattle.words.specs.Relations.{Relation, sides}
 use Rattle.overlap.specs.Pieces.{C4}
-use Rattle.overlap.specs.Verdict as Verdicts
-use Rattle.overlap.specs.Verdict.{Verdict, judge, RightVerdict}
+use Rattle.overlap.specs.Verdict.{Verdict, judge}
 use Rattle.overlap.proofs.Verdicts.{judge-iff-right, judge-accepts-iff-c4}
 use Rattle.congruence.specs.Congruence.{Congruent}
 use Rattle.congruence.specs.Rounds as Rows
@@ -22,10 +21,10 @@ use Rattle.format.specs.Book.{BookReading, readBook}
 use Rattle.presentation.specs.Loading.{BookLoading, loadBook, byVerdict}
 use Rattle.given.specs.declared.Given.the-variants as Words
 use Rattle.given.specs.Given.{pairOf}
-use Rattle.comparison.specs.Comparing.{byAnswer, answerOf, comparisonOf}
-use Rattle.unit.specs.Answers.{Answer, accepted, same, different, refused, ofComparison}
+use Rattle.comparison.specs.Comparing.{answerOf, comparisonOf}
+use Rattle.unit.specs.Answers.{Answer, accepted, same, different, refused}
 use Rattle.unit.specs.Entries.{checkOf, compareOf}
-use Rattle.unit.specs.Demands.{Accepts, Acceptance, Decides, Compared}
+use Rattle.unit.specs.Demands.{Acceptance, Decides, Compared}
 
 -- the verdict as an answer
 verdictAnswer : ℕ → Verdict → Answer

@@ -2,7 +2,6 @@ pub mod Tests
 pub mod Picks
 pub mod Lists
 pub mod Relations
-pub mod Filling
 pub mod Searching
 pub mod Segments
 pub mod Fronts

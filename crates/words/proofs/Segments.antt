@@ -1,6 +1,6 @@
 -- Words by position: n letters of u from p on are n letters of v from q on. One composition law carries every argument on overlaps.
 use Prim.Native.Nat.{ℕ, _+_, _-_, _≤_, _<_}
-use mathlib.Core.Path.{_≡_, refl, sym, ap, _∙_}
+use mathlib.Core.Path.{_≡_, sym, ap, _∙_}
 use native.Mathlib.Omega.{arith}
 use lib.ListN.{getD}
 use Rattle.words.specs.Words.{Word}
@@ -10,9 +10,6 @@ pub record Same (u : Word) (p : ℕ) (v : Word) (q : ℕ) (n : ℕ) : Type 0 whe
 
 letter : (u : Word) {i j : ℕ} → i ≡ j → getD u i 0 ≡ getD u j 0
 letter u e = ap (λ n. getD u n 0) e
-
-pub same-refl : (u : Word) (p n : ℕ) → Same u p u p n
-same-refl u p n = record { at = λ k h. refl }
 
 pub same-sym : {u v : Word} {p q n : ℕ} → Same u p v q n → Same v q u p n
 same-sym s = record { at = λ k h. sym (s .at k h) }

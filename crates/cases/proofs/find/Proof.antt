@@ -1,4 +1,4 @@
-use Prim.Native.Nat.{_-_, _+_}
+use Prim.Native.Nat.{_-_}
 use lib.ListN.{length}
 use Rattle.cases.proofs.Laws.{Reached, cases}
 use Rattle.cases.proofs.find.Statement.{statement}

@@ -1,4 +1,4 @@
-use Prim.Native.Nat.{_-_, _+_}
+use Prim.Native.Nat.{_-_}
 use lib.ListN.{length}
 use Rattle.cases.proofs.Laws.{Inside, cases}
 use Rattle.cases.proofs.put_bytes.Statement.{statement}

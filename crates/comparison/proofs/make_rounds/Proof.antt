@@ -1,5 +1,4 @@
-use Prim.Native.Nat.{_-_, _+_}
-use lib.ListN.{length}
+use Prim.Native.Nat.{_-_}
 use Rattle.comparison.proofs.Laws.{Going, goings}
 use Rattle.comparison.proofs.make_rounds.Statement.{statement}
 use Rattle.comparison.proofs.make_rounds.Tie as tie

@@ -1,4 +1,4 @@
-use Prim.Native.Nat.{_-_, _+_}
+use Prim.Native.Nat.{_-_}
 use lib.ListN.{length}
 use Rattle.format.proofs.Letters.{Topped, tops}
 use Rattle.format.proofs.largest.Statement.{statement}

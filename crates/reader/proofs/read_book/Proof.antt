@@ -1,5 +1,5 @@
 use borrow.Author.Needs.{needs}
-use Prim.Native.Nat.{_-_, _+_}
+use Prim.Native.Nat.{_-_}
 use lib.ListN.{length}
 use Rattle.reader.proofs.Books.{Going, going-end, goings}
 use Rattle.reader.proofs.read_book.Statement.{statement}

@@ -1,5 +1,4 @@
-use Prim.Native.Nat.{_-_, _+_}
-use lib.ListN.{length}
+use Prim.Native.Nat.{_-_}
 use Rattle.rounds.proofs.Ends.{Ending, endings}
 use Rattle.rounds.proofs.agree_back.Statement.{statement}
 use Rattle.rounds.proofs.agree_back.Tie as tie

@@ -1,4 +1,4 @@
-use Prim.Native.Nat.{_-_, _+_}
+use Prim.Native.Nat.{_-_}
 use lib.ListN.{length}
 use Rattle.rounds.proofs.Writes.{Copying, copyings}
 use Rattle.rounds.proofs.copy_at.Statement.{statement}

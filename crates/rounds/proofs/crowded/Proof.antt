@@ -1,5 +1,4 @@
 use Prim.Native.Nat.{_-_, _+_}
-use lib.ListN.{length}
 use mathlib.Core.List.{_++_}
 use Rattle.layout.specs.Layout.{wordsIn}
 use Rattle.rounds.proofs.Laws.{Vacant, vacants}

@@ -1,5 +1,4 @@
-use Prim.Native.Nat.{_-_, _+_}
-use lib.ListN.{length}
+use Prim.Native.Nat.{_-_}
 use Rattle.sheet.proofs.Laws.{Sheeted, sheets}
 use Rattle.sheet.proofs.write_sheet.Statement.{statement}
 use Rattle.sheet.proofs.write_sheet.Tie as tie
