@@ -1,16 +1,16 @@
 /*
  * vanecitron: does a chain of exchanges join two runs of steps under a book of exchange rules?
  *
- * The five functions of the archive are proved against their contracts (crates/host and crates/unit of this tree; docs/AUDIT.md says what that means).
+ * The five functions of the archive are proved against their contracts (crates/vanecitron and crates/entries of this tree; docs/AUDIT.md says what that means).
  * This header is written by hand: its numbers are compared with those of the proved sources (host/limits.py), and vanecitron_ample_allowance is plain
  * inline C, outside the proof. The words are those of document 01: a step is a byte below the book's number of letters A, a run is an array of steps,
  * a rule has two sides, and a book is a list of records in bytes ("Book bytes"). The proved sources call a rule a relation.
  *
  * The archive
- *   `rt staticlib host` at the root of the tree writes target/staticlib/libhost.a. It is for x86-64 Linux (System V calling convention) and holds no
+ *   `rt staticlib vanecitron` at the root of the tree writes target/staticlib/libvanecitron.a. It is for x86-64 Linux (System V calling convention) and holds no
  *   code for another processor. It allocates no memory, keeps no state between calls, reads no file, and starts no thread. Its only undefined symbols
  *   are memcpy and memset of the C library (`nm -u`; host/test compares the list, and fails where the archive has a byte of data or bss).
- *   Build:  cc -I host/include program.c target/staticlib/libhost.a
+ *   Build:  cc -I host/include program.c target/staticlib/libvanecitron.a
  *
  * Calls
  *   Calls are reentrant: any number of threads may call any functions at the same time, as long as no buffer that one call writes is used by another.

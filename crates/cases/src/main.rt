@@ -11,20 +11,20 @@ ghost use Prim.Native.Nat.{_≤_, _<_};
 ghost use lib.ListN.{length};
 ghost use Rattle.cases.specs.Places.{Behind, Filled, Lent};
 use comparison::Comparison;
+use entries::Round;
+use entries::Verdict;
 use format::Reading;
 use format::Refusal;
 use format::Relation;
 use libc::STDIN_FILENO;
 use libc::STDOUT_FILENO;
-use unit::Round;
-use unit::Verdict;
 
 fn main() {
     let mut buffer = [0u8; 65536];
     answer_input(&mut buffer);
 }
 
-// Answers standard input by way of a buffer, which is longer than any line. It holds the front of a line that was not read to its end from one turn to
+// Answers standard input by way of a buffer, which is longer than any line. It holds the prefix of a line that was not read to its end from one turn to
 // the next; the input has ended long before the last turn.
 fn answer_input(buffer: &mut [u8]) {
     let mut kept = 0;
@@ -128,7 +128,7 @@ fn answer_read(line: &[u8]) {
 fn answer_check(line: &[u8]) {
     let mut book = [0u8; 8192];
     let n = put_field(line, 1, &mut book);
-    let verdict = unit::check_book(&book[..n]);
+    let verdict = entries::check_book(&book[..n]);
     match verdict {
         Verdict::Accepted(relations) => print_count(b"accepted ", relations as u64),
         Verdict::Refused(refusal) => print_refusal(refusal),
@@ -155,7 +155,7 @@ fn answer_sheet(line: &[u8]) {
 fn lend_sheet(book: &[u8], sheet: &mut [u8], n: usize) -> Verdict
     requires { ⌜ Filled n (now sheet) ⌝ }
 {
-    unit::cut_sheet(book, &mut sheet[..n])
+    entries::cut_sheet(book, &mut sheet[..n])
 }
 
 // A comparison.
@@ -167,7 +167,7 @@ fn answer_compare(line: &[u8]) {
     let mut v = [0u8; 8192];
     let j = put_field(line, 3, &mut v);
     let allowance = number_field(line, 4);
-    let comparison = unit::compare(&book[..n], &u[..i], &v[..j], allowance);
+    let comparison = entries::compare(&book[..n], &u[..i], &v[..j], allowance);
     match comparison {
         Comparison::Same(rounds) => print_count(b"same ", rounds as u64),
         Comparison::Different(rounds) => print_count(b"different ", rounds as u64),
@@ -215,7 +215,7 @@ fn lend_round(
 ) -> Round
     requires { ⌜ Lent i (now nu) j (now nv) k (now np) ⌝ }
 {
-    unit::single_round(book, u, v, p, &mut nu[..i], &mut nv[..j], &mut np[..k])
+    entries::single_round(book, u, v, p, &mut nu[..i], &mut nv[..j], &mut np[..k])
 }
 
 // A round's answer, with its buffers after it.

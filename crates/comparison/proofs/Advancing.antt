@@ -11,7 +11,7 @@ use lib.Seq.{drop-append-le, drop-drop}
 use Rattle.words.specs.Words.{Word}
 use Rattle.words.proofs.Lists.{drop-past, part-length}
 use Rattle.congruence.proofs.Heads.{Facts}
-use Rattle.congruence.proofs.ShapeQuiet.{quiet-nil, quiet-drop, quiet-z, front-past-quiet}
+use Rattle.congruence.proofs.ShapeNoPrefix.{quiet-nil, quiet-drop, quiet-z, prefix-past-quiet}
 use Rattle.layout.specs.Layout.{part}
 use Rattle.layout.proofs.Parts.{part-none, part-drop}
 use Rattle.rounds.specs.declared.Change.{Change}
@@ -53,7 +53,7 @@ module _ (text : List ℕ) (B : List Word) (cut4 : Facts B) (source : Word) (h :
   unfolding z
   replaced l =
       let t = g .tailed l in
-      let past : length z < c .cut = omega (arith, front-past-quiet B cut4 z (drop (h .from) source) (t .by) (f .quiet) (t .there) (t .front), t .taken) in
+      let past : length z < c .cut = omega (arith, prefix-past-quiet B cut4 z (drop (h .from) source) (t .by) (f .quiet) (t .there) (t .prefix), t .taken) in
       let e = rest (omega arith) in
       record {
         fit = record {

@@ -16,7 +16,7 @@ use Rattle.congruence.specs.Rows.Next.{end, go}
 use Rattle.congruence.specs.Rounds.{answerFrom, compareUnder}
 use Rattle.congruence.specs.Rounds.Answer.{same}
 use Rattle.congruence.proofs.Heads.{Facts}
-use Rattle.congruence.proofs.ShapeQuiet.{quiet-nil}
+use Rattle.congruence.proofs.ShapeNoPrefix.{quiet-nil}
 use Rattle.layout.specs.Layout.{part, wordsIn}
 use Rattle.rounds.specs.declared.Change.{Change}
 use Rattle.rounds.specs.declared.Plan.{Plan}

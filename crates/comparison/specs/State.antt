@@ -8,7 +8,7 @@ use lib.ListN.{length, drop}
 use Rattle.words.specs.Words.{Word}
 use Rattle.congruence.specs.Rows.{Next, round}
 use Rattle.congruence.specs.Rows.Next.{end, go}
-use Rattle.congruence.specs.Quiet.{Quiet}
+use Rattle.congruence.specs.NoRelationPrefix.{NoRelationPrefix}
 use Rattle.layout.specs.Layout.{part, wordsIn}
 use Rattle.rounds.specs.declared.Change.{Change}
 use Rattle.rounds.specs.declared.Plan.{Plan}
@@ -34,7 +34,7 @@ pub record HeldFit (text : List ℕ) (B : List Word) (source : Word) (h : Held) 
   pub inside : h .to ≤ length text
   pub short : h .to ≤ h .at + 64
   pub within : h .from ≤ length source
-  pub quiet : Quiet B (part text (h .at) (h .to))
+  pub quiet : NoRelationPrefix B (part text (h .at) (h .to))
 
 pub record MarkHeld (text : List ℕ) (m : Mark) : Type 0 where
   pub up : m .at ≤ m .to

@@ -1,5 +1,5 @@
 -- Activity: document 003, section 2, from "p-active" to Proposition 5 and Corollary 3.
--- The words in front are ends: they stand in a relation word, not at its front. Every Z is one, and so is every mark of a comparison.
+-- The words in front are ends: they stand in a relation word, not at its prefix. Every Z is one, and so is every mark of a comparison.
 use Prim.Native.Nat.{ℕ, suc, _+_, _-_, _≤_, _<_}
 use mathlib.Core.Bool.{Bool, true, false}
 use mathlib.Core.List.{List, [], _++_, append-assoc, append-cancel-left}
@@ -14,23 +14,23 @@ use Rattle.words.proofs.Segments.{Same, same-sym, same-via}
 use Rattle.overlap.specs.Pieces.{word}
 use Rattle.overlap.specs.Cuts.{len, xlen, xylen, zOf}
 use Rattle.congruence.specs.Rows.{active}
-use Rattle.congruence.proofs.Heads.{Facts, Front}
+use Rattle.congruence.proofs.Heads.{Facts, Prefix}
 use Rattle.congruence.proofs.RowTests.{same-take, active-found, active-none}
 use Rattle.congruence.proofs.Places.{same-left, same-right}
 use Rattle.congruence.proofs.Chains.{Chain, chain-behind, chain-from, chain-to}
 use Rattle.congruence.proofs.Strips.{Stripped, strip-quiet}
 
--- z is empty, or stands in a relation word, not at its front
+-- z is empty, or stands in a relation word, not at its prefix
 pub data Ending (B : List Word) (z : Word) : Type 0 where
   nothing : z ≡ [] → Ending B z
   inside : (i c : ℕ) → i < length B → 0 < c → c + length z ≤ len B i → Same z 0 (word B i) c (length z) → Ending B z
 
--- XY of j begins in z t with the last k letters of z, and they are a front of X: t is z-active
+-- XY of j begins in z t with the last k letters of z, and they are a prefix of X: t is z-active
 pub record Hangs (B : List Word) (z t : Word) (j k : ℕ) : Type 0 where
   pub some : 0 < k
   pub short : k ≤ xlen B j
   pub part : k ≤ length z
-  pub at : Front B (z ++ t) (length z - k) j
+  pub at : Prefix B (z ++ t) (length z - k) j
 
 -- words of one length with the same letters
 same-eq : (a b : Word) → length a ≡ length b → Same a 0 b 0 (length a) → a ≡ b
@@ -80,10 +80,10 @@ module _ {B : List Word} where
     ending-z i h = let s = R .some i h in ending-drop i (xylen B i) h (omega arith) (omega arith)
 
     -- an XY that begins in an end has all of Y behind it
-    pub hangs-of-front : {z t : Word} {d j : ℕ} → Ending B z → Front B (z ++ t) d j → d < length z → Hangs B z t j (length z - d)
-    hangs-of-front {z} {t} {d} {j} (nothing e) f l = let y = ap length e in absurd (omega arith)
-    hangs-of-front {z} {t} {d} {j} (inside i c h p m s) f l = by-cases (decLe (length z - d) (xlen B j))
-        (λ a. record { some = omega arith; short = a; part = omega arith; at = subst (λ (n : ℕ). Front B (z ++ t) n j) (omega arith) f })
+    pub hangs-of-prefix : {z t : Word} {d j : ℕ} → Ending B z → Prefix B (z ++ t) d j → d < length z → Hangs B z t j (length z - d)
+    hangs-of-prefix {z} {t} {d} {j} (nothing e) f l = let y = ap length e in absurd (omega arith)
+    hangs-of-prefix {z} {t} {d} {j} (inside i c h p m s) f l = by-cases (decLe (length z - d) (xlen B j))
+        (λ a. record { some = omega arith; short = a; part = omega arith; at = subst (λ (n : ℕ). Prefix B (z ++ t) n j) (omega arith) f })
         (λ a.
         let y : Same (word B j) 0 z d (suc (xlen B j)) = let g = f .long in same-via (f .same) (same-left z t) (omega arith) in
         let g = f .long in
@@ -110,11 +110,11 @@ module _ {B : List Word} where
             (r .0, omega (arith, r .1))
 
     -- t is z-active or not
-    pub hangs-or-quiet : {z : Word} → Ending B z → (t : Word) → ((j : ℕ) × (k : ℕ) × Hangs B z t j k) ⊎ ((d j : ℕ) → d < length z → Front B (z ++ t) d j → ⊥)
+    pub hangs-or-quiet : {z : Word} → Ending B z → (t : Word) → ((j : ℕ) × (k : ℕ) × Hangs B z t j k) ⊎ ((d j : ℕ) → d < length z → Prefix B (z ++ t) d j → ⊥)
     hangs-or-quiet {z} n t = go (active B z t) refl
       where
-        go : (b : Bool) → active B z t ≡ b → ((j : ℕ) × (k : ℕ) × Hangs B z t j k) ⊎ ((d j : ℕ) → d < length z → Front B (z ++ t) d j → ⊥)
-        go true e = let f = active-found R z t e in inl (f .1, length z - f .0, hangs-of-front n (f .3) (f .2))
+        go : (b : Bool) → active B z t ≡ b → ((j : ℕ) × (k : ℕ) × Hangs B z t j k) ⊎ ((d j : ℕ) → d < length z → Prefix B (z ++ t) d j → ⊥)
+        go true e = let f = active-found R z t e in inl (f .1, length z - f .0, hangs-of-prefix n (f .3) (f .2))
         go false e = inr (active-none R z t e)
 
     module _ {fam : ℕ → ℕ} where
@@ -125,13 +125,13 @@ module _ {B : List Word} where
           let long = simp length-append at (ap length q) in
           strip-quiet R b (e ++ t)
           (λ d i y f.
-          let o = hangs-one (hangs-of-front n (subst (λ (w : Word). Front B w d i) (sym same) f) (omega arith)) h in
+          let o = hangs-one (hangs-of-prefix n (subst (λ (w : Word). Prefix B w d i) (sym same) f) (omega arith)) h in
           absurd (omega (arith, o .1)))
           (chain-from (sym same) c)
 
-      -- a common front may be changed for one for which the rest is active (Corollary 3)
-      pub swap-fronts : {z z′ t : Word} {j k : ℕ} (t′ : Word) → Ending B z → Ending B z′ → Hangs B z′ t j k → Chain B fam (z ++ t) (z ++ t′) → Chain B fam (z′ ++ t) (z′ ++ t′)
-      swap-fronts {z} {z′} {t} {j} {k} t′ n n′ h c = ⊎-elim
+      -- a common prefix may be changed for one for which the rest is active (Corollary 3)
+      pub swap-prefixes : {z z′ t : Word} {j k : ℕ} (t′ : Word) → Ending B z → Ending B z′ → Hangs B z′ t j k → Chain B fam (z ++ t) (z ++ t′) → Chain B fam (z′ ++ t) (z′ ++ t′)
+      swap-prefixes {z} {z′} {t} {j} {k} t′ n n′ h c = ⊎-elim
           (λ g. hanging (let o = hangs-one (g .2) h in subst₂ (Hangs B z t) (o .0) (o .1) (g .2)))
           (λ q. let s = strip-quiet R z t q c in chain-behind z′ (chain-to (s .chain) (append-cancel-left z (s .rest) t′ (sym (s .product)))))
           (hangs-or-quiet n t)
@@ -149,6 +149,6 @@ module _ {B : List Word} where
                   chain-from (ap (_++ t) (y .1) ∙ append-assoc (y .0) (take k (word B j)) t)
                   (chain-to d (sym (ap (_++ t′) (y .1) ∙ append-assoc (y .0) (take k (word B j)) t′)))
 
-      -- a word that loses its front z under a chain has a z-active rest (Proposition 4)
+      -- a word that loses its prefix z under a chain has a z-active rest (Proposition 4)
       pub hangs-of-unlike : {z t s : Word} → Ending B z → Chain B fam (z ++ t) s → ((r : Word) → s ≡ z ++ r → ⊥) → (j : ℕ) × (k : ℕ) × Hangs B z t j k
       hangs-of-unlike {z} {t} {s} n c unlike = ⊎-elim (λ h. h) (λ q. let r = strip-quiet R z t q c in absurd (unlike (r .rest) (r .product))) (hangs-or-quiet n t)

@@ -7,7 +7,7 @@ use native.Mathlib.Omega.{arith}
 use lib.ListN.{length}
 use Rattle.words.specs.Words.{Word}
 use Rattle.words.proofs.Relations.{Even}
-use Rattle.overlap.specs.Cuts.{kOf}
+use Rattle.overlap.specs.Cuts.{longestSuffixPiece}
 use Rattle.congruence.specs.Rows.{Next, round}
 use Rattle.congruence.specs.Rows.Next.{end, go}
 use Rattle.congruence.specs.Rounds.{Rounds}
@@ -69,8 +69,8 @@ pub record RoundsOf (B : List Word) (u v : Word) : Type 0 where
   pub count : ℕ
   pub same : Bool
   pub rounds : Rounds B u v [] count same
-  pub first : count ≤ (kOf B + 1) * length u
-  pub second : count ≤ (kOf B + 1) * length v
+  pub first : count ≤ (longestSuffixPiece B + 1) * length u
+  pub second : count ≤ (longestSuffixPiece B + 1) * length v
 
 pub rounds-exist : (B : List Word) → Facts B → Even B → (u v : Word) → RoundsOf B u v
 unfolding held-start tailed-whole
@@ -82,8 +82,8 @@ rounds-exist B c e u v =
       count = r .count;
       same = r .same;
       rounds = r .rounds;
-      first = weight-whole (kOf B) (length u) (r .count) (r .first);
-      second = weight-whole (kOf B) (length v) (r .count) (r .second);
+      first = weight-whole (longestSuffixPiece B) (length u) (r .count) (r .first);
+      second = weight-whole (longestSuffixPiece B) (length v) (r .count) (r .second);
     }
   where
     weight-whole : (k l n : ℕ) → n ≤ 0 + (k + 1) * (l - 0) → n ≤ (k + 1) * l
@@ -91,12 +91,12 @@ rounds-exist B c e u v =
 
 -- any count of the rounds of two words is bounded by either word
 pub rounds-within : (B : List Word) → Facts B → Even B → (u v : Word) (n : ℕ) (b : Bool) → Rounds B u v [] n b
-    → (n ≤ (kOf B + 1) * length u) × (n ≤ (kOf B + 1) * length v)
+    → (n ≤ (longestSuffixPiece B + 1) * length u) × (n ≤ (longestSuffixPiece B + 1) * length v)
 rounds-within B c e u v n b r =
     let x = rounds-exist B c e u v in
     let q = sym (rounds-unique r (x .rounds) .0) in
-    (subst (λ m. m ≤ (kOf B + 1) * length u) q (x .first), subst (λ m. m ≤ (kOf B + 1) * length v) q (x .second))
+    (subst (λ m. m ≤ (longestSuffixPiece B + 1) * length u) q (x .first), subst (λ m. m ≤ (longestSuffixPiece B + 1) * length v) q (x .second))
 
 -- the bound of document 003, Lemma 6
-pub rounds-at-most : (B : List Word) → Facts B → Even B → (u v : Word) (n : ℕ) (b : Bool) → Rounds B u v [] n b → n ≤ (kOf B + 2) * length u
+pub rounds-at-most : (B : List Word) → Facts B → Even B → (u v : Word) (n : ℕ) (b : Bool) → Rounds B u v [] n b → n ≤ (longestSuffixPiece B + 2) * length u
 rounds-at-most B c e u v n b r = let m = rounds-within B c e u v n b r .0 in omega arith

@@ -69,7 +69,7 @@ module _ {B : List Word} {fam : ℕ → ℕ} where
   chain-inside a b stop = stop
   chain-inside a b (step s c) = step (step-inside a b s) (chain-inside a b c)
 
-  -- a chain behind a front
+  -- a chain behind a prefix
   pub chain-behind : (a : Word) {u v : Word} → Chain B fam u v → Chain B fam (a ++ u) (a ++ v)
   chain-behind a {u} {v} c = subst₂ (λ (x y : Word). Chain B fam (a ++ x) (a ++ y)) (append-nil u) (append-nil v) (chain-inside a [] c)
 

@@ -10,7 +10,7 @@ use lib.ListN.{length}
 use Rattle.words.specs.Words.{Word}
 use Rattle.words.proofs.Segments.{Same, same-sym, same-sub}
 use Rattle.overlap.specs.Cuts.{xlen, xylen}
-use Rattle.congruence.proofs.Heads.{Facts, Head, Front, Whole, Clean, head-shorter, head-move, one-word, reach, behind, clear}
+use Rattle.congruence.proofs.Heads.{Facts, Head, Prefix, Whole, Clean, head-shorter, head-move, one-word, reach, behind, clear}
 use Rattle.congruence.proofs.RowTests.{clean-or-crowded}
 
 -- a head, X and one letter, begins inside XY of k at d and ends before p
@@ -23,14 +23,14 @@ pub record Marked (B : List Word) (u : Word) (d k p : ℕ) : Type 0 where
   pub at : Head B u place by (suc (xlen B by))
 
 pub record Guard (B : List Word) (u : Word) (p : ℕ) : Type 0 where
-  pub mark : (d k : ℕ) → Front B u d k → d + xylen B k ≤ p → Marked B u d k p
+  pub mark : (d k : ℕ) → Prefix B u d k → d + xylen B k ≤ p → Marked B u d k p
 
 module _ {B : List Word} where
   -- words that agree before p are guarded there together
   pub guard-move : {u v : Word} {p : ℕ} → Guard B u p → Same u 0 v 0 p → (p ≤ length u) × (p ≤ length v) → Guard B v p
   guard-move {u} {v} {p} g s h = record { mark = mark′ }
     where
-      mark′ : (d k : ℕ) → Front B v d k → d + xylen B k ≤ p → Marked B v d k p
+      mark′ : (d k : ℕ) → Prefix B v d k → d + xylen B k ≤ p → Marked B v d k p
       mark′ d k f l =
           let m = g .mark d k (head-move f (same-sub (same-sym s) (omega arith)) (omega arith)) l in
           let w = m .within in
@@ -53,11 +53,11 @@ module _ {B : List Word} where
         absurd (omega (arith, m .inside)))
         (λ a. let c = clear R w h l in absurd (omega arith))
 
-    -- the first clean front is guarded (Proposition 2)
+    -- the first clean relation prefix is guarded (Proposition 2)
     pub guard-of-first : {u : Word} {p i : ℕ} → Clean B u p i → ((d k : ℕ) → d < p → Clean B u d k → ⊥) → Guard B u p
     guard-of-first {u} {p} {i} h first = record { mark = mark′ }
       where
-        mark′ : (d k : ℕ) → Front B u d k → d + xylen B k ≤ p → Marked B u d k p
+        mark′ : (d k : ℕ) → Prefix B u d k → d + xylen B k ≤ p → Marked B u d k p
         mark′ d k f l = ⊎-elim
             (λ c. absurd (first d k (let s = R .some k (f .there) in omega arith) c))
             (λ x.
@@ -73,12 +73,12 @@ module _ {B : List Word} where
             })
             (clean-or-crowded R f)
 
-    -- a guard goes on to a relation word behind XY, where a front that begins inside XY reaches past the relation word's beginning
-    pub guard-further : {u : Word} {p i q j b l : ℕ} → Guard B u p → Front B u p i → Front B u q j → (p < q) × (q < p + xylen B i) → Whole B u b l → p + xylen B i ≤ b
-        → ((d k : ℕ) → p < d → d < p + xylen B i → Front B u d k → b < d + xylen B k) → Guard B u b
+    -- a guard goes on to a relation word behind XY, where a prefix that begins inside XY reaches past the relation word's beginning
+    pub guard-further : {u : Word} {p i q j b l : ℕ} → Guard B u p → Prefix B u p i → Prefix B u q j → (p < q) × (q < p + xylen B i) → Whole B u b l → p + xylen B i ≤ b
+        → ((d k : ℕ) → p < d → d < p + xylen B i → Prefix B u d k → b < d + xylen B k) → Guard B u b
     guard-further {u} {p} {i} {q} {j} {b} {l} g f x c w h past = record { mark = mark′ }
       where
-        mark′ : (d k : ℕ) → Front B u d k → d + xylen B k ≤ b → Marked B u d k b
+        mark′ : (d k : ℕ) → Prefix B u d k → d + xylen B k ≤ b → Marked B u d k b
         mark′ d k e m = by-cases (decLt d p)
             (λ a. by-cases (decLe (d + xylen B k) p)
             (λ y.

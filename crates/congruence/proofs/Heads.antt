@@ -1,4 +1,4 @@
--- Where the relation words' fronts can stand in a word: document 003, section 2, the remarks on relation prefixes before Proposition 1.
+-- Where the relation words' prefixes can stand in a word: document 003, section 2, the remarks on relation prefixes before Proposition 1.
 -- A head of relation word i is a prefix of it that is longer than X; XY is a head, and so is the whole word.
 use Prim.Native.Nat.{ℕ, suc, _+_, _-_, _≤_, _<_}
 use mathlib.Core.List.{List}
@@ -26,8 +26,8 @@ pub record Head (B : List Word) (u : Word) (p i n : ℕ) : Type 0 where
   pub same : Same (word B i) 0 u p n
 
 -- XY of relation word i stands in u at p (document 003: a relation prefix, up to what precedes it)
-abbrev pub Front : List Word → Word → ℕ → ℕ → Type 0
-Front B u p i = Head B u p i (xylen B i)
+abbrev pub Prefix : List Word → Word → ℕ → ℕ → Type 0
+Prefix B u p i = Head B u p i (xylen B i)
 
 -- the relation word i stands in u at p
 abbrev pub Whole : List Word → Word → ℕ → ℕ → Type 0
@@ -35,8 +35,8 @@ Whole B u p i = Head B u p i (len B i)
 
 -- XY of i stands in u at p, and no other XY begins inside it (document 003: a clean relation prefix)
 pub record Clean (B : List Word) (u : Word) (p i : ℕ) : Type 0 where
-  pub at : Front B u p i
-  pub only : (q j : ℕ) → p < q → q < p + xylen B i → Front B u q j → ⊥
+  pub at : Prefix B u p i
+  pub only : (q j : ℕ) → p < q → q < p + xylen B i → Prefix B u q j → ⊥
 
 module _ {B : List Word} where
   -- a shorter head at the same place
@@ -73,7 +73,7 @@ module _ {B : List Word} where
         absurd (omega (arith, r .1)))
 
     -- behind the beginning of XY the next head begins only behind X: Y is in no other place
-    pub behind : {u : Word} {p i q j m : ℕ} → Front B u p i → Head B u q j m → p < q → p + xlen B i < q
+    pub behind : {u : Word} {p i q j m : ℕ} → Prefix B u p i → Head B u q j m → p < q → p + xlen B i < q
     behind {u} {p} {i} {q} {j} {m} g h l = by-cases (decLt (p + xlen B i) q) (λ a. a) (λ a.
         let c = reach g h l in
         let hl = h .long in
@@ -96,9 +96,9 @@ module _ {B : List Word} where
         absurd (omega (arith, r .1)))
 
     -- XY of a whole relation word
-    pub front-of-whole : {u : Word} {p i : ℕ} → Whole B u p i → Front B u p i
-    front-of-whole {u} {p} {i} h = let a = R .some i (h .there) in head-shorter h (xylen B i) (omega arith)
+    pub prefix-of-whole : {u : Word} {p i : ℕ} → Whole B u p i → Prefix B u p i
+    prefix-of-whole {u} {p} {i} h = let a = R .some i (h .there) in head-shorter h (xylen B i) (omega arith)
 
     -- and it is clean (document 003, Lemma 1)
     pub clean-of-whole : {u : Word} {p i : ℕ} → Whole B u p i → Clean B u p i
-    clean-of-whole h = record { at = front-of-whole h; only = λ q j a b f. let c = clear h f a in absurd (omega arith) }
+    clean-of-whole h = record { at = prefix-of-whole h; only = λ q j a b f. let c = clear h f a in absurd (omega arith) }

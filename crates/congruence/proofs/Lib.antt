@@ -7,13 +7,13 @@ pub mod Tracks
 pub mod Strips
 pub mod Activity
 pub mod Merges
-pub mod CleanFronts
-pub mod PossibleFronts
-pub mod CommonEnds
+pub mod CleanPrefixes
+pub mod PossiblePrefixes
+pub mod CommonSuffixes
 pub mod Sides
 pub mod RowsRight
 pub mod RoundRight
-pub mod ShapeQuiet
+pub mod ShapeNoPrefix
 pub mod ShapeRows
 pub mod Shape
 pub mod Bound

@@ -8,15 +8,15 @@ use lib.ListN.{length}
 use Rattle.words.specs.Words.{Word}
 use Rattle.overlap.specs.Pieces.{word}
 use Rattle.overlap.specs.Cuts.{xyOf, zOf}
-use Rattle.congruence.proofs.Heads.{Facts, Front, Clean, one-word}
-use Rattle.congruence.proofs.Places.{split-same, xy-z, front-in-product}
+use Rattle.congruence.proofs.Heads.{Facts, Prefix, Clean, one-word}
+use Rattle.congruence.proofs.Places.{split-same, xy-z, prefix-in-product}
 use Rattle.congruence.proofs.Chains.{Kin, Chain, kin-refl, kin-sym, kin-trans, chain-join, chain-sym, chain-behind, chain-from, chain-to, chain-turn}
 use Rattle.congruence.proofs.Chains.Chain.{stop}
 use Rattle.congruence.proofs.Guards.{Guard}
 use Rattle.congruence.proofs.Tracks.{Track, kept}
 use Rattle.congruence.proofs.Tracks.Track.{quit, turn}
 use Rattle.congruence.proofs.Strips.{strip-quiet}
-use Rattle.congruence.proofs.Activity.{Hangs, ending-z, hangs-or-quiet, swap-fronts, hangs-of-unlike}
+use Rattle.congruence.proofs.Activity.{Hangs, ending-z, hangs-or-quiet, swap-prefixes, hangs-of-unlike}
 
 -- behind Z of some member of i's family t and t′ are congruent
 pub record Meets (B : List Word) (fam : ℕ → ℕ) (i : ℕ) (t t′ : Word) : Type 0 where
@@ -56,9 +56,9 @@ Unlike z s = (r : Word) → s ≡ z ++ r → ⊥
 
 module _ {B : List Word} (R : Facts B) where
   -- XY in front names its relation word and the rest
-  pub front-fixed : (i j : ℕ) (s t : Word) → i < length B → j < length B → xyOf B i ++ s ≡ xyOf B j ++ t → (i ≡ j) × (s ≡ t)
-  front-fixed i j s t h l e =
-      let n : i ≡ j = one-word R (front-in-product R [] s i h) (subst (λ (w : Word). Front B w 0 j) (sym e) (front-in-product R [] t j l)) in
+  pub prefix-fixed : (i j : ℕ) (s t : Word) → i < length B → j < length B → xyOf B i ++ s ≡ xyOf B j ++ t → (i ≡ j) × (s ≡ t)
+  prefix-fixed i j s t h l e =
+      let n : i ≡ j = one-word R (prefix-in-product R [] s i h) (subst (λ (w : Word). Prefix B w 0 j) (sym e) (prefix-in-product R [] t j l)) in
       (n, split-same (xyOf B i) (xyOf B j) s t e (ap (λ (m : ℕ). length (xyOf B m)) n) .1)
 
   -- the beginning of a word is guarded
@@ -77,10 +77,10 @@ module _ {B : List Word} (R : Facts B) {fam : ℕ → ℕ} where
 
   -- the member may be any for which t is active
   pub chain-of-active : {i c : ℕ} {t t′ : Word} {j k : ℕ} → Meets B fam i t t′ → Kin B fam i c → Hangs B (zOf B c) t j k → Chain B fam (zOf B c ++ t) (zOf B c ++ t′)
-  chain-of-active {i} {c} {t} {t′} m k h = swap-fronts R t′ (ending-z R (m .by) (m .kin .there)) (ending-z R c (k .there)) h (m .chain)
+  chain-of-active {i} {c} {t} {t′} m k h = swap-prefixes R t′ (ending-z R (m .by) (m .kin .there)) (ending-z R c (k .there)) h (m .chain)
 
   -- where t is active for no member, t and t′ are congruent themselves
-  pub chain-of-quiet : {i : ℕ} {t t′ : Word} → Meets B fam i t t′ → ((c : ℕ) → Kin B fam i c → (d j : ℕ) → d < length (zOf B c) → Front B (zOf B c ++ t) d j → ⊥) → Chain B fam t t′
+  pub chain-of-quiet : {i : ℕ} {t t′ : Word} → Meets B fam i t t′ → ((c : ℕ) → Kin B fam i c → (d j : ℕ) → d < length (zOf B c) → Prefix B (zOf B c ++ t) d j → ⊥) → Chain B fam t t′
   chain-of-quiet {i} {t} {t′} m q =
       let s = strip-quiet R (zOf B (m .by)) t (q (m .by) (m .kin)) (m .chain) in
       chain-to (s .chain) (append-cancel-left (zOf B (m .by)) (s .rest) t′ (sym (s .product)))
@@ -145,11 +145,11 @@ module _ {B : List Word} (R : Facts B) {fam : ℕ → ℕ} where
       let k = kept R c [] i s refl (guard-zero R (xyOf B i ++ s)) h in
       record { into = k .into; rest = k .rest; kin = k .kin; product = k .product; how = plain-or-turned (k .track) }
 
-  pub reached-front : {i j : ℕ} {s t : Word} → Clean B (xyOf B i ++ s) 0 i → j < length B → Chain B fam (xyOf B i ++ s) (xyOf B j ++ t)
+  pub reached-prefix : {i j : ℕ} {s t : Word} → Clean B (xyOf B i ++ s) 0 i → j < length B → Chain B fam (xyOf B i ++ s) (xyOf B j ++ t)
       → Kin B fam i j × (Plain B fam i s j t ⊎ Turned B fam i s j t)
-  reached-front {i} {j} {s} {t} h l c =
+  reached-prefix {i} {j} {s} {t} h l c =
       let r = reached h c in
-      let e = front-fixed R j (r .into) t (r .rest) l (r .kin .there) (r .product) in (
+      let e = prefix-fixed R j (r .into) t (r .rest) l (r .kin .there) (r .product) in (
         subst (Kin B fam i) (sym (e .0)) (r .kin),
         subst₂ (λ (n : ℕ) (w : Word). Plain B fam i s n w ⊎ Turned B fam i s n w) (sym (e .0)) (sym (e .1)) (r .how),
       )

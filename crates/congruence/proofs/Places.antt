@@ -9,13 +9,13 @@ use lib.ListN.{length, getD, take, drop, length-append, take-append-drop, List·
 use lib.Seq.{getD-append-add, length-take-le, take-length}
 use Rattle.words.specs.Words.{Word}
 use Rattle.words.proofs.Segments.{Same, same-sym, same-via}
-use Rattle.words.proofs.Fronts.{front-split}
+use Rattle.words.proofs.Prefixes.{prefix-split}
 use Rattle.overlap.specs.Pieces.{word}
 use Rattle.overlap.specs.Cuts.{len, xlen, xylen, xyOf, zOf}
-use Rattle.congruence.proofs.Heads.{Facts, Head, Front, Whole}
+use Rattle.congruence.proofs.Heads.{Facts, Head, Prefix, Whole}
 use Rattle.congruence.proofs.RowTests.{same-take, test-of-head}
 
--- of two fronts of a word the shorter is a front of the longer
+-- of two prefixes of a word the shorter is a prefix of the longer
 pub split-longer : (a b x y : Word) → a ++ x ≡ b ++ y → length b ≤ length a → (m : Word) × (a ≡ b ++ m) × (y ≡ m ++ x)
 split-longer a [] x y e h = (a, refl, sym e)
 split-longer [] (c ∷ b) x y e h = absurd (omega arith)
@@ -23,7 +23,7 @@ split-longer (d ∷ a) (c ∷ b) x y e h =
     let r = split-longer a b x y (tail-eq-of-cons-eq e) (omega arith) in
     (r .0, ap (_∷ a) (head-eq-of-cons-eq e) ∙ ap (c ∷_) (r .1), r .2)
 
--- two fronts of one length are equal, and so are the rests
+-- two prefixes of one length are equal, and so are the rests
 pub split-same : (a b x y : Word) → a ++ x ≡ b ++ y → length a ≡ length b → (a ≡ b) × (x ≡ y)
 split-same [] [] x y e h = (refl, e)
 split-same [] (c ∷ b) x y e h = absurd (omega arith)
@@ -69,15 +69,15 @@ module _ {B : List Word} where
       }
 
   -- XY at a place, as a factor
-  pub product-of-front : {u : Word} {p i : ℕ} → Front B u p i → (w : Word) × (s : Word) × (u ≡ w ++ (xyOf B i ++ s)) × (length w ≡ p)
-  product-of-front {u} {p} {i} h =
+  pub product-of-prefix : {u : Word} {p i : ℕ} → Prefix B u p i → (w : Word) × (s : Word) × (u ≡ w ++ (xyOf B i ++ s)) × (length w ≡ p)
+  product-of-prefix {u} {p} {i} h =
       let c = cut-at u p (let f = h .fits in omega arith) in
-      let e = front-split (xyOf B i) (drop p u) (test-of-head h) in
+      let e = prefix-split (xyOf B i) (drop p u) (test-of-head h) in
       (c .0, drop (length (xyOf B i)) (drop p u), c .2 ∙ ap (c .0 ++_) (c .4 ∙ sym e), c .3)
 
   module _ (R : Facts B) where
-    pub front-in-product : (a t : Word) (i : ℕ) → i < length B → Front B (a ++ (xyOf B i ++ t)) (length a) i
-    front-in-product a t i h = let s = R .some i h in head-in-product a t i (xylen B i) (omega arith)
+    pub prefix-in-product : (a t : Word) (i : ℕ) → i < length B → Prefix B (a ++ (xyOf B i ++ t)) (length a) i
+    prefix-in-product a t i h = let s = R .some i h in head-in-product a t i (xylen B i) (omega arith)
 
     pub whole-in-product : (a t : Word) (i : ℕ) → i < length B → Whole B (a ++ (word B i ++ t)) (length a) i
     whole-in-product a t i h =

@@ -13,22 +13,22 @@ use Rattle.words.specs.Words.{Word}
 use Rattle.words.proofs.Relations.{Even}
 use Rattle.congruence.specs.Congruence.{Congruent}
 use Rattle.congruence.specs.Congruence.Congruent.{done}
-use Rattle.congruence.specs.Rows.{Next, cleanFront, dropFirst, fromFront, round}
+use Rattle.congruence.specs.Rows.{Next, cleanRelationPrefix, dropFirst, fromPrefix, round}
 use Rattle.congruence.specs.Rows.Next.{end, go}
 use Rattle.congruence.specs.Rounds.{Rounds}
 use Rattle.congruence.specs.Rounds.Rounds.{ended, goes}
 use Rattle.congruence.proofs.Heads.{Facts, Clean}
-use Rattle.congruence.proofs.RowTests.{by-choose, cleanFront-clean, cleanFront-none}
+use Rattle.congruence.proofs.RowTests.{by-choose, cleanRelationPrefix-clean, cleanRelationPrefix-none}
 use Rattle.congruence.proofs.Chains.{chain-sym}
 use Rattle.congruence.proofs.Chains.Chain.{stop}
 use Rattle.congruence.proofs.Activity.{Ending, ending-rest}
 use Rattle.congruence.proofs.Activity.Ending.{nothing}
-use Rattle.congruence.proofs.CleanFronts.{PossibleFront}
-use Rattle.congruence.proofs.PossibleFronts.{possible-nothing, chain-of-rests, possible-of-rests, empty-stays}
+use Rattle.congruence.proofs.CleanPrefixes.{PossiblePrefix}
+use Rattle.congruence.proofs.PossiblePrefixes.{possible-nothing, chain-of-rests, possible-of-rests, empty-stays}
 use Rattle.congruence.proofs.Sides.{half, chain-of-congruent, congruent-of-chain}
 use Rattle.congruence.proofs.RowsRight.{Both, Says, row3-says}
 
--- p is a possible front of u (document 003: a possible prefix): p w is congruent to u for some word w
+-- p is a possible prefix of u (document 003: a possible prefix): p w is congruent to u for some word w
 pub record Possible (B : List Word) (p u : Word) : Type 0 where
   pub rest : Word
   pub congruent : Congruent B (p ++ rest) u
@@ -37,13 +37,13 @@ pub record Possible (B : List Word) (p u : Word) : Type 0 where
 abbrev pub Right : List Word → Word → Word → Word → Type 0
 Right B u v p = Congruent B u v × Possible B p u
 
--- a mark of a comparison: empty, or it stands in a relation word, not at its front
+-- a mark of a comparison: empty, or it stands in a relation word, not at its prefix
 abbrev pub Mark : List Word → Word → Type 0
 Mark B p = Ending B p
 
 module _ {B : List Word} (even : Even B) where
-  -- a possible front, over relations and over families of two
-  pub possible-iff : (p u : Word) → Possible B p u ↔ PossibleFront B half p u
+  -- a possible prefix, over relations and over families of two
+  pub possible-iff : (p u : Word) → Possible B p u ↔ PossiblePrefix B half p u
   possible-iff p u =
       ((λ x. record { rest = x .rest; chain = chain-of-congruent even (x .congruent) }), (λ x. record { rest = x .rest; congruent = congruent-of-chain (x .chain) }))
 
@@ -52,7 +52,7 @@ module _ {B : List Word} (even : Even B) where
       ((λ r. (chain-of-congruent even (r .0), possible-iff p u .0 (r .1))), (λ r. (congruent-of-chain (r .0), possible-iff p u .1 (r .1))))
 
 module _ {B : List Word} (R : Facts B) (even : Even B) where
-  -- row 2: no clean front, so the first letter stays
+  -- row 2: no clean relation prefix, so the first letter stays
   drop-says : (x y : ℕ) (u v p : Word) → Ending B p → ((i : ℕ) → Clean B (x ∷ u) 0 i → ⊥) → Says B (x ∷ u) (y ∷ v) p (dropFirst (x ∷ u) (y ∷ v) p)
   unfolding dropFirst
   drop-says x y u v [] n none = by-choose (Says B (x ∷ u) (y ∷ v) []) (eqb x y && true) _ _
@@ -84,16 +84,16 @@ module _ {B : List Word} (R : Facts B) (even : Even B) where
 
   -- the first row that fits; row 1 where a word is empty
   round-says : (u v p : Word) → Ending B p → Says B u v p (round B u v p)
-  unfolding round fromFront
+  unfolding round fromPrefix
   round-says [] [] [] n = (stop, possible-nothing [])
   round-says [] [] (w ∷ p) n = λ c. cons≢nil (empty-stays R (chain-sym (c .1 .chain)))
   round-says [] (y ∷ v) p n = λ c. cons≢nil (empty-stays R (c .0))
   round-says (x ∷ u) [] p n = λ c. cons≢nil (empty-stays R (chain-sym (c .0)))
-  round-says (x ∷ u) (y ∷ v) p n = by-choose (Says B (x ∷ u) (y ∷ v) p) (ltb (cleanFront B (x ∷ u)) (length B)) _ _
-      (λ q. row3-says R even (cleanFront B (x ∷ u)) (x ∷ u) (y ∷ v) p n (cleanFront-clean R (x ∷ u) (ltb-true (cleanFront B (x ∷ u)) (length B) q)))
+  round-says (x ∷ u) (y ∷ v) p n = by-choose (Says B (x ∷ u) (y ∷ v) p) (ltb (cleanRelationPrefix B (x ∷ u)) (length B)) _ _
+      (λ q. row3-says R even (cleanRelationPrefix B (x ∷ u)) (x ∷ u) (y ∷ v) p n (cleanRelationPrefix-clean R (x ∷ u) (ltb-true (cleanRelationPrefix B (x ∷ u)) (length B) q)))
       (λ q.
-      let l = ltb-false (cleanFront B (x ∷ u)) (length B) q in
-      drop-says x y u v p n (cleanFront-none R (x ∷ u) (λ a. absurd (omega arith))))
+      let l = ltb-false (cleanRelationPrefix B (x ∷ u)) (length B) q in
+      drop-says x y u v p n (cleanRelationPrefix-none R (x ∷ u) (λ a. absurd (omega arith))))
 
   -- a round gives the answer, or keeps it; and the next mark is a mark
   pub round-right : (u v p : Word) → Mark B p

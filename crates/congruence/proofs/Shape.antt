@@ -10,14 +10,14 @@ use native.Mathlib.Nat.{mul-le-mul-left, zero-sub}
 use native.Mathlib.Decide.{ℕ-discrete}
 use lib.ListN.{length, drop, length-append, length-drop}
 use lib.Seq.{drop-nil, drop-drop, drop-append-add}
-use Rattle.words.specs.Words.{Word, front}
+use Rattle.words.specs.Words.{Word, isPrefix}
 use Rattle.words.proofs.Relations.{Even}
-use Rattle.overlap.specs.Cuts.{xyOf, kOf}
+use Rattle.overlap.specs.Cuts.{xyOf, longestSuffixPiece}
 use Rattle.congruence.specs.Rows.{round}
 use Rattle.congruence.specs.Rows.Next.{go}
 use Rattle.congruence.proofs.Heads.{Facts}
-use Rattle.congruence.proofs.ShapeQuiet.{TailEnd, tail-drop, quiet-tail, tail-at-most, front-past-quiet}
-use Rattle.congruence.proofs.ShapeQuiet.TailEnd.{void}
+use Rattle.congruence.proofs.ShapeNoPrefix.{TailEnd, tail-drop, quiet-tail, tail-at-most, prefix-past-quiet}
+use Rattle.congruence.proofs.ShapeNoPrefix.TailEnd.{void}
 use Rattle.congruence.proofs.ShapeRows.{Recut, Moves, round-moves}
 use Rattle.congruence.proofs.ShapeRows.Moves.{drops, cuts}
 
@@ -31,7 +31,7 @@ pub record Tailed (B : List Word) (u₀ u : Word) : Type 0 where
 
 -- what falls in every round: the letters of the tail, and k + 1 for each letter of the rest
 abbrev pub weight : (B : List Word) (u₀ u : Word) → Tailed B u₀ u → ℕ
-weight B u₀ u t = length (t .tail) + (kOf B + 1) * (length u₀ - t .from)
+weight B u₀ u t = length (t .tail) + (longestSuffixPiece B + 1) * (length u₀ - t .from)
 
 -- the words of a comparison of u₀ and v₀; the mark is not empty only while both tails are empty
 pub record Held (B : List Word) (u₀ v₀ u v p : Word) : Type 0 where
@@ -90,7 +90,7 @@ module _ (B : List Word) (u₀ u u′ : Word) (t : Tailed B u₀ u) where
               within = omega arith;
               made = e ∙ ap (drop 1) (t .made) ∙ drop-both 1 (t .tail) (drop (t .from) u₀) ∙ ap (λ r. drop 1 (t .tail) ++ r) (drop-drop (1 - length (t .tail)) (t .from) u₀);
             };
-        less = let g = weigh-drop (kOf B) (length (t .tail)) (length u₀) (t .from) (omega arith) in omega arith;
+        less = let g = weigh-drop (longestSuffixPiece B) (length (t .tail)) (length u₀) (t .from) (omega arith) in omega arith;
         before = refl;
       }
 
@@ -101,8 +101,8 @@ module _ (B : List Word) (u₀ u u′ : Word) (t : Tailed B u₀ u) where
       let w = t .within in
       let n = r .enough in
       let f = r .fits in
-      let g : front (xyOf B (r .by)) (t .tail ++ drop (t .from) u₀) ≡ true = subst (λ w. front (xyOf B (r .by)) w ≡ true) (t .made) (r .begins) in
-      let p = front-past-quiet B c (t .tail) (drop (t .from) u₀) (r .by) (quiet-tail B c (t .tail) (t .ends)) (r .there) g in
+      let g : isPrefix (xyOf B (r .by)) (t .tail ++ drop (t .from) u₀) ≡ true = subst (λ w. isPrefix (xyOf B (r .by)) w ≡ true) (t .made) (r .begins) in
+      let p = prefix-past-quiet B c (t .tail) (drop (t .from) u₀) (r .by) (quiet-tail B c (t .tail) (t .ends)) (r .there) g in
       let m = r .size - length (t .tail) in
       let e : r .size ≡ length (t .tail) + m = omega arith in
       record {
@@ -116,7 +116,7 @@ module _ (B : List Word) (u₀ u u′ : Word) (t : Tailed B u₀ u) where
             };
         less =
             let k = tail-at-most B z (r .tail) in
-            let q = scale (kOf B) (length u₀ - (t .from + m)) (length u₀ - t .from) (omega arith) in
+            let q = scale (longestSuffixPiece B) (length u₀ - (t .from + m)) (length u₀ - t .from) (omega arith) in
             omega arith;
         before = refl;
       }

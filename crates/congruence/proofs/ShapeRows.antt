@@ -10,27 +10,27 @@ use lib.Dec.{ltb}
 use borrow.Author.Tests.{ltb-true}
 use lib.ListN.{length, take, drop, length-take, length-drop}
 use lib.Seq.{drop-drop, getD-take}
-use Rattle.words.specs.Words.{Word, isEmpty, front, commonEnd}
+use Rattle.words.specs.Words.{Word, isEmpty, isPrefix, commonSuffix}
 use Rattle.words.specs.Relations.{other}
 use Rattle.words.proofs.Tests.{or-second, or-neither}
 use Rattle.words.proofs.Lists.{some-letter}
 use Rattle.words.proofs.Relations.{Even, other-there}
-use Rattle.words.proofs.Fronts.{front-length, front-at, at-front}
+use Rattle.words.proofs.Prefixes.{prefix-length, prefix-at, at-prefix}
 use Rattle.overlap.specs.Pieces.{word}
 use Rattle.overlap.specs.Cuts.{len, xylen, xOf, xyOf, zOf}
 use Rattle.overlap.proofs.Facts.{length-xy}
-use Rattle.congruence.specs.Rows.{Next, choose, clean, cleanFront, active, dropFirst, alike, row3, row4, row5, row6, row7, row8, fromFront, round}
+use Rattle.congruence.specs.Rows.{Next, choose, clean, cleanRelationPrefix, active, dropFirst, alike, row3, row4, row5, row6, row7, row8, fromPrefix, round}
 use Rattle.congruence.specs.Rows.Next.{end, go}
 use Rattle.congruence.proofs.Heads.{Facts}
-use Rattle.congruence.proofs.RowTests.{by-choose, front-of-clean, cleanFront-passes}
-use Rattle.congruence.proofs.ShapeQuiet.{TailEnd, tail-of-z, tail-drop}
-use Rattle.congruence.proofs.ShapeQuiet.TailEnd.{void}
+use Rattle.congruence.proofs.RowTests.{by-choose, prefix-of-clean, cleanRelationPrefix-passes}
+use Rattle.congruence.proofs.ShapeNoPrefix.{TailEnd, tail-of-z, tail-drop}
+use Rattle.congruence.proofs.ShapeNoPrefix.TailEnd.{void}
 
 -- u begins with an X and Y; `size` letters, these among them, are cut from it, and u′ is z, an end of a Z, and what is left
 pub record Recut (B : List Word) (u z u′ : Word) : Type 0 where
   pub by : ℕ
   pub there : by < length B
-  pub begins : front (xyOf B by) u ≡ true
+  pub begins : isPrefix (xyOf B by) u ≡ true
   pub size : ℕ
   pub enough : xylen B by ≤ size
   pub fits : size ≤ length u
@@ -47,22 +47,22 @@ pub data MovesTo (B : List Word) (u v p : Word) : Next → Type 0 where
   ends : {b : Bool} → MovesTo B u v p (end b)
   moves : {u′ v′ p′ : Word} → Moves B u v p u′ v′ p′ → MovesTo B u v p (go u′ v′ p′)
 
--- a front of a front
-pub front-take : (n : ℕ) (a u : Word) → front a u ≡ true → front (take n a) u ≡ true
-front-take n a u e =
-    let l = front-length a u e in
+-- a prefix of a prefix
+pub prefix-take : (n : ℕ) (a u : Word) → isPrefix a u ≡ true → isPrefix (take n a) u ≡ true
+prefix-take n a u e =
+    let l = prefix-length a u e in
     let t = length-take n a in
-    at-front (take n a) u (omega arith) (λ k h. getD-take n a k 0 (omega arith) ∙ front-at a u e k (omega arith))
+    at-prefix (take n a) u (omega arith) (λ k h. getD-take n a k 0 (omega arith) ∙ prefix-at a u e k (omega arith))
 
 module _ (B : List Word) (c : Facts B) where
   -- a word that begins with a whole relation word, cut by it
-  cut-whole : (i : ℕ) (u z : Word) → i < length B → TailEnd B z → front (word B i) u ≡ true → Recut B u z (z ++ drop (len B i) u)
+  cut-whole : (i : ℕ) (u z : Word) → i < length B → TailEnd B z → isPrefix (word B i) u ≡ true → Recut B u z (z ++ drop (len B i) u)
   cut-whole i u z h t e =
-      let l = front-length (word B i) u e in
+      let l = prefix-length (word B i) u e in
       record {
         by = i;
         there = h;
-        begins = front-take (xylen B i) (word B i) u e;
+        begins = prefix-take (xylen B i) (word B i) u e;
         size = len B i;
         enough = c .within i h;
         fits = l;
@@ -71,8 +71,8 @@ module _ (B : List Word) (c : Facts B) where
       }
 
   -- a word that begins with X and Y, cut by these and n letters more
-  cut-front : (i n : ℕ) (u : Word) → i < length B → n + xylen B i ≤ length u → front (xyOf B i) u ≡ true → Recut B u [] (drop n (drop (xylen B i) u))
-  cut-front i n u h f e =
+  cut-prefix : (i n : ℕ) (u : Word) → i < length B → n + xylen B i ≤ length u → isPrefix (xyOf B i) u ≡ true → Recut B u [] (drop n (drop (xylen B i) u))
+  cut-prefix i n u h f e =
       record {
         by = i;
         there = h;
@@ -84,73 +84,73 @@ module _ (B : List Word) (c : Facts B) where
         made = drop-drop n (xylen B i) u;
       }
 
-  cut-xy : (i : ℕ) (u : Word) → i < length B → front (xyOf B i) u ≡ true → Recut B u [] (drop (xylen B i) u)
-  cut-xy i u h e = let l = front-length (xyOf B i) u e in let m = length-xy B i in cut-front i 0 u h (omega arith) e
+  cut-xy : (i : ℕ) (u : Word) → i < length B → isPrefix (xyOf B i) u ≡ true → Recut B u [] (drop (xylen B i) u)
+  cut-xy i u h e = let l = prefix-length (xyOf B i) u e in let m = length-xy B i in cut-prefix i 0 u h (omega arith) e
 
-  fits-front : (i : ℕ) (e u : Word) → i < length B → front (xyOf B i) u ≡ true → front e (drop (xylen B i) u) ≡ true → length e + xylen B i ≤ length u
-  fits-front i e u h f g =
+  fits-prefix : (i : ℕ) (e u : Word) → i < length B → isPrefix (xyOf B i) u ≡ true → isPrefix e (drop (xylen B i) u) ≡ true → length e + xylen B i ≤ length u
+  fits-prefix i e u h f g =
       let l = length-xy B i in
-      let m = front-length (xyOf B i) u f in
-      let k = front-length e (drop (xylen B i) u) g in
+      let m = prefix-length (xyOf B i) u f in
+      let k = prefix-length e (drop (xylen B i) u) g in
       let d = length-drop (xylen B i) u in
       omega arith
 
-  module _ (i j : ℕ) (hi : i < length B) (hj : j < length B) (u v p : Word) (eu : front (xyOf B i) u ≡ true) where
+  module _ (i j : ℕ) (hi : i < length B) (hj : j < length B) (u v p : Word) (eu : isPrefix (xyOf B i) u ≡ true) where
     -- where v begins with X and Y of j
-    module _ (ev : front (xyOf B j) v ≡ true) where
+    module _ (ev : isPrefix (xyOf B j) v ≡ true) where
       row8-moves : MovesTo B u v p (row8 B i j u v p)
       unfolding row8
       row8-moves =
           let s = drop (xylen B i) u in
           let t = drop (xylen B j) v in
-          let l = commonEnd (zOf B i) (zOf B j) in
+          let l = commonSuffix (zOf B i) (zOf B j) in
           let e = take (length (zOf B i) - l) (zOf B i) in
           let f = take (length (zOf B j) - l) (zOf B j) in
-          by-choose (MovesTo B u v p) (front e s && front f t) _ _ (λ h.
+          by-choose (MovesTo B u v p) (isPrefix e s && isPrefix f t) _ _ (λ h.
           let r = simp and-eq-true-iff at h in
-          moves (cuts (cut-front i (length e) u hi (fits-front i e u hi eu (r .0)) eu) (cut-front j (length f) v hj (fits-front j f v hj ev (r .1)) ev)
+          moves (cuts (cut-prefix i (length e) u hi (fits-prefix i e u hi eu (r .0)) eu) (cut-prefix j (length f) v hj (fits-prefix j f v hj ev (r .1)) ev)
           (tail-drop B (zOf B i) (length e) (tail-of-z B i hi)) (inr (refl, refl)))) (λ h. ends)
 
       row7-moves : MovesTo B u v p (row7 B i j u v p)
       unfolding row7
       row7-moves =
-          by-choose (MovesTo B u v p) (front (word B i) u && not (front (zOf B j) (drop (xylen B j) v))) _ _ (λ h.
+          by-choose (MovesTo B u v p) (isPrefix (word B i) u && not (isPrefix (zOf B j) (drop (xylen B j) v))) _ _ (λ h.
           let r = simp and-eq-true-iff at h in
           moves (cuts (cut-whole i u (zOf B j) hi (tail-of-z B j hj) (r .0)) (cut-xy j v hj ev) (void refl) (inl refl))) (λ h. row8-moves)
 
       row6-moves : MovesTo B u v p (row6 B i j u v p)
       unfolding row6
       row6-moves =
-          by-choose (MovesTo B u v p) (not (front (zOf B i) (drop (xylen B i) u)) && front (word B j) v) _ _ (λ h.
+          by-choose (MovesTo B u v p) (not (isPrefix (zOf B i) (drop (xylen B i) u)) && isPrefix (word B j) v) _ _ (λ h.
           let r = simp and-eq-true-iff at h in
           moves (cuts (cut-xy i u hi eu) (cut-whole j v (zOf B i) hj (tail-of-z B i hi) (r .1)) (void refl) (inl refl))) (λ h. row7-moves)
 
     -- the mark of row 5
-    row5-mark : TailEnd B (choose (front p (xOf B i)) (λ _. []) (λ _. zOf B i))
-    row5-mark = by-choose (TailEnd B) (front p (xOf B i)) _ _ (λ h. void refl) (λ h. tail-of-z B i hi)
+    row5-mark : TailEnd B (choose (isPrefix p (xOf B i)) (λ _. []) (λ _. zOf B i))
+    row5-mark = by-choose (TailEnd B) (isPrefix p (xOf B i)) _ _ (λ h. void refl) (λ h. tail-of-z B i hi)
 
-    row5-moves : (front (xyOf B i) v || front (xyOf B j) v) ≡ true → MovesTo B u v p (row5 B i j u v p)
+    row5-moves : (isPrefix (xyOf B i) v || isPrefix (xyOf B j) v) ≡ true → MovesTo B u v p (row5 B i j u v p)
     unfolding row5
     row5-moves ev =
-        by-choose (MovesTo B u v p) (front (xyOf B i) v) _ _
+        by-choose (MovesTo B u v p) (isPrefix (xyOf B i) v) _ _
         (λ h. moves (cuts (cut-xy i u hi eu) (cut-xy i v hi h) row5-mark (inr (refl, refl))))
-        (λ h. row6-moves (or-second (front (xyOf B i) v) (front (xyOf B j) v) ev h))
+        (λ h. row6-moves (or-second (isPrefix (xyOf B i) v) (isPrefix (xyOf B j) v) ev h))
 
     -- row 4's tail, and v behind a whole relation word
     row4-tail : (s : Word) → TailEnd B (choose (active B (zOf B i) s) (λ _. zOf B i) (λ _. zOf B j))
     row4-tail s = by-choose (TailEnd B) (active B (zOf B i) s) _ _ (λ h. tail-of-z B i hi) (λ h. tail-of-z B j hj)
 
-    row4-rest : (z : Word) → TailEnd B z → (front (word B i) v || front (word B j) v) ≡ true
-        → Recut B v z (z ++ choose (front (word B i) v) (λ _. drop (len B i) v) (λ _. drop (len B j) v))
+    row4-rest : (z : Word) → TailEnd B z → (isPrefix (word B i) v || isPrefix (word B j) v) ≡ true
+        → Recut B v z (z ++ choose (isPrefix (word B i) v) (λ _. drop (len B i) v) (λ _. drop (len B j) v))
     row4-rest z t ev =
-        by-choose (λ w. Recut B v z (z ++ w)) (front (word B i) v) _ _
+        by-choose (λ w. Recut B v z (z ++ w)) (isPrefix (word B i) v) _ _
         (λ h. cut-whole i v z hi t h)
-        (λ h. cut-whole j v z hj t (or-second (front (word B i) v) (front (word B j) v) ev h))
+        (λ h. cut-whole j v z hj t (or-second (isPrefix (word B i) v) (isPrefix (word B j) v) ev h))
 
-    row4-moves : (front (xyOf B i) v || front (xyOf B j) v) ≡ true → MovesTo B u v p (row4 B i j u v p)
+    row4-moves : (isPrefix (xyOf B i) v || isPrefix (xyOf B j) v) ≡ true → MovesTo B u v p (row4 B i j u v p)
     unfolding row4
     row4-moves ev =
-        by-choose (MovesTo B u v p) (front (word B i) u && (front (word B i) v || front (word B j) v)) _ _ (λ h.
+        by-choose (MovesTo B u v p) (isPrefix (word B i) u && (isPrefix (word B i) v || isPrefix (word B j) v)) _ _ (λ h.
         let r = simp and-eq-true-iff at h in
         let t = row4-tail (drop (len B i) u) in
         moves (cuts (cut-whole i u _ hi t (r .0)) (row4-rest _ t (r .1)) (void refl) (inl refl))) (λ h. row5-moves ev)
@@ -158,7 +158,7 @@ module _ (B : List Word) (c : Facts B) where
     row3-moves : MovesTo B u v p (row3 B i j u v p)
     unfolding row3
     row3-moves =
-        by-choose (MovesTo B u v p) ((front p (xOf B i) || front p (xOf B j)) && (front (xyOf B i) v || front (xyOf B j) v)) _ _
+        by-choose (MovesTo B u v p) ((isPrefix p (xOf B i) || isPrefix p (xOf B j)) && (isPrefix (xyOf B i) v || isPrefix (xyOf B j) v)) _ _
         (λ h. let r = simp and-eq-true-iff at h in row4-moves (r .1)) (λ h. ends)
 
 -- row 2
@@ -167,11 +167,11 @@ unfolding dropFirst
 drop-moves B u v p hu hv =
     by-choose (MovesTo B u v p) (alike u v && (isEmpty p || alike p u)) _ _ (λ h. moves (drops hu hv refl refl refl)) (λ h. ends)
 
-from-moves : (B : List Word) → Facts B → Even B → (u v p : Word) (i : ℕ) → 0 < length u → 0 < length v → (i < length B → clean B u i ≡ true) → MovesTo B u v p (fromFront B u v p i)
-unfolding fromFront
+from-moves : (B : List Word) → Facts B → Even B → (u v p : Word) (i : ℕ) → 0 < length u → 0 < length v → (i < length B → clean B u i ≡ true) → MovesTo B u v p (fromPrefix B u v p i)
+unfolding fromPrefix
 from-moves B c e u v p i hu hv f =
     by-choose (MovesTo B u v p) (ltb i (length B)) _ _
-    (λ h. let l = ltb-true i (length B) h in row3-moves B c i (other i) l (other-there (length B) i e l) u v p (front-of-clean B u i (f l)))
+    (λ h. let l = ltb-true i (length B) h in row3-moves B c i (other i) l (other-there (length B) i e l) u v p (prefix-of-clean B u i (f l)))
     (λ h. drop-moves B u v p hu hv)
 
 pub round-moves-to : (B : List Word) → Facts B → Even B → (u v p : Word) → MovesTo B u v p (round B u v p)
@@ -179,7 +179,7 @@ unfolding round
 round-moves-to B c e u v p =
     by-choose (MovesTo B u v p) (isEmpty u || isEmpty v) _ _ (λ h. ends) (λ h.
     let n = or-neither (isEmpty u) (isEmpty v) h in
-    from-moves B c e u v p (cleanFront B u) (some-letter u (n .0)) (some-letter v (n .1)) (cleanFront-passes B u))
+    from-moves B c e u v p (cleanRelationPrefix B u) (some-letter u (n .0)) (some-letter v (n .1)) (cleanRelationPrefix-passes B u))
 
 -- every round that goes on makes one of the two changes
 pub round-moves : (B : List Word) → Facts B → Even B → {u v p u′ v′ p′ : Word} → round B u v p ≡ go u′ v′ p′ → Moves B u v p u′ v′ p′

@@ -5,7 +5,7 @@ use mathlib.Core.List.{List, []}
 use mathlib.Core.Logic.{_↔_}
 use mathlib.Core.Path.{_≡_, refl}
 use Rattle.words.specs.Words.{Word}
-use Rattle.words.specs.Relations.{sides}
+use Rattle.words.specs.Relations.{relationWords}
 use Rattle.words.proofs.Relations.{Even, even-sides}
 use Rattle.overlap.proofs.Facts.{rigid-of-c4}
 use Rattle.congruence.specs.Congruence.{Congruent}
@@ -14,8 +14,8 @@ use Rattle.congruence.specs.Rounds.Answer.{same, different}
 use Rattle.congruence.specs.Theorem.{Decided, RowsDecide, Reached, EndOfTail, TailThenRest, ComparisonShape}
 use Rattle.congruence.specs.Theorem.Reached.{begun, on}
 use Rattle.congruence.proofs.Heads.{Facts}
-use Rattle.congruence.proofs.ShapeQuiet.{TailEnd}
-use Rattle.congruence.proofs.ShapeQuiet.TailEnd.{void, endOf}
+use Rattle.congruence.proofs.ShapeNoPrefix.{TailEnd}
+use Rattle.congruence.proofs.ShapeNoPrefix.TailEnd.{void, endOf}
 use Rattle.congruence.proofs.Shape.{Tailed, Held, held-start, held-round}
 use Rattle.congruence.proofs.Bound.{rounds-exist, rounds-unique, rounds-at-most}
 use Rattle.congruence.proofs.Allowance.{ended-iff, enough-of-ended, spent-iff}
@@ -65,7 +65,7 @@ module _ (B : List Word) (c : Facts B) (even : Even B) (u v : Word) where
       }
 
 pub rows-decide : RowsDecide
-rows-decide relations c u v = decided (sides relations) (rigid-of-c4 (sides relations) c) (even-sides relations) u v
+rows-decide relations c u v = decided (relationWords relations) (rigid-of-c4 (relationWords relations) c) (even-sides relations) u v
 
 -- the shape, along the rounds
 held-reached : (B : List Word) → Facts B → Even B → (u v : Word) {u₁ v₁ p₁ : Word} → Reached B u v u₁ v₁ p₁ → Held B u v u₁ v₁ p₁
@@ -82,5 +82,5 @@ tail-then-rest t = record { tail = t .tail; from = t .from; ends = end-of-tail (
 
 pub comparison-shape : ComparisonShape
 comparison-shape relations c u v u₁ v₁ p₁ r =
-    let h = held-reached (sides relations) (rigid-of-c4 (sides relations) c) (even-sides relations) u v r in
+    let h = held-reached (relationWords relations) (rigid-of-c4 (relationWords relations) c) (even-sides relations) u v r in
     (tail-then-rest (h .first), tail-then-rest (h .second), end-of-tail (h .mark))

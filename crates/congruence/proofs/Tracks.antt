@@ -12,7 +12,7 @@ use Rattle.words.proofs.Segments.{Same, same-sym, same-sub}
 use Rattle.overlap.specs.Pieces.{word}
 use Rattle.overlap.specs.Cuts.{xylen, xyOf, zOf}
 use Rattle.overlap.proofs.Facts.{length-xy}
-use Rattle.congruence.proofs.Heads.{Facts, Front, Whole, Clean, head-move, one-word, clean-of-whole, front-of-whole}
+use Rattle.congruence.proofs.Heads.{Facts, Prefix, Whole, Clean, head-move, one-word, clean-of-whole, prefix-of-whole}
 use Rattle.congruence.proofs.RowTests.{clean-or-crowded}
 use Rattle.congruence.proofs.Places.{split-longer, split-same, same-lefts, xy-z, whole-in-product}
 use Rattle.congruence.proofs.Chains.{Kin, Step, Chain, kin-refl, kin-trans, chain-join, chain-behind, chain-from, chain-to, chain-turn, chain-of-eq}
@@ -90,7 +90,7 @@ module _ {B : List Word} {fam : ℕ → ℕ} where
           let c = split-longer (x .before) (w ++ xyOf B i) (word B (x .by) ++ x .after) s (x .from ∙ e ∙ sym (append-assoc w (xyOf B i) s)) (simp length-append (omega arith)) in
           go (c .0) (c .1) (c .2) (head-move (h .at) (same-sub agree (omega arith)) (omega arith)) (guard-move g (same-sub agree (omega arith)) (omega arith))
         where
-          go : (m : Word) → x .before ≡ (w ++ xyOf B i) ++ m → s ≡ m ++ (word B (x .by) ++ x .after) → Front B u₁ (length w) i → Guard B u₁ (length w) → Kept B fam w i s v
+          go : (m : Word) → x .before ≡ (w ++ xyOf B i) ++ m → s ≡ m ++ (word B (x .by) ++ x .after) → Prefix B u₁ (length w) i → Guard B u₁ (length w) → Kept B fam w i s v
           go m a b f g₁ = ⊎-elim still-clean now-crowded (clean-or-crowded R f)
             where
               moved : (t : Word) → x .before ++ t ≡ w ++ (xyOf B i ++ (m ++ t))
@@ -111,7 +111,7 @@ module _ {B : List Word} {fam : ℕ → ℕ} where
                     track = track-after inside (done .track);
                   }
 
-              past : (d k : ℕ) → length w < d → d < length w + xylen B i → Front B u₁ d k → length (x .before) < d + xylen B k
+              past : (d k : ℕ) → length w < d → d < length w + xylen B i → Prefix B u₁ d k → length (x .before) < d + xylen B k
               past d k y z n = by-cases (decLt (length (x .before)) (d + xylen B k)) (λ o. o)
                   (λ o. absurd (h .only d k y z (head-move n (same-sub (same-sym agree) (omega arith)) (let fw = was .fits in omega arith))))
 
@@ -126,7 +126,7 @@ module _ {B : List Word} {fam : ℕ → ℕ} where
                     track = quit refl (chain-join inside (chain-behind m (chain-from (sym (xy-z B (x .into) (x .after))) (chain-of-track (done .track)))));
                   }
 
-              now-crowded : (q : ℕ) × (j : ℕ) × (length w < q) × (q < length w + xylen B i) × Front B u₁ q j → Kept B fam w i s v
+              now-crowded : (q : ℕ) × (j : ℕ) × (length w < q) × (q < length w + xylen B i) × Prefix B u₁ q j → Kept B fam w i s v
               now-crowded c = beyond
                   (later (x .before) (x .into) (zOf B (x .into) ++ x .after)
                   (sym (x .to) ∙ ap (x .before ++_) (sym (xy-z B (x .into) (x .after))))
@@ -140,7 +140,7 @@ module _ {B : List Word} {fam : ℕ → ℕ} where
           kept-at
           (λ n. by-cases (decLe (length w + xylen B i) (length (x .before)))
           kept-behind
-          (λ o. absurd (h .only (length (x .before)) (x .by) (omega arith) (omega arith) (front-of-whole R was)))))
+          (λ o. absurd (h .only (length (x .before)) (x .by) (omega arith) (omega arith) (prefix-of-whole R was)))))
 
     -- Lemma 2
     pub kept : {u v : Word} → Chain B fam u v → (w : Word) (i : ℕ) (s : Word) → u ≡ w ++ (xyOf B i ++ s) → Guard B u (length w) → Clean B u (length w) i → Kept B fam w i s v
@@ -152,7 +152,7 @@ module _ {B : List Word} {fam : ℕ → ℕ} where
           product = e;
           alone = λ d k y z. by-cases (decLt d (length w))
               (λ a. absurd (none-before R g (h .at) y a))
-              (λ a. by-cases (ℕ-discrete d (length w)) (λ b. b) (λ b. absurd (h .only d k (omega arith) z (front-of-whole R y))));
+              (λ a. by-cases (ℕ-discrete d (length w)) (λ b. b) (λ b. absurd (h .only d k (omega arith) z (prefix-of-whole R y))));
           track = quit refl stop;
         }
     kept (step x c) w i s e g h = kept-step x (λ w′ i′ s′ e′ g′ h′. kept c w′ i′ s′ e′ g′ h′) w i s e g h

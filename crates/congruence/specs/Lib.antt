@@ -1,6 +1,6 @@
 pub mod Congruence
 pub mod Rows
-pub mod Quiet
+pub mod NoRelationPrefix
 pub mod Rounds
 pub mod Theorem
 pub mod Starred

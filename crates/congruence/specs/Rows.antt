@@ -6,7 +6,7 @@ use mathlib.Core.List.{List, [], _++_}
 use lib.Dec.{eqb, leb, ltb}
 use lib.ListN.{length, getD, take, drop}
 use Rattle.words.specs.Search.{anyBelow, least}
-use Rattle.words.specs.Words.{Word, isEmpty, front, commonEnd}
+use Rattle.words.specs.Words.{Word, isEmpty, isPrefix, commonSuffix}
 use Rattle.words.specs.Relations.{other}
 use Rattle.overlap.specs.Pieces.{word}
 use Rattle.overlap.specs.Cuts.{len, xlen, xylen, xOf, xyOf, zOf}
@@ -22,89 +22,89 @@ choose true x y = x tt
 choose false x y = y tt
 
 -- X and Y of some relation word stand in w at place q
-unfoldable pub standsAt : List Word → Word → ℕ → Bool
-standsAt B w q = anyBelow (length B) (λ j. front (xyOf B j) (drop q w))
+unfoldable pub hasRelationPrefixAt : List Word → Word → ℕ → Bool
+hasRelationPrefixAt B w q = anyBelow (length B) (λ j. isPrefix (xyOf B j) (drop q w))
 
 -- they do so at a place from lo on and below hi
-unfoldable pub crowded : List Word → Word → ℕ → ℕ → Bool
-crowded B w lo hi = anyBelow hi (λ q. leb lo q && standsAt B w q)
+unfoldable pub hasRelationPrefixBetween : List Word → Word → ℕ → ℕ → Bool
+hasRelationPrefixBetween B w lo hi = anyBelow hi (λ q. leb lo q && hasRelationPrefixAt B w q)
 
--- XY of relation word i is a clean front of u (document 003: a clean relation prefix): u begins with XY,
--- and does not begin with X, a non-empty proper front of Y, and then the X and Y of any relation word
+-- XY of relation word i is a clean relation prefix of u (document 01: a clean front): u begins with XY,
+-- and does not begin with X, a non-empty proper prefix of Y, and then the X and Y of any relation word
 unfoldable pub clean : List Word → Word → ℕ → Bool
-clean B u i = front (xyOf B i) u && not (crowded B u (xlen B i + 1) (xylen B i))
+clean B u i = isPrefix (xyOf B i) u && not (hasRelationPrefixBetween B u (xlen B i + 1) (xylen B i))
 
--- the relation word whose XY is a clean front of u, or the number of relation words
-unfoldable pub cleanFront : List Word → Word → ℕ
-cleanFront B u = least (length B) (clean B u)
+-- the relation word whose XY is a clean relation prefix of u, or the number of relation words
+unfoldable pub cleanRelationPrefix : List Word → Word → ℕ
+cleanRelationPrefix B u = least (length B) (clean B u)
 
 -- t is z-active: z t begins with g, shorter than z, and then the X and Y of some relation word
 unfoldable pub active : List Word → Word → Word → Bool
-active B z t = crowded B (z ++ t) 0 (length z)
+active B z t = hasRelationPrefixBetween B (z ++ t) 0 (length z)
 
 -- the first letters are the same; asked only of words that are not empty
 abbrev pub alike : Word → Word → Bool
 alike u v = eqb (getD u 0 0) (getD v 0 0)
 
--- row 2, where u has no clean front; u and v are not empty
+-- row 2, where u has no clean relation prefix; u and v are not empty
 unfoldable pub dropFirst : Word → Word → Word → Next
 dropFirst u v p = choose (alike u v && (isEmpty p || alike p u)) (λ _. go (drop 1 u) (drop 1 v) (drop 1 p)) (λ _. end false)
 
--- rows 4 to 8, where XY of i is a clean front of u, and v begins with XY of i or of its other word j
+-- rows 4 to 8, where XY of i is a clean relation prefix of u, and v begins with XY of i or of its other word j
 module _ (B : List Word) (i j : ℕ) (u v p : Word) where
-  -- row 8: u = XY s, v = X'Y' t; z is the longest common end of Z and Z', Z = e z, Z' = f z
+  -- row 8: u = XY s, v = X'Y' t; z is the longest common suffix of Z and Z', Z = e z, Z' = f z
   unfoldable pub row8 : Next
   row8 =
       let s = drop (xylen B i) u in
       let t = drop (xylen B j) v in
-      let l = commonEnd (zOf B i) (zOf B j) in
+      let l = commonSuffix (zOf B i) (zOf B j) in
       let e = take (length (zOf B i) - l) (zOf B i) in
       let f = take (length (zOf B j) - l) (zOf B j) in
-      choose (front e s && front f t) (λ _. go (drop (length e) s) (drop (length f) t) (drop (length e) (zOf B i))) (λ _. end false)
+      choose (isPrefix e s && isPrefix f t) (λ _. go (drop (length e) s) (drop (length f) t) (drop (length e) (zOf B i))) (λ _. end false)
 
   -- row 7: u = XYZ s, v = X'Y' t, t not beginning with Z'
   unfoldable pub row7 : Next
   row7 =
-      choose (front (word B i) u && not (front (zOf B j) (drop (xylen B j) v)))
+      choose (isPrefix (word B i) u && not (isPrefix (zOf B j) (drop (xylen B j) v)))
       (λ _. go (zOf B j ++ drop (len B i) u) (drop (xylen B j) v) [])
       (λ _. row8)
 
   -- row 6: u = XY s, s not beginning with Z, v = X'Y'Z' t
   unfoldable pub row6 : Next
   row6 =
-      choose (not (front (zOf B i) (drop (xylen B i) u)) && front (word B j) v)
+      choose (not (isPrefix (zOf B i) (drop (xylen B i) u)) && isPrefix (word B j) v)
       (λ _. go (drop (xylen B i) u) (zOf B i ++ drop (len B j) v) [])
       (λ _. row7)
 
   -- row 5: u = XY s, v = XY t
   unfoldable pub row5 : Next
   row5 =
-      choose (front (xyOf B i) v)
-      (λ _. go (drop (xylen B i) u) (drop (xylen B i) v) (choose (front p (xOf B i)) (λ _. []) (λ _. zOf B i)))
+      choose (isPrefix (xyOf B i) v)
+      (λ _. go (drop (xylen B i) u) (drop (xylen B i) v) (choose (isPrefix p (xOf B i)) (λ _. []) (λ _. zOf B i)))
       (λ _. row6)
 
   -- row 4: u = XYZ s and v = XYZ t or X'Y'Z' t; one tail serves both
   unfoldable pub row4 : Next
   row4 =
-      choose (front (word B i) u && (front (word B i) v || front (word B j) v))
+      choose (isPrefix (word B i) u && (isPrefix (word B i) v || isPrefix (word B j) v))
       (λ _.
       let s = drop (len B i) u in
-      let t = choose (front (word B i) v) (λ _. drop (len B i) v) (λ _. drop (len B j) v) in
+      let t = choose (isPrefix (word B i) v) (λ _. drop (len B i) v) (λ _. drop (len B j) v) in
       let z = choose (active B (zOf B i) s) (λ _. zOf B i) (λ _. zOf B j) in
       go (z ++ s) (z ++ t) [])
       (λ _. row5)
 
-  -- row 3: 'different' if p is a front of neither X nor X', or v begins with neither XY nor X'Y'
+  -- row 3: 'different' if p is a prefix of neither X nor X', or v begins with neither XY nor X'Y'
   unfoldable pub row3 : Next
   row3 =
-      choose ((front p (xOf B i) || front p (xOf B j)) && (front (xyOf B i) v || front (xyOf B j) v))
+      choose ((isPrefix p (xOf B i) || isPrefix p (xOf B j)) && (isPrefix (xyOf B i) v || isPrefix (xyOf B j) v))
       (λ _. row4)
       (λ _. end false)
 
--- row 2 where i is the number of relation words, so that u has no clean front; else rows 3 to 8
-unfoldable pub fromFront : List Word → Word → Word → Word → ℕ → Next
-fromFront B u v p i = choose (ltb i (length B)) (λ _. row3 B i (other i) u v p) (λ _. dropFirst u v p)
+-- row 2 where i is the number of relation words, so that u has no clean relation prefix; else rows 3 to 8
+unfoldable pub fromPrefix : List Word → Word → Word → Word → ℕ → Next
+fromPrefix B u v p i = choose (ltb i (length B)) (λ _. row3 B i (other i) u v p) (λ _. dropFirst u v p)
 
 -- the first row that fits; row 1: u or v empty
 unfoldable pub round : List Word → Word → Word → Word → Next
-round B u v p = choose (isEmpty u || isEmpty v) (λ _. end (isEmpty u && (isEmpty v && isEmpty p))) (λ _. fromFront B u v p (cleanFront B u))
+round B u v p = choose (isEmpty u || isEmpty v) (λ _. end (isEmpty u && (isEmpty v && isEmpty p))) (λ _. fromPrefix B u v p (cleanRelationPrefix B u))

@@ -53,7 +53,7 @@ starred =
     -- a = b: accepted, cuts 0 1 0, 0 1 0
     ∷ book ((0 ∷ []) ∷ (1 ∷ []) ∷ []) Verdict.accepted ((0, 1, 0) ∷ (0, 1, 0) ∷ [])
     -- ab = ab: twice, side 1
-    ∷ book ((0 ∷ 1 ∷ []) ∷ (0 ∷ 1 ∷ []) ∷ []) (Verdict.twice 1) []
+    ∷ book ((0 ∷ 1 ∷ []) ∷ (0 ∷ 1 ∷ []) ∷ []) (Verdict.repeated 1) []
     -- abdc = acbd: loose, side 0
     ∷ book ((0 ∷ 1 ∷ 3 ∷ 2 ∷ []) ∷ (0 ∷ 2 ∷ 1 ∷ 3 ∷ []) ∷ []) (Verdict.loose 0) []
     -- Q: accepted, cuts 1 2 1, 1 2 1, four needed

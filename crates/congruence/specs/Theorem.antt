@@ -10,9 +10,9 @@ use mathlib.Core.Logic.{_↔_}
 use mathlib.Core.Path.{_≡_}
 use lib.ListN.{length, drop}
 use Rattle.words.specs.Words.{Word}
-use Rattle.words.specs.Relations.{Relation, sides}
+use Rattle.words.specs.Relations.{Relation, relationWords}
 use Rattle.overlap.specs.Pieces.{C4}
-use Rattle.overlap.specs.Cuts.{zOf, kOf}
+use Rattle.overlap.specs.Cuts.{zOf, longestSuffixPiece}
 use Rattle.congruence.specs.Congruence.{Congruent}
 use Rattle.congruence.specs.Rows.{round}
 use Rattle.congruence.specs.Rows.Next.{go}
@@ -30,8 +30,8 @@ pub record Decided (B : List Word) (u v : Word) : Type 0 where
   pub congruent : (result ≡ true) ↔ Congruent B u v
   pub apart : (result ≡ false) ↔ (¬ Congruent B u v)
   -- the rounds are at most (k + 2) times the first word's length; in fact at most (k + 1) times the shorter one's
-  pub bound : rounds ≤ (kOf B + 2) * length u
-  pub closer : (rounds ≤ (kOf B + 1) * length u) × (rounds ≤ (kOf B + 1) * length v)
+  pub bound : rounds ≤ (longestSuffixPiece B + 2) * length u
+  pub closer : (rounds ≤ (longestSuffixPiece B + 1) * length u) × (rounds ≤ (longestSuffixPiece B + 1) * length v)
   -- under an allowance: spent exactly when it is below the rounds; else the end, with the count of rounds
   pub spends : (allowance : ℕ) → (compareUnder B allowance u v ≡ spent allowance) ↔ (allowance < rounds)
   pub joins : (allowance : ℕ) → (compareUnder B allowance u v ≡ same rounds) ↔ ((rounds ≤ allowance) × Congruent B u v)
@@ -39,7 +39,7 @@ pub record Decided (B : List Word) (u v : Word) : Type 0 where
 
 -- the rows decide congruence: every presentation that meets C(4), every two words
 abbrev pub RowsDecide : Type 0
-RowsDecide = (relations : List Relation) → C4 (sides relations) → (u v : Word) → Decided (sides relations) u v
+RowsDecide = (relations : List Relation) → C4 (relationWords relations) → (u v : Word) → Decided (relationWords relations) u v
 
 -- the words from which a comparison of u and v goes on after some rounds
 pub data Reached (B : List Word) (u v : Word) : Word → Word → Word → Type 0 where
@@ -61,5 +61,5 @@ pub record TailThenRest (B : List Word) (given w : Word) : Type 0 where
 
 -- what a comparison goes on from always has this shape
 abbrev pub ComparisonShape : Type 0
-ComparisonShape = (relations : List Relation) → C4 (sides relations) → (u v u₁ v₁ p₁ : Word) → Reached (sides relations) u v u₁ v₁ p₁
-    → TailThenRest (sides relations) u u₁ × TailThenRest (sides relations) v v₁ × EndOfTail (sides relations) p₁
+ComparisonShape = (relations : List Relation) → C4 (relationWords relations) → (u v u₁ v₁ p₁ : Word) → Reached (relationWords relations) u v u₁ v₁ p₁
+    → TailThenRest (relationWords relations) u u₁ × TailThenRest (relationWords relations) v v₁ × EndOfTail (relationWords relations) p₁

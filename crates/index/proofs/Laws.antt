@@ -13,9 +13,9 @@ use lib.ListN.{length, getD, drop, length-append, length-drop, List·getD-append
 use lib.Seq.{getD-drop, getD-append-add, drop-append-le}
 use mir.Syntax.{w64}
 use mir.Val.{Fits}
-use Rattle.words.specs.Words.{Word, front, common}
+use Rattle.words.specs.Words.{Word, isPrefix, commonPrefix}
 use Rattle.words.proofs.Lists.{drop-past, part-length, part-at}
-use Rattle.words.proofs.Commons.{common-within, common-at, common-most, common-is, common-front, common-no-front, common-before, common-through, common-reaches, common-shorter, common-empty}
+use Rattle.words.proofs.Commons.{common-within, common-at, common-most, common-is, common-prefix, common-no-prefix, common-before, common-through, common-reaches, common-shorter, common-empty}
 use Rattle.layout.specs.Layout.{part}
 use Rattle.layout.proofs.Parts.{part-drop}
 use Rattle.index.specs.Index.{hasPlace, hasLetter, Span, Agreed}
@@ -59,10 +59,10 @@ pub record Along (text : Word) (from to : ℕ) (s : Word) (q n i : ℕ) : Type 0
   pub inside : to ≤ length text
   pub within : q < length s
   pub most : n ≡ min (to - from) (length s - q)
-  pub passed : i ≤ common (part text from to) (drop q s)
+  pub passed : i ≤ commonPrefix (part text from to) (drop q s)
 
 module _ (text : Word) (from to : ℕ) (s : Word) (q : ℕ) where
-  pub along-past : (m : ℕ) → Agreed text from to s q m → length s ≤ q → 0 ≡ common (part text from to) (drop q s)
+  pub along-past : (m : ℕ) → Agreed text from to s q m → length s ≤ q → 0 ≡ commonPrefix (part text from to) (drop q s)
   along-past m a h = rw (drop-of-length-le s h) (sym (common-empty (part text from to)))
 
   pub along-start : (m n : ℕ) → Agreed text from to s q m → q < length s → n ≡ min (to - from) (length s - q) → Along text from to s q n m
@@ -72,7 +72,7 @@ module _ (text : Word) (from to : ℕ) (s : Word) (q : ℕ) where
     bounds : (length (part text from to) ≡ to - from) × (length (drop q s) ≡ length s - q)
     bounds = (part-length text from to (a .inside), length-drop q s)
 
-    pub along-stop : i < n → (getD text (from + i) 0 ≡ getD s (q + i) 0 → ⊥) → i ≡ common (part text from to) (drop q s)
+    pub along-stop : i < n → (getD text (from + i) 0 ≡ getD s (q + i) 0 → ⊥) → i ≡ commonPrefix (part text from to) (drop q s)
     along-stop h d =
         let b = bounds in
         sym (common-is (part text from to) (drop q s) i (omega arith) (omega arith) (λ k l. common-at (part text from to) (drop q s) k (omega arith))
@@ -91,7 +91,7 @@ module _ (text : Word) (from to : ℕ) (s : Word) (q : ℕ) where
               (λ c. subst (λ (j : ℕ). getD (part text from to) j 0 ≡ getD (drop q s) j 0) (omega arith) (part-at text from to i (omega arith) ∙ e ∙ sym (getD-drop q s i 0))));
         }
 
-    pub along-end : n ≤ i → i ≡ common (part text from to) (drop q s)
+    pub along-end : n ≤ i → i ≡ commonPrefix (part text from to) (drop q s)
     along-end h =
         let b = bounds in
         let w = common-within (part text from to) (drop q s) in
@@ -104,7 +104,7 @@ module _ (text : Word) (from to : ℕ) (a b : Word) (q m : ℕ) (g : Agreed text
   pub agreed-right : length a ≤ q → Agreed text from to b (q - length a) m
   agreed-right h = record { span = g .span; passed = rw (← drop-past a b q h) (g .passed) }
 
-  pub agree-right : (r : ℕ) → length a ≤ q → r ≡ common (part text from to) (drop (q - length a) b) → r ≡ common (part text from to) (drop q (a ++ b))
+  pub agree-right : (r : ℕ) → length a ≤ q → r ≡ commonPrefix (part text from to) (drop (q - length a) b) → r ≡ commonPrefix (part text from to) (drop q (a ++ b))
   agree-right r h e = rw (drop-past a b q h) e
 
   module _ (h : q < length a) where
@@ -112,27 +112,27 @@ module _ (text : Word) (from to : ℕ) (a b : Word) (q m : ℕ) (g : Agreed text
     here : (drop q (a ++ b) ≡ drop q a ++ b) × (length (drop q a) ≡ length a - q)
     here = (drop-append-le q a b (omega arith), length-drop q a)
 
-    passed-here : m ≤ common (part text from to) (drop q a ++ b)
+    passed-here : m ≤ commonPrefix (part text from to) (drop q a ++ b)
     passed-here = rw (← here .0) (g .passed)
 
-    through : length a - q ≤ common (part text from to) (drop q a) → common (part text from to) (drop q (a ++ b)) ≡ length a - q + common (part text (from + (length a - q)) to) b
+    through : length a - q ≤ commonPrefix (part text from to) (drop q a) → commonPrefix (part text from to) (drop q (a ++ b)) ≡ length a - q + commonPrefix (part text (from + (length a - q)) to) b
     through l =
         let e = common-through (part text from to) (drop q a) b (omega (arith, here)) in
         rw (here .0) (rw (here .1, part-drop text from to (length a - q)) at e)
 
-    span-next : length a - q ≤ common (part text from to) (drop q a) → Span text (from + (length a - q)) to
+    span-next : length a - q ≤ commonPrefix (part text from to) (drop q a) → Span text (from + (length a - q)) to
     span-next l =
         let w = common-within (part text from to) (drop q a) in
         let p = part-length text from to (g .span .inside) in
         record { upwards = omega (arith, g .span .upwards); inside = g .span .inside }
 
-    fits-sum : (n : ℕ) → n ≡ common (part text from to) (drop q (a ++ b)) → Fits w64 to → Fits w64 n
+    fits-sum : (n : ℕ) → n ≡ commonPrefix (part text from to) (drop q (a ++ b)) → Fits w64 to → Fits w64 n
     fits-sum n e f =
         let w = common-within (part text from to) (drop q (a ++ b)) in
         let p = part-length text from to (g .span .inside) in
         record { fits = omega (arith, f .fits) }
 
-    far : length a - q ≤ m → length a - q ≤ common (part text from to) (drop q a)
+    far : length a - q ≤ m → length a - q ≤ commonPrefix (part text from to) (drop q a)
     far l =
         let p = passed-here in
         let w = here in
@@ -143,11 +143,11 @@ module _ (text : Word) (from to : ℕ) (a b : Word) (q m : ℕ) (g : Agreed text
         let t = through (far l) in
         record { span = span-next (far l); passed = omega (arith, g .passed) }
 
-    pub agree-far : (r : ℕ) → length a - q ≤ m → r ≡ common (part text (from + (length a - q)) to) (drop 0 b)
-        → length a - q + r ≡ common (part text from to) (drop q (a ++ b))
+    pub agree-far : (r : ℕ) → length a - q ≤ m → r ≡ commonPrefix (part text (from + (length a - q)) to) (drop 0 b)
+        → length a - q + r ≡ commonPrefix (part text from to) (drop q (a ++ b))
     agree-far r l e = let t = through (far l) in omega arith
 
-    pub agree-far-fits : (r : ℕ) → length a - q ≤ m → r ≡ common (part text (from + (length a - q)) to) (drop 0 b) → Fits w64 to → Fits w64 (length a - q + r)
+    pub agree-far-fits : (r : ℕ) → length a - q ≤ m → r ≡ commonPrefix (part text (from + (length a - q)) to) (drop 0 b) → Fits w64 to → Fits w64 (length a - q + r)
     agree-far-fits r l e f = fits-sum (length a - q + r) (agree-far r l e) f
 
     pub agreed-near : m < length a - q → Agreed text from to a q m
@@ -155,8 +155,8 @@ module _ (text : Word) (from to : ℕ) (a b : Word) (q m : ℕ) (g : Agreed text
         let w = here in
         record { span = g .span; passed = common-shorter (part text from to) (drop q a) b m passed-here (omega arith) }
 
-    module _ (r : ℕ) (e : r ≡ common (part text from to) (drop q a)) where
-      pub agree-near : r < length a - q → r ≡ common (part text from to) (drop q (a ++ b))
+    module _ (r : ℕ) (e : r ≡ commonPrefix (part text from to) (drop q a)) where
+      pub agree-near : r < length a - q → r ≡ commonPrefix (part text from to) (drop q (a ++ b))
       agree-near l =
           let w = here in
           let f = common-before (part text from to) (drop q a) b (omega arith) in
@@ -165,11 +165,11 @@ module _ (text : Word) (from to : ℕ) (a b : Word) (q m : ℕ) (g : Agreed text
       pub agreed-next : length a - q ≤ r → Agreed text (from + (length a - q)) to b 0 0
       agreed-next l = record { span = span-next (omega arith); passed = omega arith }
 
-      pub agree-next : (n : ℕ) → length a - q ≤ r → n ≡ common (part text (from + (length a - q)) to) (drop 0 b)
-          → length a - q + n ≡ common (part text from to) (drop q (a ++ b))
+      pub agree-next : (n : ℕ) → length a - q ≤ r → n ≡ commonPrefix (part text (from + (length a - q)) to) (drop 0 b)
+          → length a - q + n ≡ commonPrefix (part text from to) (drop q (a ++ b))
       agree-next n l f = let t = through (omega arith) in omega arith
 
-      pub agree-next-fits : (n : ℕ) → length a - q ≤ r → n ≡ common (part text (from + (length a - q)) to) (drop 0 b) → Fits w64 to → Fits w64 (length a - q + n)
+      pub agree-next-fits : (n : ℕ) → length a - q ≤ r → n ≡ commonPrefix (part text (from + (length a - q)) to) (drop 0 b) → Fits w64 to → Fits w64 (length a - q + n)
       agree-next-fits n l f t = fits-sum (length a - q + n) (agree-next n l f) t
 
 pub ruleset agrees = (agreed-right, agree-right, agreed-far, agree-far, agree-far-fits, agreed-near, agree-near, agreed-next, agree-next, agree-next-fits, needs)
@@ -178,13 +178,13 @@ pub ruleset agrees = (agreed-right, agree-right, agreed-far, agree-far, agree-fa
 pub agreed-none : (text : Word) (from to : ℕ) (w : Word) (q : ℕ) → Span text from to → Agreed text from to w q 0
 agreed-none text from to w q s = record { span = s; passed = omega arith }
 
-pub begins-all : (text : Word) (from to : ℕ) (w : Word) (q r : ℕ) → Span text from to → r ≡ common (part text from to) (drop q w)
-    → eqb r (to - from) ≡ front (part text from to) (drop q w)
+pub begins-all : (text : Word) (from to : ℕ) (w : Word) (q r : ℕ) → Span text from to → r ≡ commonPrefix (part text from to) (drop q w)
+    → eqb r (to - from) ≡ isPrefix (part text from to) (drop q w)
 begins-all text from to w q r s e =
     let p = part-length text from to (s .inside) in
     let c = common-within (part text from to) (drop q w) in
     by-cases (ℕ-discrete r (to - from))
-    (λ y. eq-eqb r (to - from) y ∙ sym (common-front (part text from to) (drop q w) (omega arith)))
-    (λ n. ne-eqb r (to - from) n ∙ sym (common-no-front (part text from to) (drop q w) (omega arith)))
+    (λ y. eq-eqb r (to - from) y ∙ sym (common-prefix (part text from to) (drop q w) (omega arith)))
+    (λ n. ne-eqb r (to - from) n ∙ sym (common-no-prefix (part text from to) (drop q w) (omega arith)))
 
 pub ruleset beginnings = (agreed-none, begins-all, needs)

@@ -1,5 +1,5 @@
 pub mod Laws
-pub mod FrontAt
+pub mod PrefixAt
 pub mod Laying
 pub mod Seeking
 pub mod Keeping

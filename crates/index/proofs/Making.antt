@@ -14,7 +14,7 @@ use lib.ListN.{length, getD, drop, set, length-set, length-drop}
 use lib.Seq.{getD-set-other, getD-set-same, getD-drop}
 use mir.Syntax.{w64}
 use mir.Val.{Fits}
-use Rattle.words.specs.Words.{common}
+use Rattle.words.specs.Words.{commonPrefix}
 use Rattle.words.proofs.Lists.{part-length, part-at}
 use Rattle.words.proofs.Commons.{common-within, common-at, common-differ, common-is}
 use Rattle.overlap.specs.Pieces.{word}
@@ -82,7 +82,7 @@ count-split f c (suc n) =
 
 -- relation word k in the text behind its start: its fence ends what another word has in common with it
 fence-common : (text table : List ℕ) (n : ℕ) → Laid text table n → (h k : ℕ) → h < n → k < n
-    → common (part text (startOf table h) (endOf table h)) (drop (startOf table k) text) ≡ common (word (wordsIn text table n) h) (word (wordsIn text table n) k)
+    → commonPrefix (part text (startOf table h) (endOf table h)) (drop (startOf table k) text) ≡ commonPrefix (word (wordsIn text table n) h) (word (wordsIn text table n) k)
 fence-common text table n l h k x y =
     let a = part text (startOf table h) (endOf table h) in
     let b = part text (startOf table k) (endOf table k) in
@@ -93,10 +93,10 @@ fence-common text table n l h k x y =
     let i = end-inside text table n l k y in
     let s = l .some k y in
     rw (word-part text table n h x, word-part text table n k y)
-    (common-is a (drop (startOf table k) text) (common a b) (omega arith) (omega arith)
+    (common-is a (drop (startOf table k) text) (commonPrefix a b) (omega arith) (omega arith)
     (λ j c. common-at a b j c ∙ part-at text (startOf table k) (endOf table k) j (omega arith) ∙ sym (getD-drop (startOf table k) text j 0))
     (λ c e f.
-    let m = common a b in
+    let m = commonPrefix a b in
     let u : getD a m 0 ≡ getD text (startOf table h + m) 0 = part-at text (startOf table h) (endOf table h) m (omega arith) in
     let v : getD (drop (startOf table k) text) m 0 ≡ getD text (startOf table k + m) 0 = getD-drop (startOf table k) text m 0 in
     let o = l .letters h (startOf table h + m) x (omega arith) (omega arith) in
@@ -123,11 +123,11 @@ module _ (text table : List ℕ) (n h k : ℕ) (g : Two text table n h k) where
     pub two-agreed : Agreed text from to text q 0
     two-agreed = rw (e, f) (record { span = word-span text table n (g .laid) h (g .first); passed = omega arith })
 
-    pub two-common : (r : ℕ) → r ≡ common (part text from to) (drop q text) → r ≡ common (word (wordsIn text table n) h) (word (wordsIn text table n) k)
+    pub two-common : (r : ℕ) → r ≡ commonPrefix (part text from to) (drop q text) → r ≡ commonPrefix (word (wordsIn text table n) h) (word (wordsIn text table n) k)
     two-common r c = c ∙ rw (e, f, d) (fence-common text table n (g .laid) h k (g .first) (g .second))
 
   -- where they part, a letter or a fence of each stands in the text
-  module _ (m : ℕ) (c : m ≡ common (word (wordsIn text table n) h) (word (wordsIn text table n) k)) where
+  module _ (m : ℕ) (c : m ≡ commonPrefix (word (wordsIn text table n) h) (word (wordsIn text table n) k)) where
     parts : (startOf table h + m < length text) × (startOf table k + m < length text)
     parts =
         let w = common-within (word (wordsIn text table n) h) (word (wordsIn text table n) k) in
@@ -588,8 +588,8 @@ module _ (text t : List ℕ) (n j : ℕ) (g : Neighbours text t n j) where
   pub neighbour-two : (h k : ℕ) → h < n → k < n → Two text t n h k
   neighbour-two h k a b = record { laid = g .lists .laid; room = g .lists .room; first = a; second = b }
 
-  pub neighbour-share : (h : ℕ) → h ≡ orderOf t (j - 1) → (k : ℕ) → k ≡ orderOf t j → (r : ℕ) → r ≡ common (word (wordsIn text t n) h) (word (wordsIn text t n) k)
-      → r ≡ common (word (wordsIn text t n) (orderOf t (j - 1))) (word (wordsIn text t n) (orderOf t j))
+  pub neighbour-share : (h : ℕ) → h ≡ orderOf t (j - 1) → (k : ℕ) → k ≡ orderOf t j → (r : ℕ) → r ≡ commonPrefix (word (wordsIn text t n) h) (word (wordsIn text t n) k)
+      → r ≡ commonPrefix (word (wordsIn text t n) (orderOf t (j - 1))) (word (wordsIn text t n) (orderOf t j))
   neighbour-share h e k f r c = rw (← e, ← f) c
 
 pub ruleset neighbours = (neighbour-before, neighbour-here, neighbour-left, neighbour-right, neighbour-two, neighbour-share, needs)
@@ -599,7 +599,7 @@ pub record Sharing (text t₀ t : List ℕ) (n j : ℕ) : Type 0 where
   pub kept : Kept t₀ t
   pub lists : Lists text t n 64 n
   pub some : 0 < j
-  pub alike : (i : ℕ) → 0 < i → i < j → i < n → sharedOf t i ≡ common (word (wordsIn text t n) (orderOf t (i - 1))) (word (wordsIn text t n) (orderOf t i))
+  pub alike : (i : ℕ) → 0 < i → i < j → i < n → sharedOf t i ≡ commonPrefix (word (wordsIn text t n) (orderOf t (i - 1))) (word (wordsIn text t n) (orderOf t i))
 
 pub share-start : (text t : List ℕ) (n : ℕ) → Lists text t n 64 n → Sharing text t t n 1
 share-start text t n l = record { kept = kept-refl t; lists = l; some = omega arith; alike = λ i h x y. absurd (omega arith) }
@@ -611,7 +611,7 @@ module _ (text t₀ t : List ℕ) (n j : ℕ) (g : Sharing text t₀ t n j) wher
   pub share-place : j < n → 386 + j < length t
   share-place h = omega (arith, g .lists .laid .few, g .lists .room)
 
-  module _ (h : j < n) (m : ℕ) (e : m ≡ common (word (wordsIn text t n) (orderOf t (j - 1))) (word (wordsIn text t n) (orderOf t j))) where
+  module _ (h : j < n) (m : ℕ) (e : m ≡ commonPrefix (word (wordsIn text t n) (orderOf t (j - 1))) (word (wordsIn text t n) (orderOf t j))) where
     pub share-number : m < 65536
     share-number =
         let w = common-within (word (wordsIn text t n) (orderOf t (j - 1))) (word (wordsIn text t n) (orderOf t j)) in
@@ -630,11 +630,11 @@ module _ (text t₀ t : List ℕ) (n j : ℕ) (g : Sharing text t₀ t n j) wher
     words-same = words-kept t (set t (386 + j) m) (kept-below text t (set t (386 + j) m) n 64 n (g .lists) long-same same-below) text n (g .lists .laid .few)
 
     alike-more : (i : ℕ) → 0 < i → i < j + 1 → i < n
-        → sharedOf (set t (386 + j) m) i ≡ common (word (wordsIn text t n) (orderOf t (i - 1))) (word (wordsIn text t n) (orderOf t i))
+        → sharedOf (set t (386 + j) m) i ≡ commonPrefix (word (wordsIn text t n) (orderOf t (i - 1))) (word (wordsIn text t n) (orderOf t i))
     alike-more i a b c =
         by-cases (ℕ-discrete j i)
         (λ z.
-        subst (λ (v : ℕ). sharedOf (set t (386 + j) m) v ≡ common (word (wordsIn text t n) (orderOf t (v - 1))) (word (wordsIn text t n) (orderOf t v))) z
+        subst (λ (v : ℕ). sharedOf (set t (386 + j) m) v ≡ commonPrefix (word (wordsIn text t n) (orderOf t (v - 1))) (word (wordsIn text t n) (orderOf t v))) z
         (getD-set-same t (386 + j) m 0 (share-place h) ∙ e))
         (λ z. getD-set-other t (386 + j) (386 + i) m 0 (λ y. z (omega arith)) ∙ g .alike i a (omega arith) c)
 

@@ -10,95 +10,95 @@ use borrow.Author.Needs.{needs}
 use borrow.Author.Tests.{ltb-true, ltb-false, eq-eqb, ne-eqb}
 use lib.ListN.{length, getD, drop, length-take, length-drop, length-append}
 use lib.Seq.{getD-drop}
-use Rattle.words.specs.Words.{Word, front, common}
+use Rattle.words.specs.Words.{Word, isPrefix, commonPrefix}
 use Rattle.words.proofs.Tests.{false-of}
 use Rattle.words.proofs.Lists.{part-length, part-at}
 use Rattle.words.proofs.Searching.{least-is, least-none}
-use Rattle.words.proofs.Fronts.{front-length, front-at}
-use Rattle.words.proofs.Commons.{common-within, common-at, common-front, common-no-front, common-take, common-later, common-sooner, common-via}
+use Rattle.words.proofs.Prefixes.{prefix-length, prefix-at}
+use Rattle.words.proofs.Commons.{common-within, common-at, common-prefix, common-no-prefix, common-take, common-later, common-sooner, common-via}
 use Rattle.overlap.specs.Pieces.{word}
 use Rattle.overlap.specs.Cuts.{xlen, xylen, xyOf}
 use Rattle.overlap.proofs.Rigid.{Rigid}
 use Rattle.overlap.proofs.Facts.{length-xy}
-use Rattle.congruence.proofs.RowTests.{one-front}
+use Rattle.congruence.proofs.RowTests.{one-prefix}
 use Rattle.layout.specs.Layout.{startOf, zStartOf, part, wordsIn, firstOf, orderOf, sharedOf, Checked}
 use Rattle.layout.proofs.Placed.{words-length}
 use Rattle.layout.proofs.CutPlaces.{xy-long, xy-part}
 use Rattle.index.specs.declared.Meeting.{Meeting}
 use Rattle.index.specs.declared.Meeting.the-variants.{Here, Past}
-use Rattle.index.specs.Index.{frontAt, hasPlace, Agreed}
+use Rattle.index.specs.Index.{relationPrefixAt, hasPlace, Agreed}
 use Rattle.index.specs.Seek.{metOf, sharedFrom, Meets, AtLetter, Bucket, Turn}
 use Rattle.index.proofs.Laying.{xy-span, checked-rigid}
 
 -- where the front marker of words is rigid
 module _ (B : List Word) (g : Rigid B (xlen B) (xylen B)) where
   -- a word that shares all of its X and Y with another is that word
-  pub marked : (i k : ℕ) → i < length B → k < length B → xylen B i ≤ common (word B k) (word B i) → i ≡ k
+  pub marked : (i k : ℕ) → i < length B → k < length B → xylen B i ≤ commonPrefix (word B k) (word B i) → i ≡ k
   marked i k h l e =
       let s = g .some i h in
       let w = common-within (word B k) (word B i) in
       g .marker i k 0 (xylen B i) h l s (omega arith) (omega arith) (record { at = λ j c. let z : 0 + j ≡ j = omega arith in rw z (sym (common-at (word B k) (word B i) j (omega arith))) }) .0
 
   -- letters in common are X and Y in front of v, and the other way
-  pub common-xy : (k : ℕ) (v : Word) → xylen B k ≤ common (word B k) v → front (xyOf B k) v ≡ true
+  pub common-xy : (k : ℕ) (v : Word) → xylen B k ≤ commonPrefix (word B k) v → isPrefix (xyOf B k) v ≡ true
   common-xy k v h =
       let c = common-take (xylen B k) (word B k) v (omega arith) in
       let l = length-xy B k in
-      common-front (xyOf B k) v (omega arith)
+      common-prefix (xyOf B k) v (omega arith)
 
-  pub common-not-xy : (k : ℕ) (v : Word) → common (word B k) v < xylen B k → front (xyOf B k) v ≡ false
+  pub common-not-xy : (k : ℕ) (v : Word) → commonPrefix (word B k) v < xylen B k → isPrefix (xyOf B k) v ≡ false
   common-not-xy k v h =
       let c = common-take (xylen B k) (word B k) v (omega arith) in
       let l = length-xy B k in
-      common-no-front (xyOf B k) v (omega arith)
+      common-no-prefix (xyOf B k) v (omega arith)
 
-  pub not-xy-common : (k : ℕ) (v : Word) → front (xyOf B k) v ≡ false → common (word B k) v < xylen B k
+  pub not-xy-common : (k : ℕ) (v : Word) → isPrefix (xyOf B k) v ≡ false → commonPrefix (word B k) v < xylen B k
   not-xy-common k v e =
-      by-cases (decLt (common (word B k) v) (xylen B k)) (λ a. a) (λ a. absurd (true≢false (sym (common-xy k v (omega arith)) ∙ e)))
+      by-cases (decLt (commonPrefix (word B k) v) (xylen B k)) (λ a. a) (λ a. absurd (true≢false (sym (common-xy k v (omega arith)) ∙ e)))
 
   -- the one that stands is found
-  pub found-one : (w : Word) (q k : ℕ) → k < length B → front (xyOf B k) (drop q w) ≡ true → k ≡ frontAt B w q
-  unfolding frontAt
+  pub found-one : (w : Word) (q k : ℕ) → k < length B → isPrefix (xyOf B k) (drop q w) ≡ true → k ≡ relationPrefixAt B w q
+  unfolding relationPrefixAt
   found-one w q k h e =
-      sym (least-is (length B) (λ j. front (xyOf B j) (drop q w)) k h (record { none = below }) e)
+      sym (least-is (length B) (λ j. isPrefix (xyOf B j) (drop q w)) k h (record { none = below }) e)
     where
-      below : (i : ℕ) → i < k → front (xyOf B i) (drop q w) ≡ false
-      below i l = false-of (front (xyOf B i) (drop q w)) (λ f. let o = one-front g (drop q w) i k (omega arith) h f e in absurd (omega arith))
+      below : (i : ℕ) → i < k → isPrefix (xyOf B i) (drop q w) ≡ false
+      below i l = false-of (isPrefix (xyOf B i) (drop q w)) (λ f. let o = one-prefix g (drop q w) i k (omega arith) h f e in absurd (omega arith))
 
-  pub none-stands : (w : Word) (q : ℕ) → ((k : ℕ) → k < length B → front (xyOf B k) (drop q w) ≡ false) → length B ≡ frontAt B w q
-  unfolding frontAt
-  none-stands w q f = sym (least-none (length B) (λ j. front (xyOf B j) (drop q w)) (record { none = f }))
+  pub none-stands : (w : Word) (q : ℕ) → ((k : ℕ) → k < length B → isPrefix (xyOf B k) (drop q w) ≡ false) → length B ≡ relationPrefixAt B w q
+  unfolding relationPrefixAt
+  none-stands w q f = sym (least-none (length B) (λ j. isPrefix (xyOf B j) (drop q w)) (record { none = f }))
 
   -- the word listed before, i, has m letters in common with v and is not it; k shares l letters with i
-  module _ (v : Word) (i k : ℕ) (h : i < length B) (l : k < length B) (e : front (xyOf B i) v ≡ false) where
-    not-all : xylen B k ≤ common (word B i) (word B k) → xylen B k ≤ common (word B i) v → ⊥
+  module _ (v : Word) (i k : ℕ) (h : i < length B) (l : k < length B) (e : isPrefix (xyOf B i) v ≡ false) where
+    not-all : xylen B k ≤ commonPrefix (word B i) (word B k) → xylen B k ≤ commonPrefix (word B i) v → ⊥
     not-all a b =
         let o = marked k i l h a in
         let c = not-xy-common i v e in
         let s : xylen B k ≡ xylen B i = ap (xylen B) o in
         omega arith
 
-    pub met-later : common (word B i) v < common (word B i) (word B k) → Past (common (word B i) v) ≡ metOf B k v
+    pub met-later : commonPrefix (word B i) v < commonPrefix (word B i) (word B k) → Past (commonPrefix (word B i) v) ≡ metOf B k v
     unfolding metOf
     met-later a =
         let c = common-later (word B i) (word B k) v a in
-        by-cases (decLt (common (word B k) v) (xylen B k))
+        by-cases (decLt (commonPrefix (word B k) v) (xylen B k))
         (λ b. rw (common-not-xy k v b, c))
         (λ b. absurd (not-all (omega arith) (omega arith)))
 
-    pub met-sooner : common (word B i) (word B k) < common (word B i) v → Past (common (word B i) (word B k)) ≡ metOf B k v
+    pub met-sooner : commonPrefix (word B i) (word B k) < commonPrefix (word B i) v → Past (commonPrefix (word B i) (word B k)) ≡ metOf B k v
     unfolding metOf
     met-sooner a =
         let c = common-sooner (word B i) (word B k) v a in
-        by-cases (decLt (common (word B k) v) (xylen B k))
+        by-cases (decLt (commonPrefix (word B k) v) (xylen B k))
         (λ b. rw (common-not-xy k v b, c))
         (λ b. absurd (not-all (omega arith) (omega arith)))
 
-    pub met-on : common (word B i) (word B k) ≡ common (word B i) v → common (word B i) v ≤ common (xyOf B k) v
+    pub met-on : commonPrefix (word B i) (word B k) ≡ commonPrefix (word B i) v → commonPrefix (word B i) v ≤ commonPrefix (xyOf B k) v
     met-on a =
-        let c = common-via (word B i) (word B k) v (common (word B i) v) (omega arith) (omega arith) in
+        let c = common-via (word B i) (word B k) v (commonPrefix (word B i) v) (omega arith) (omega arith) in
         let t = common-take (xylen B k) (word B k) v (omega arith) in
-        by-cases (decLt (common (word B i) v) (xylen B k)) (λ b. omega arith) (λ b. absurd (not-all (omega arith) (omega arith)))
+        by-cases (decLt (commonPrefix (word B i) v) (xylen B k)) (λ b. omega arith) (λ b. absurd (not-all (omega arith) (omega arith)))
 
 -- one word met: what of its X and Y agrees says how it meets the word
 module _ (text table : List ℕ) (n : ℕ) (w : Word) (q k m : ℕ) (g : Meets text table n w q k m) where
@@ -115,9 +115,9 @@ module _ (text table : List ℕ) (n : ℕ) (w : Word) (q k m : ℕ) (g : Meets t
     pub meets-up : from ≤ to
     meets-up = omega (arith, g .agreed .span .upwards)
 
-    module _ (r : ℕ) (c : r ≡ common (part text from to) (drop q w)) where
+    module _ (r : ℕ) (c : r ≡ commonPrefix (part text from to) (drop q w)) where
       -- what is common of X and Y, and how many letters these are
-      counted : (r ≡ common (xyOf (wordsIn text table n) k) (drop q w)) × (xylen (wordsIn text table n) k ≡ to - from)
+      counted : (r ≡ commonPrefix (xyOf (wordsIn text table n) k) (drop q w)) × (xylen (wordsIn text table n) k ≡ to - from)
       counted =
           let l = g .checked .laid in
           let t = g .checked .cut in
@@ -131,7 +131,7 @@ module _ (text table : List ℕ) (n : ℕ) (w : Word) (q k m : ℕ) (g : Meets t
           let x = counted in
           let b = common-within (xyOf (wordsIn text table n) k) (drop q w) in
           let y = length-take (xylen (wordsIn text table n) k) (word (wordsIn text table n) k) in
-          rw (common-front (xyOf (wordsIn text table n) k) (drop q w) (omega arith))
+          rw (common-prefix (xyOf (wordsIn text table n) k) (drop q w) (omega arith))
 
       pub meets-past : (r ≡ to - from → ⊥) → Past r ≡ metOf (wordsIn text table n) k (drop q w)
       unfolding metOf
@@ -139,7 +139,7 @@ module _ (text table : List ℕ) (n : ℕ) (w : Word) (q k m : ℕ) (g : Meets t
           let x = counted in
           let B = wordsIn text table n in
           let t = common-take (xylen B k) (word B k) (drop q w) (omega arith) in
-          let z : r ≡ common (word B k) (drop q w) = omega arith in
+          let z : r ≡ commonPrefix (word B k) (drop q w) = omega arith in
           rw (common-not-xy B (checked-rigid text table n (g .checked)) k (drop q w) (omega arith), z)
 
 pub ruleset meetings = (meets-start, meets-cut, meets-agreed, meets-up, meets-here, meets-past, needs)
@@ -171,7 +171,7 @@ module _ (text table : List ℕ) (n : ℕ) (w : Word) (q from j m : ℕ) (g : Tu
         let y = g .checked .indexed .known j (g .known) in
         omega arith
 
-    shares : (l : ℕ) → l ≡ sharedFrom table from j → l ≡ common (word (wordsIn text table n) (orderOf table (j - 1))) (word (wordsIn text table n) (orderOf table j))
+    shares : (l : ℕ) → l ≡ sharedFrom table from j → l ≡ commonPrefix (word (wordsIn text table n) (orderOf table (j - 1))) (word (wordsIn text table n) (orderOf table j))
     unfolding sharedFrom
     shares l e =
         let d : sharedFrom table from j ≡ sharedOf table j = rw (ne-eqb j from (λ z. omega arith)) in
@@ -206,7 +206,7 @@ module _ (text table : List ℕ) (n : ℕ) (w : Word) (q from j m : ℕ) (g : Tu
         rw s (met-sooner (wordsIn text table n) (rigid-here b) (drop q w) (orderOf table (j - 1)) (orderOf table j) (o .0) (o .1) (g .none b) (omega arith)))
         (λ b. let f = first-shares l e (omega (arith, g .low)) in absurd (omega arith))
 
-    on : l ≤ m → m ≤ l → m ≤ common (xyOf (wordsIn text table n) (orderOf table j)) (drop q w)
+    on : l ≤ m → m ≤ l → m ≤ commonPrefix (xyOf (wordsIn text table n) (orderOf table j)) (drop q w)
     on h i =
         by-cases (decLt from j)
         (λ b.
@@ -230,30 +230,30 @@ module _ (text table : List ℕ) (n : ℕ) (w : Word) (q from j m : ℕ) (g : Tu
 pub ruleset turns = (turn-order, turn-shared, turn-later, turn-sooner, turn-meets, turn-met, needs)
 
 -- how a meeting was come by
-met-here : (B : List Word) (i k : ℕ) (v : Word) → Here k ≡ metOf B i v → (k ≡ i) × (front (xyOf B i) v ≡ true)
+met-here : (B : List Word) (i k : ℕ) (v : Word) → Here k ≡ metOf B i v → (k ≡ i) × (isPrefix (xyOf B i) v ≡ true)
 unfolding metOf
-met-here B i k v e = go (front (xyOf B i) v) refl
+met-here B i k v e = go (isPrefix (xyOf B i) v) refl
   where
-    go : (t : Bool) → front (xyOf B i) v ≡ t → (k ≡ i) × (front (xyOf B i) v ≡ true)
+    go : (t : Bool) → isPrefix (xyOf B i) v ≡ t → (k ≡ i) × (isPrefix (xyOf B i) v ≡ true)
     go true f = let d : Here k ≡ Here i = rw f at e in (cc, f)
     go false f =
-        let d : Here k ≡ Past (common (word B i) v) = rw f at e in
+        let d : Here k ≡ Past (commonPrefix (word B i) v) = rw f at e in
         let z : _≡_ {A = ℕ} 0 1 = cc in
         absurd (omega arith)
 
-met-past : (B : List Word) (i l : ℕ) (v : Word) → Past l ≡ metOf B i v → (l ≡ common (word B i) v) × (front (xyOf B i) v ≡ false)
+met-past : (B : List Word) (i l : ℕ) (v : Word) → Past l ≡ metOf B i v → (l ≡ commonPrefix (word B i) v) × (isPrefix (xyOf B i) v ≡ false)
 unfolding metOf
-met-past B i l v e = go (front (xyOf B i) v) refl
+met-past B i l v e = go (isPrefix (xyOf B i) v) refl
   where
-    go : (t : Bool) → front (xyOf B i) v ≡ t → (l ≡ common (word B i) v) × (front (xyOf B i) v ≡ false)
+    go : (t : Bool) → isPrefix (xyOf B i) v ≡ t → (l ≡ commonPrefix (word B i) v) × (isPrefix (xyOf B i) v ≡ false)
     go true f =
         let d : Past l ≡ Here i = rw f at e in
         let z : _≡_ {A = ℕ} 0 1 = cc in
         absurd (omega arith)
-    go false f = let d : Past l ≡ Past (common (word B i) v) = rw f at e in (cc, f)
+    go false f = let d : Past l ≡ Past (commonPrefix (word B i) v) = rw f at e in (cc, f)
 
 -- the letter at place q of a word in which X and Y of a relation word stand there is its first
-module _ (text table : List ℕ) (n : ℕ) (g : Checked text table n) (w : Word) (q k : ℕ) (h : k < n) (e : front (xyOf (wordsIn text table n) k) (drop q w) ≡ true) where
+module _ (text table : List ℕ) (n : ℕ) (g : Checked text table n) (w : Word) (q k : ℕ) (h : k < n) (e : isPrefix (xyOf (wordsIn text table n) k) (drop q w) ≡ true) where
   some-xy : 0 < length (xyOf (wordsIn text table n) k)
   some-xy =
       let l = words-length text table n in
@@ -264,7 +264,7 @@ module _ (text table : List ℕ) (n : ℕ) (g : Checked text table n) (w : Word)
   pub stands-placed : q < length w
   stands-placed =
       let s = some-xy in
-      let l = front-length (xyOf (wordsIn text table n) k) (drop q w) e in
+      let l = prefix-length (xyOf (wordsIn text table n) k) (drop q w) e in
       let d = length-drop q w in
       omega arith
 
@@ -277,14 +277,14 @@ module _ (text table : List ℕ) (n : ℕ) (g : Checked text table n) (w : Word)
       let z : startOf table k + 0 ≡ startOf table k = omega arith in
       let y : q + 0 ≡ q = omega arith in
       sym (ap (λ i. getD text i 0) z) ∙ sym (part-at text (startOf table k) (zStartOf table k) 0 (omega arith)) ∙ ap (λ u. getD u 0 0) p
-      ∙ front-at (xyOf (wordsIn text table n) k) (drop q w) e 0 s ∙ getD-drop q w 0 0 ∙ ap (λ i. getD w i 0) y
+      ∙ prefix-at (xyOf (wordsIn text table n) k) (drop q w) e 0 s ∙ getD-drop q w 0 0 ∙ ap (λ i. getD w i 0) y
 
 -- where no word can stand
 none-found : (text table : List ℕ) (n : ℕ) → Checked text table n → (w : Word) (q : ℕ)
-    → ((k : ℕ) → k < n → front (xyOf (wordsIn text table n) k) (drop q w) ≡ true → ⊥) → n ≡ frontAt (wordsIn text table n) w q
+    → ((k : ℕ) → k < n → isPrefix (xyOf (wordsIn text table n) k) (drop q w) ≡ true → ⊥) → n ≡ relationPrefixAt (wordsIn text table n) w q
 none-found text table n g w q f =
     let l = words-length text table n in
-    sym l ∙ none-stands (wordsIn text table n) (checked-rigid text table n g) w q (λ k h. false-of (front (xyOf (wordsIn text table n) k) (drop q w)) (f k (omega arith)))
+    sym l ∙ none-stands (wordsIn text table n) (checked-rigid text table n g) w q (λ k h. false-of (isPrefix (xyOf (wordsIn text table n) k) (drop q w)) (f k (omega arith)))
 
 -- the X and Y of no word listed below place j stand in w at place q, and the last of these words has m letters in common with w there
 pub record Seeking (text table : List ℕ) (n : ℕ) (w : Word) (q from to j m : ℕ) : Type 0 where
@@ -292,9 +292,9 @@ pub record Seeking (text table : List ℕ) (n : ℕ) (w : Word) (q from to j m :
   pub low : from ≤ j
   pub high : j ≤ to
   pub most : to ≤ n
-  pub none : (i : ℕ) → from ≤ i → i < j → front (xyOf (wordsIn text table n) (orderOf table i)) (drop q w) ≡ false
+  pub none : (i : ℕ) → from ≤ i → i < j → isPrefix (xyOf (wordsIn text table n) (orderOf table i)) (drop q w) ≡ false
   pub start : j ≡ from → m ≡ 0
-  pub same : from < j → m ≡ common (word (wordsIn text table n) (orderOf table (j - 1))) (drop q w)
+  pub same : from < j → m ≡ commonPrefix (word (wordsIn text table n) (orderOf table (j - 1))) (drop q w)
 
 pub seek-start : (text table : List ℕ) (n : ℕ) (w : Word) (q from to : ℕ) → Bucket text table n w q from to → Seeking text table n w q from to from 0
 seek-start text table n w q from to b =
@@ -321,10 +321,10 @@ module _ (text table : List ℕ) (n : ℕ) (w : Word) (q from to j m : ℕ) (s :
         same = s .same;
       }
 
-  pub seek-none : to ≤ j → n ≡ frontAt (wordsIn text table n) w q
+  pub seek-none : to ≤ j → n ≡ relationPrefixAt (wordsIn text table n) w q
   seek-none h = none-found text table n (s .bucket .checked) w q none
     where
-      none : (k : ℕ) → k < n → front (xyOf (wordsIn text table n) k) (drop q w) ≡ true → ⊥
+      none : (k : ℕ) → k < n → isPrefix (xyOf (wordsIn text table n) k) (drop q w) ≡ true → ⊥
       none k l e =
           let c = stands-letter text table n (s .bucket .checked) w q k l e in
           let f = s .bucket .checked .indexed .found k l in
@@ -334,7 +334,7 @@ module _ (text table : List ℕ) (n : ℕ) (w : Word) (q from to j m : ℕ) (s :
           true≢false (sym e ∙ rw (f .3) at z)
 
   module _ (h : j < to) (x : Meeting) (e : x ≡ metOf (wordsIn text table n) (orderOf table j) (drop q w)) where
-    pub seek-found : (k : ℕ) → x ≡ Here k → k ≡ frontAt (wordsIn text table n) w q
+    pub seek-found : (k : ℕ) → x ≡ Here k → k ≡ relationPrefixAt (wordsIn text table n) w q
     seek-found k f =
         let p = met-here (wordsIn text table n) (orderOf table j) k (drop q w) (sym f ∙ e) in
         let y = s .bucket .checked .indexed .known j (omega (arith, s .most)) in
@@ -350,7 +350,7 @@ module _ (text table : List ℕ) (n : ℕ) (w : Word) (q from to j m : ℕ) (s :
           high = omega arith;
           most = s .most;
           none = λ i a b. by-cases (decLt i j) (λ c. s .none i a c)
-              (λ c. subst (λ (k : ℕ). front (xyOf (wordsIn text table n) (orderOf table k)) (drop q w) ≡ false) (omega arith) (p .1));
+              (λ c. subst (λ (k : ℕ). isPrefix (xyOf (wordsIn text table n) (orderOf table k)) (drop q w) ≡ false) (omega arith) (p .1));
           start = λ a. absurd (omega (arith, s .low));
           same = λ a. let z : j + 1 - 1 ≡ j = omega arith in rw z (p .0);
         }
@@ -359,7 +359,7 @@ pub ruleset seeks = (seek-start, seek-turn, seek-none, seek-found, seek-more, ne
 
 -- the letter at place q says where to look
 module _ (text table : List ℕ) (n : ℕ) (w : Word) (q c : ℕ) (g : AtLetter text table n w q c) where
-  pub letter-high : 63 < c → n ≡ frontAt (wordsIn text table n) w q
+  pub letter-high : 63 < c → n ≡ relationPrefixAt (wordsIn text table n) w q
   letter-high h =
       none-found text table n (g .checked) w q
       (λ k l e.
@@ -382,7 +382,7 @@ pub ruleset unders = (letter-high, letter-low, letter-next, letter-bucket, needs
 
 -- the word has a letter at place q, or it has none
 module _ (text table : List ℕ) (n : ℕ) (g : Checked text table n) (a b : Word) (q : ℕ) (r : Bool) (e : r ≡ hasPlace (a ++ b) q) where
-  pub no-place : r ≡ false → n ≡ frontAt (wordsIn text table n) (a ++ b) q
+  pub no-place : r ≡ false → n ≡ relationPrefixAt (wordsIn text table n) (a ++ b) q
   unfolding hasPlace
   no-place f =
       let p = ltb-false q (length (a ++ b)) (sym e ∙ f) in

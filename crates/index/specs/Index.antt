@@ -5,13 +5,13 @@ use mathlib.Core.List.{List}
 use lib.Dec.{eqb, ltb}
 use lib.ListN.{length, getD, drop}
 use Rattle.words.specs.Search.{least}
-use Rattle.words.specs.Words.{Word, front, common}
+use Rattle.words.specs.Words.{Word, isPrefix, commonPrefix}
 use Rattle.overlap.specs.Cuts.{xyOf}
 use Rattle.layout.specs.Layout.{part}
 
 -- the relation word whose X and Y stand in w at place q, or the number of relation words
-unfoldable pub frontAt : List Word → Word → ℕ → ℕ
-frontAt B w q = least (length B) (λ j. front (xyOf B j) (drop q w))
+unfoldable pub relationPrefixAt : List Word → Word → ℕ → ℕ
+relationPrefixAt B w q = least (length B) (λ j. isPrefix (xyOf B j) (drop q w))
 
 -- w has a letter at place q
 unfoldable pub hasPlace : Word → ℕ → Bool
@@ -29,4 +29,4 @@ pub record Span (text : List ℕ) (from to : ℕ) : Type 0 where
 -- m letters of that part are known to agree with w at place q
 pub record Agreed (text : List ℕ) (from to : ℕ) (w : Word) (q m : ℕ) : Type 0 where
   pub span : Span text from to
-  pub passed : m ≤ common (part text from to) (drop q w)
+  pub passed : m ≤ commonPrefix (part text from to) (drop q w)

@@ -5,7 +5,7 @@ use mathlib.Core.List.{List}
 use mathlib.Core.Path.{_≡_}
 use lib.Dec.{eqb, ltb}
 use lib.ListN.{length, getD}
-use Rattle.words.specs.Words.{common}
+use Rattle.words.specs.Words.{commonPrefix}
 use Rattle.overlap.specs.Pieces.{word}
 use Rattle.layout.specs.Layout.{startOf, wordsIn, firstOf, orderOf, Laid, Indexed}
 
@@ -21,7 +21,7 @@ count p (suc n) = cond (p n) (suc (count p n)) (count p n)
 -- relation word k is listed before relation word h under their letter: the letter at which they part decides, and a word's fence is behind all letters
 unfoldable pub earlier : List ℕ → List ℕ → ℕ → ℕ → ℕ → Bool
 earlier text table n k h =
-    let m = common (word (wordsIn text table n) k) (word (wordsIn text table n) h) in
+    let m = commonPrefix (word (wordsIn text table n) k) (word (wordsIn text table n) h) in
     ltb (getD text (startOf table k + m) 0) (getD text (startOf table h + m) 0)
 
 -- relation word k goes before the word listed at place i - 1, where place i is free and `from` is the first place of the letter

@@ -5,7 +5,7 @@ use mathlib.Core.List.{List}
 use mathlib.Core.Path.{_≡_}
 use lib.Dec.{eqb}
 use lib.ListN.{length, getD, drop}
-use Rattle.words.specs.Words.{Word, front, common}
+use Rattle.words.specs.Words.{Word, isPrefix, commonPrefix}
 use Rattle.overlap.specs.Pieces.{word}
 use Rattle.overlap.specs.Cuts.{xyOf}
 use Rattle.layout.specs.Layout.{startOf, zStartOf, wordsIn, firstOf, orderOf, sharedOf, Checked}
@@ -15,7 +15,7 @@ use Rattle.index.specs.Index.{Agreed}
 
 -- relation word k met with v: its X and Y stand in front of v, or it has some letters in common with v
 unfoldable pub metOf : List Word → ℕ → Word → Meeting
-metOf B k v = cond (front (xyOf B k) v) (Here k) (Past (common (word B k) v))
+metOf B k v = cond (isPrefix (xyOf B k) v) (Here k) (Past (commonPrefix (word B k) v))
 
 -- how much the word listed at place j shares with the one listed before it under the same letter, which has its list from place `from` on
 unfoldable pub sharedFrom : List ℕ → ℕ → ℕ → ℕ
@@ -46,6 +46,6 @@ pub record Turn (text table : List ℕ) (n : ℕ) (w : Word) (q from j m : ℕ) 
   pub checked : Checked text table n
   pub low : from ≤ j
   pub known : j < n
-  pub none : from < j → front (xyOf (wordsIn text table n) (orderOf table (j - 1))) (drop q w) ≡ false
+  pub none : from < j → isPrefix (xyOf (wordsIn text table n) (orderOf table (j - 1))) (drop q w) ≡ false
   pub start : j ≡ from → m ≡ 0
-  pub same : from < j → m ≡ common (word (wordsIn text table n) (orderOf table (j - 1))) (drop q w)
+  pub same : from < j → m ≡ commonPrefix (word (wordsIn text table n) (orderOf table (j - 1))) (drop q w)

@@ -5,9 +5,9 @@ ghost use Prim.Native.Nat.{_+_, _*_, _-_, _<_, _≤_, min};
 ghost use mathlib.Core.List.{_++_};
 ghost use lib.Dec.{eqb};
 ghost use lib.ListN.{length, getD, drop};
-ghost use Rattle.words.specs.Words.{front, common};
+ghost use Rattle.words.specs.Words.{isPrefix, commonPrefix};
 ghost use Rattle.layout.specs.Layout.{part, startOf, xEndOf, zStartOf, endOf, firstOf, orderOf, wordsIn, Checked};
-ghost use Rattle.index.specs.Index.{frontAt, hasPlace, hasLetter, Span, Agreed};
+ghost use Rattle.index.specs.Index.{relationPrefixAt, hasPlace, hasLetter, Span, Agreed};
 ghost use Rattle.overlap.specs.Pieces.{word};
 ghost use Rattle.index.specs.Making.{letterOf, earlier, sinksOf, Unlisted, One, Two, Sinking, Lists, Listable, Looked, Begun, Neighbours, Gathered, AllListed, IndexMade};
 ghost use Rattle.index.specs.Seek.{metOf, sharedFrom, Meets, AtLetter, Bucket, Turn};
@@ -72,7 +72,7 @@ pub fn has_letter(a: &[u8], b: &[u8], q: usize, x: u8) -> bool
 // How many letters of text[from..to) agree with s at place q, where m are known to.
 fn along(text: &[u8], from: usize, to: usize, s: &[u8], q: usize, m: usize) -> usize
     requires { ⌜ Agreed (now text) from to (now s) q m ⌝ }
-    ensures { λ r. ⌜ r ≡ common (part (now (text .entry)) from to) (drop q (now (s .entry))) ⌝ }
+    ensures { λ r. ⌜ r ≡ commonPrefix (part (now (text .entry)) from to) (drop q (now (s .entry))) ⌝ }
 {
     if s.len() <= q {
         return 0;
@@ -91,7 +91,7 @@ fn along(text: &[u8], from: usize, to: usize, s: &[u8], q: usize, m: usize) -> u
 // How many letters of text[from..to) agree with the word at place q, where m are known to.
 pub fn agree(text: &[u8], from: usize, to: usize, a: &[u8], b: &[u8], q: usize, m: usize) -> usize
     requires { ⌜ Agreed (now text) from to (now a ++ now b) q m ⌝ }
-    ensures { λ r. ⌜ r ≡ common (part (now (text .entry)) from to) (drop q (now (a .entry) ++ now (b .entry))) ⌝ }
+    ensures { λ r. ⌜ r ≡ commonPrefix (part (now (text .entry)) from to) (drop q (now (a .entry) ++ now (b .entry))) ⌝ }
 {
     if a.len() <= q {
         return along(text, from, to, b, q - a.len(), m);
@@ -110,7 +110,7 @@ pub fn agree(text: &[u8], from: usize, to: usize, a: &[u8], b: &[u8], q: usize, 
 // Whether text[from..to) stands in the word at place q.
 pub fn begins(text: &[u8], from: usize, to: usize, a: &[u8], b: &[u8], q: usize) -> bool
     requires { ⌜ Span (now text) from to ⌝ }
-    ensures { λ r. ⌜ r ≡ front (part (now (text .entry)) from to) (drop q (now (a .entry) ++ now (b .entry))) ⌝ }
+    ensures { λ r. ⌜ r ≡ isPrefix (part (now (text .entry)) from to) (drop q (now (a .entry) ++ now (b .entry))) ⌝ }
 {
     agree(text, from, to, a, b, q, 0) == to - from
 }
@@ -235,7 +235,7 @@ fn seek(
     to: usize,
 ) -> usize
     requires { ⌜ Bucket (now text) (now table) n (now a ++ now b) q from to ⌝ }
-    ensures { λ r. ⌜ r ≡ frontAt (wordsIn (now (text .entry)) (now (table .entry)) n) (now (a .entry) ++ now (b .entry)) q ⌝ }
+    ensures { λ r. ⌜ r ≡ relationPrefixAt (wordsIn (now (text .entry)) (now (table .entry)) n) (now (a .entry) ++ now (b .entry)) q ⌝ }
 {
     let mut m = 0;
     let mut j = from;
@@ -255,7 +255,7 @@ fn seek(
 // The same for all the words, where c is the letter at place q.
 fn under_letter(text: &[u8], table: &[u16], n: usize, a: &[u8], b: &[u8], q: usize, c: u8) -> usize
     requires { ⌜ AtLetter (now text) (now table) n (now a ++ now b) q c ⌝ }
-    ensures { λ r. ⌜ r ≡ frontAt (wordsIn (now (text .entry)) (now (table .entry)) n) (now (a .entry) ++ now (b .entry)) q ⌝ }
+    ensures { λ r. ⌜ r ≡ relationPrefixAt (wordsIn (now (text .entry)) (now (table .entry)) n) (now (a .entry) ++ now (b .entry)) q ⌝ }
 {
     if 63 < c {
         return n;
@@ -266,9 +266,9 @@ fn under_letter(text: &[u8], table: &[u16], n: usize, a: &[u8], b: &[u8], q: usi
 }
 
 // The relation word whose X and Y stand in the word at place q, or n.
-pub fn front_at(text: &[u8], table: &[u16], n: usize, a: &[u8], b: &[u8], q: usize) -> usize
+pub fn prefix_at(text: &[u8], table: &[u16], n: usize, a: &[u8], b: &[u8], q: usize) -> usize
     requires { ⌜ Checked (now text) (now table) n ⌝ }
-    ensures { λ r. ⌜ r ≡ frontAt (wordsIn (now (text .entry)) (now (table .entry)) n) (now (a .entry) ++ now (b .entry)) q ⌝ }
+    ensures { λ r. ⌜ r ≡ relationPrefixAt (wordsIn (now (text .entry)) (now (table .entry)) n) (now (a .entry) ++ now (b .entry)) q ⌝ }
 {
     if has_place(a, b, q) {
         let c = letter_at(a, b, q);
@@ -277,10 +277,10 @@ pub fn front_at(text: &[u8], table: &[u16], n: usize, a: &[u8], b: &[u8], q: usi
     n
 }
 
-// How many letters relation words h and k have in common at their fronts.
+// How many letters relation words h and k have in common at their prefixes.
 fn shared_letters(text: &[u8], table: &[u16], n: usize, h: usize, k: usize) -> usize
     requires { ⌜ Two (now text) (now table) n h k ⌝ }
-    ensures { λ r. ⌜ r ≡ common (word (wordsIn (now (text .entry)) (now (table .entry)) n) h) (word (wordsIn (now (text .entry)) (now (table .entry)) n) k) ⌝ }
+    ensures { λ r. ⌜ r ≡ commonPrefix (word (wordsIn (now (text .entry)) (now (table .entry)) n) h) (word (wordsIn (now (text .entry)) (now (table .entry)) n) k) ⌝ }
 {
     let from = start_of(table, h);
     let to = end_of(table, h);
@@ -385,7 +385,7 @@ fn list_all(text: &[u8], table: &mut [u16], n: usize)
 // How much the word listed at place j shares with the one before it.
 fn shared_before(text: &[u8], table: &[u16], n: usize, j: usize) -> usize
     requires { ⌜ Neighbours (now text) (now table) n j ⌝ }
-    ensures { λ r. ⌜ r ≡ common (word (wordsIn (now (text .entry)) (now (table .entry)) n) (orderOf (now (table .entry)) (j - 1))) (word (wordsIn (now (text .entry)) (now (table .entry)) n) (orderOf (now (table .entry)) j)) ⌝ }
+    ensures { λ r. ⌜ r ≡ commonPrefix (word (wordsIn (now (text .entry)) (now (table .entry)) n) (orderOf (now (table .entry)) (j - 1))) (word (wordsIn (now (text .entry)) (now (table .entry)) n) (orderOf (now (table .entry)) j)) ⌝ }
 {
     let before = order_of(table, j - 1);
     let here = order_of(table, j);

@@ -33,17 +33,17 @@ module _ (text table : List ℕ) (n : ℕ) (l : Laid text table n) (c : Cut text
       let w = word-length text table n l i h in
       omega (arith, z, w)
 
-  -- a front of the word is a part of the text
-  front-part : (b m : ℕ) → startOf table i ≤ b → b ≤ endOf table i → m ≡ b - startOf table i → take m (word (wordsIn text table n) i) ≡ part text (startOf table i) b
-  front-part b m s g e =
+  -- a prefix of the word is a part of the text
+  prefix-part : (b m : ℕ) → startOf table i ≤ b → b ≤ endOf table i → m ≡ b - startOf table i → take m (word (wordsIn text table n) i) ≡ part text (startOf table i) b
+  prefix-part b m s g e =
       let d : startOf table i + m ≡ b = omega (arith, s, e) in
       ap (take m) (word-part text table n i h) ∙ part-take text (startOf table i) (endOf table i) m (omega (arith, g, e)) ∙ ap (part text (startOf table i)) d
 
   pub x-part : xOf (wordsIn text table n) i ≡ part text (startOf table i) (xEndOf table i)
-  x-part = let p = cuts-inside in front-part (xEndOf table i) (xlen (wordsIn text table n) i) (p .0) (p .1) x-long
+  x-part = let p = cuts-inside in prefix-part (xEndOf table i) (xlen (wordsIn text table n) i) (p .0) (p .1) x-long
 
   pub xy-part : xyOf (wordsIn text table n) i ≡ part text (startOf table i) (zStartOf table i)
-  xy-part = let p = cuts-inside in front-part (zStartOf table i) (xylen (wordsIn text table n) i) (p .2) (p .3) xy-long
+  xy-part = let p = cuts-inside in prefix-part (zStartOf table i) (xylen (wordsIn text table n) i) (p .2) (p .3) xy-long
 
   pub z-part : zOf (wordsIn text table n) i ≡ part text (zStartOf table i) (endOf table i)
   z-part =

@@ -11,14 +11,14 @@ use Rattle.layout.specs.Layout.{part}
 pub part-none : (text : List ℕ) (a b : ℕ) → b ≤ a → part text a b ≡ []
 part-none text a b h = let e : b - a ≡ 0 = omega (arith, h) in rw e
 
--- the front of a part, and what is left behind it
+-- the prefix of a part, and what is left behind it
 pub part-take : (text : List ℕ) (a b n : ℕ) → n ≤ b - a → take n (part text a b) ≡ part text a (a + n)
 part-take text a b n h = let e : a + n - a ≡ n = omega arith in take-take n (b - a) (drop a text) h ∙ ap (λ k. take k (drop a text)) (sym e)
 
 pub part-drop : (text : List ℕ) (a b n : ℕ) → drop n (part text a b) ≡ part text (a + n) b
 part-drop text a b n = let e : b - a - n ≡ b - (a + n) = omega arith in drop-take n (b - a) (drop a text) ∙ rw (drop-drop n a text, e)
 
--- a part of a front of the text
+-- a part of a prefix of the text
 pub part-of-take : (text : List ℕ) (t a b : ℕ) → b ≤ t → part (take t text) a b ≡ part text a b
 part-of-take text t a b h = rw (drop-take a t text) (take-take (b - a) (t - a) (drop a text) (omega (arith, h)))
 

@@ -5,7 +5,7 @@ use Prim.Native.Nat.{ℕ, zero, suc, _+_, _*_, _-_, _<_, _≤_}
 use mathlib.Core.List.{List, [], _∷_, _++_}
 use mathlib.Core.Path.{_≡_}
 use lib.ListN.{length, getD, take, drop}
-use Rattle.words.specs.Words.{Word, common}
+use Rattle.words.specs.Words.{Word, commonPrefix}
 use Rattle.overlap.specs.Pieces.{word, C4}
 use Rattle.overlap.specs.Cuts.{xlen, zlen}
 
@@ -67,7 +67,7 @@ pub record Indexed (text table : List ℕ) (n : ℕ) : Type 0 where
   pub found : (k : ℕ) → k < n
       → (j : ℕ) × (firstOf table (getD text (startOf table k) 0) ≤ j) × (j < firstOf table (getD text (startOf table k) 0 + 1)) × (orderOf table j ≡ k)
   pub alike : (j : ℕ) → 0 < j → j < n
-      → sharedOf table j ≡ common (word (wordsIn text table n) (orderOf table (j - 1))) (word (wordsIn text table n) (orderOf table j))
+      → sharedOf table j ≡ commonPrefix (word (wordsIn text table n) (orderOf table (j - 1))) (word (wordsIn text table n) (orderOf table j))
 
 -- the relation words of a book that meets C(4), with their cuts and their index: what every round works on
 pub record Checked (text table : List ℕ) (n : ℕ) : Type 0 where

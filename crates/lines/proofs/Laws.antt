@@ -187,13 +187,13 @@ put-both out at s a r t b q h f g =
     let n : length (take at out) ≡ at = length-take-le at out (omega arith) in
     let e : length (take at out ++ s) ≡ at + length s = length-append (take at out) s ∙ rw n in
     let a′ : a ≡ (take at out ++ s) ++ drop (at + length s) out = f .same ∙ sym (append-assoc (take at out) s (drop (at + length s) out)) in
-    let front : take r a ≡ take at out ++ s = rw (f .behind, a′) (take-at (take at out ++ s) (drop (at + length s) out) (at + length s) e) in
+    let isPrefix : take r a ≡ take at out ++ s = rw (f .behind, a′) (take-at (take at out ++ s) (drop (at + length s) out) (at + length s) e) in
     let k : r + length t ≡ length (take at out ++ s) + length t = omega (arith, f .behind) in
     let back : drop (r + length t) a ≡ drop (at + length (s ++ t)) out =
     rw (k, a′, drop-append-add, drop-drop, l, add-assoc) in
     record {
       behind = omega (arith, f .behind, g .behind);
-      same = g .same ∙ rw (front, back) (simp append-assoc);
+      same = g .same ∙ rw (isPrefix, back) (simp append-assoc);
       kept = g .kept ∙ f .kept;
     }
 

@@ -40,7 +40,7 @@ product-of-three B i a b h ab bl p q r =
       ),
     )
 
--- no front longer than X is a piece, and X is one
+-- no prefix longer than X is a piece, and X is one
 pub x-longest : (B : List Word) (i n : ℕ) → xlen B i < n → n ≤ len B i → ¬ Piece B i 0 n
 unfolding xlen
 x-longest B i n h l = no-piece-of-test B i 0 n (omega arith) (greatest-last (len B i) (pieceAt B i 0) n h l)

@@ -9,9 +9,9 @@ use native.Mathlib.Omega.{arith}
 use native.Mathlib.Decide.{decLe}
 use lib.ListN.{length, take, drop, length-append, take-append-drop}
 use lib.Seq.{length-slice, take-take, take-all, take-append-add, drop-append-le}
-use Rattle.words.specs.Words.{Word, front}
+use Rattle.words.specs.Words.{Word, isPrefix}
 use Rattle.words.proofs.Lists.{no-letters}
-use Rattle.words.proofs.Fronts.{front-append, front-split}
+use Rattle.words.proofs.Prefixes.{prefix-append, prefix-split}
 use Rattle.overlap.specs.Pieces.{word, Occurs, IsPiece, C4}
 use Rattle.overlap.specs.Cuts.{xlen, zlen, xylen, xOf, xyOf, zOf}
 use Rattle.overlap.specs.Maximal.{IsPrefix, IsSuffix, MaximalPiece, MaximalPiecePrefix, MaximalPieceSuffix, yOf}
@@ -19,9 +19,9 @@ use Rattle.overlap.proofs.Places.{piece-part}
 use Rattle.overlap.proofs.Occurrences.{occurs-segment, occurs-once, is-piece-of-place, place-of-is-piece}
 use Rattle.overlap.proofs.Facts.{x-bound, x-piece, x-longest, length-x, z-bound, z-piece, z-longest, length-xy, length-z, y-not-empty, y-no-piece}
 
--- the test `front` says whether the word is a prefix
-pub front-iff-prefix : (a u : Word) → front a u ≡ true ↔ IsPrefix a u
-front-iff-prefix a u = (λ e. (drop (length a) u, front-split a u e), λ p. subst (λ v. front a v ≡ true) (p .1) (front-append a (p .0)))
+-- the test `isPrefix` says whether the word is a prefix
+pub isPrefix-iff-prefix : (a u : Word) → isPrefix a u ≡ true ↔ IsPrefix a u
+isPrefix-iff-prefix a u = (λ e. (drop (length a) u, prefix-split a u e), λ p. subst (λ v. isPrefix a v ≡ true) (p .1) (prefix-append a (p .0)))
 
 -- prefixes occur at 0, suffixes at the end
 pub prefix-occurs : (B : List Word) (i : ℕ) (a : Word) → i < length B → IsPrefix a (word B i) → Occurs B a i 0
@@ -89,9 +89,9 @@ pub maximal-unique : (IsPart : Word → Word → Type 0) → ((a b : Word) → I
     → (B : List Word) (i : ℕ) (x y : Word) → MaximalPiece IsPart B i x → MaximalPiece IsPart B i y → x ≡ y
 maximal-unique IsPart anti B i x y m n = anti x y (n .longest x (m .part) (m .piece)) (m .longest y (n .part) (n .piece))
 
--- a piece that is a prefix of a relation word is a prefix of its X, by the test `front`
-pub piece-front-in-x : (B : List Word) (i : ℕ) (a : Word) → i < length B → front a (word B i) ≡ true → IsPiece B a → front a (xOf B i) ≡ true
-piece-front-in-x B i a h e c = front-iff-prefix a (xOf B i) .1 (x-maximal B i h .longest a (front-iff-prefix a (word B i) .0 e) c)
+-- a piece that is a prefix of a relation word is a prefix of its X, by the test `isPrefix`
+pub piece-prefix-in-x : (B : List Word) (i : ℕ) (a : Word) → i < length B → isPrefix a (word B i) ≡ true → IsPiece B a → isPrefix a (xOf B i) ≡ true
+piece-prefix-in-x B i a h e c = isPrefix-iff-prefix a (xOf B i) .1 (x-maximal B i h .longest a (isPrefix-iff-prefix a (word B i) .0 e) c)
 
 -- under C(4) a relation word is X Y Z
 pub cut-whole : (B : List Word) → C4 B → (i : ℕ) → i < length B → xOf B i ++ (yOf B i ++ zOf B i) ≡ word B i
@@ -116,7 +116,7 @@ y-is-no-piece B c i h p =
     record { there = h; before = xOf B i; after = zOf B i; split = cut-whole B c i h; place = length-x B i } in
     y-no-piece B c i h (piece-part (place-of-is-piece o p) (omega arith))
 
--- under C(4), X and Y together are no piece: they occur at the front of their relation word and nowhere else
+-- under C(4), X and Y together are no piece: they occur at the prefix of their relation word and nowhere else
 pub xy-is-no-piece : (B : List Word) → C4 B → (i : ℕ) → i < length B → ¬ IsPiece B (xyOf B i)
 xy-is-no-piece B c i h p =
     let l = y-not-empty B c i h in

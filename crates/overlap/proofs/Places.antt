@@ -11,11 +11,11 @@ use borrow.Author.Tests.{eqb-true, eq-eqb, ne-eqb, not-true}
 use lib.ListN.{length, getD, take, drop, length-drop}
 use lib.Seq.{length-take-le, getD-take, getD-drop}
 use Rattle.words.specs.Search.{anyBelow}
-use Rattle.words.specs.Words.{Word, front}
+use Rattle.words.specs.Words.{Word, isPrefix}
 use Rattle.words.proofs.Picks.{or-right}
 use Rattle.words.proofs.Searching.{any-of, any-found}
 use Rattle.words.proofs.Segments.{Same, same-sym, same-sub, same-via}
-use Rattle.words.proofs.Fronts.{front-same, front-fits, same-front}
+use Rattle.words.proofs.Prefixes.{prefix-same, prefix-fits, same-prefix}
 use Rattle.overlap.specs.Pieces.{word}
 use Rattle.overlap.specs.Cuts.{len, twin, pieceAt}
 
@@ -57,7 +57,7 @@ test-of-twin B i p n j q fit t =
     let a = take n (drop p (word B i)) in
     let l : length a ≡ n = length-segment (word B i) p n fit in
     let s : Same a 0 (word B j) q n = same-via (segment-same (word B i) p n) (t .same) (omega arith) in
-    let f : front a (drop q (word B j)) ≡ true = same-front a (word B j) q (let f = t .fits in omega arith) (subst (λ m. Same a 0 (word B j) q m) (sym l) s) in
+    let f : isPrefix a (drop q (word B j)) ≡ true = same-prefix a (word B j) q (let f = t .fits in omega arith) (subst (λ m. Same a 0 (word B j) q m) (sym l) s) in
     simp (differ-test i p j q (t .elsewhere), f)
 
 -- what passes the test is another place, of one letter or more
@@ -67,8 +67,8 @@ twin-of-test B i p n j q pos fit there e =
     let a = take n (drop p (word B i)) in
     let l : length a ≡ n = length-segment (word B i) p n fit in
     let r = simp and-eq-true-iff at e in
-    let s : Same a 0 (word B j) q n = subst (λ m. Same a 0 (word B j) q m) l (front-same a (word B j) q (r .1)) in
-    let f = front-fits a (word B j) q (omega arith) (r .1) in
+    let s : Same a 0 (word B j) q n = subst (λ m. Same a 0 (word B j) q m) l (prefix-same a (word B j) q (r .1)) in
+    let f = prefix-fits a (word B j) q (omega arith) (r .1) in
     record {
       there = there;
       fits = omega arith;

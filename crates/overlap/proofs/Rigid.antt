@@ -14,7 +14,7 @@ pub record Rigid (B : List Word) (xl xyl : ℕ → ℕ) : Type 0 where
   -- Y is not empty, and X, Y lie in the word
   pub some : (i : ℕ) → i < length B → xl i < xyl i
   pub within : (i : ℕ) → i < length B → xyl i ≤ len B i
-  -- a front longer than X stands nowhere else
+  -- a prefix longer than X stands nowhere else
   pub marker : (i j c n : ℕ) → i < length B → j < length B → xl i < n → n ≤ len B i → c + n ≤ len B j → Same (word B i) 0 (word B j) c n → (i ≡ j) × (c ≡ 0)
   -- Y stands nowhere else
   pub middle : (i j c : ℕ) → i < length B → j < length B → c + (xyl i - xl i) ≤ len B j → Same (word B i) (xl i) (word B j) c (xyl i - xl i) → (i ≡ j) × (c ≡ xl i)

@@ -10,12 +10,12 @@ use lib.Dec.{ltb}
 use borrow.Author.Tests.{eqb-true, eq-eqb, lt-ltb, le-ltb}
 use lib.ListN.{length, drop}
 use lib.Seq.{drop-length}
-use Rattle.words.specs.Words.{Word, front}
+use Rattle.words.specs.Words.{Word, isPrefix}
 use Rattle.words.proofs.Searching.{any-of, any-found, least-bound}
-use Rattle.words.proofs.Fronts.{front-append, front-split}
+use Rattle.words.proofs.Prefixes.{prefix-append, prefix-split}
 use Rattle.overlap.specs.Pieces.{word, Occurs, IsPiece, IsProduct, C4}
 use Rattle.overlap.specs.Cuts.{firstLoose}
-use Rattle.overlap.specs.Verdict.{sameWord, repeated, firstRepeated, Verdict, accepted, twice, loose, judge, Repeats, Lowest, Distinct, RightVerdict}
+use Rattle.overlap.specs.Verdict.{sameWord, isRepeated, firstRepeated, Verdict, accepted, repeated, loose, judge, IsRepeated, Lowest, Distinct, RightVerdict}
 use Rattle.overlap.proofs.Occurrences.{occurs-whole}
 use Rattle.overlap.proofs.Agree.{least-iff-lowest, least-iff-none, firstLoose-iff-lowest, firstLoose-iff-c4, firstLoose-bound}
 
@@ -26,14 +26,14 @@ sameWord-iff-equal a b = (
   λ e.
       let r = simp and-eq-true-iff at e in
       let d : drop (length a) b ≡ [] = ap (λ n. drop n b) (eqb-true (length a) (length b) (r .0)) ∙ drop-length b in
-      sym (append-nil a) ∙ ap (a ++_) (sym d) ∙ front-split a b (r .1),
+      sym (append-nil a) ∙ ap (a ++_) (sym d) ∙ prefix-split a b (r .1),
   λ e.
-      simp and-eq-true-iff (eq-eqb (length a) (length b) (ap length e), subst (λ u. front a u ≡ true) (append-nil a ∙ e) (front-append a [])),
+      simp and-eq-true-iff (eq-eqb (length a) (length b) (ap length e), subst (λ u. isPrefix a u ≡ true) (append-nil a ∙ e) (prefix-append a [])),
 )
 
 -- the test for a relation word that equals an earlier one
-pub repeated-iff-repeats : (B : List Word) (i : ℕ) → repeated B i ≡ true ↔ Repeats B i
-unfolding repeated
+pub repeated-iff-repeats : (B : List Word) (i : ℕ) → isRepeated B i ≡ true ↔ IsRepeated B i
+unfolding isRepeated
 repeated-iff-repeats B i = (
   λ e. let f = any-found i (λ j. sameWord (word B j) (word B i)) e in (f .0, f .1, sameWord-iff-equal (word B (f .0)) (word B i) .0 (f .2)),
   λ (j, l, e).
@@ -41,19 +41,19 @@ repeated-iff-repeats B i = (
 )
 
 -- `firstRepeated` is the lowest relation word that equals an earlier one
-pub firstRepeated-iff-lowest : (B : List Word) (i : ℕ) → i < length B → firstRepeated B ≡ i ↔ Lowest (length B) (Repeats B) i
+pub firstRepeated-iff-lowest : (B : List Word) (i : ℕ) → i < length B → firstRepeated B ≡ i ↔ Lowest (length B) (IsRepeated B) i
 unfolding firstRepeated
-firstRepeated-iff-lowest B i h = least-iff-lowest (length B) (repeated B) (Repeats B) (λ k l. repeated-iff-repeats B k) i h
+firstRepeated-iff-lowest B i h = least-iff-lowest (length B) (isRepeated B) (IsRepeated B) (λ k l. repeated-iff-repeats B k) i h
 
 pub firstRepeated-bound : (B : List Word) → firstRepeated B ≤ length B
 unfolding firstRepeated
-firstRepeated-bound B = least-bound (length B) (repeated B)
+firstRepeated-bound B = least-bound (length B) (isRepeated B)
 
 -- there is none exactly when the relation words are distinct
 pub firstRepeated-iff-distinct : (B : List Word) → firstRepeated B ≡ length B ↔ Distinct B
 unfolding firstRepeated
 firstRepeated-iff-distinct B =
-    let r = least-iff-none (length B) (repeated B) (Repeats B) (λ k l. repeated-iff-repeats B k) in (
+    let r = least-iff-none (length B) (isRepeated B) (IsRepeated B) (λ k l. repeated-iff-repeats B k) in (
       λ f i j h k e.
           by-cases (decLt i j) (λ l. absurd (r .0 f j k (i, l, e))) (λ l. by-cases (decLt j i) (λ m. absurd (r .0 f i h (j, m, sym e))) (λ m. omega arith)),
       λ d.
@@ -93,10 +93,10 @@ right-is-judged B accepted (d, c) =
     let e = firstRepeated-iff-distinct B .1 d in
     let f = firstLoose-iff-c4 B .1 c in
     rw (le-ltb (firstRepeated B) (length B) (omega arith), le-ltb (firstLoose B) (length B) (omega arith))
-right-is-judged B (twice i) w =
+right-is-judged B (repeated i) w =
     let l = w .below in
     let e = firstRepeated-iff-lowest B i l .1 w in
-    rw (lt-ltb (firstRepeated B) (length B) (omega arith)) (ap twice e)
+    rw (lt-ltb (firstRepeated B) (length B) (omega arith)) (ap repeated e)
 right-is-judged B (loose i) (d, w) =
     let l = w .below in
     let e = firstRepeated-iff-distinct B .1 d in

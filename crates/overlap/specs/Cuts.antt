@@ -5,7 +5,7 @@ use mathlib.Core.List.{List}
 use lib.Dec.{eqb, leb}
 use lib.ListN.{length, take, drop}
 use Rattle.words.specs.Search.{anyBelow, least, greatest}
-use Rattle.words.specs.Words.{Word, front}
+use Rattle.words.specs.Words.{Word, isPrefix}
 use Rattle.overlap.specs.Pieces.{word}
 
 -- the length of relation word i
@@ -14,7 +14,7 @@ len B i = length (word B i)
 
 -- the n letters of relation word i from p on stand in relation word j at q too
 unfoldable pub twin : List Word → ℕ → ℕ → ℕ → ℕ → ℕ → Bool
-twin B i p n j q = not (eqb i j && eqb p q) && front (take n (drop p (word B i))) (drop q (word B j))
+twin B i p n j q = not (eqb i j && eqb p q) && isPrefix (take n (drop p (word B i))) (drop q (word B j))
 
 -- the n letters of relation word i from p on are a piece
 unfoldable pub pieceAt : List Word → ℕ → ℕ → ℕ → Bool
@@ -62,5 +62,5 @@ zmost B zero = 0
 zmost B (suc n) = max (zmost B n) (zlen B n)
 
 -- document 01's k
-abbrev pub kOf : List Word → ℕ
-kOf B = zmost B (length B)
+abbrev pub longestSuffixPiece : List Word → ℕ
+longestSuffixPiece B = zmost B (length B)

@@ -22,7 +22,7 @@ pub record MaximalPiece (IsPart : Word → Word → Type 0) (B : List Word) (i :
   pub part : IsPart x (word B i)
   pub longest : (a : Word) → IsPart a (word B i) → IsPiece B a → IsPart a x
 
--- x is the maximal piece prefix of relation word i (document 01: X, its longest front that is a piece)
+-- x is the maximal piece prefix of relation word i (document 01: X, its longest prefix that is a piece)
 abbrev pub MaximalPiecePrefix : List Word → ℕ → Word → Type 0
 MaximalPiecePrefix = MaximalPiece IsPrefix
 

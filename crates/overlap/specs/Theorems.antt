@@ -5,7 +5,7 @@ use mathlib.Core.List.{List, _++_}
 use mathlib.Core.Logic.{_↔_}
 use mathlib.Core.Path.{_≡_}
 use lib.ListN.{length, take, drop}
-use Rattle.words.specs.Words.{Word, front}
+use Rattle.words.specs.Words.{Word, isPrefix}
 use Rattle.overlap.specs.Pieces.{word, Occurs, IsPiece, C4}
 use Rattle.overlap.specs.Cuts.{len, pieceAt, xOf, xyOf, zOf}
 use Rattle.overlap.specs.Maximal.{MaximalPiecePrefix, MaximalPieceSuffix, yOf}
@@ -33,9 +33,9 @@ pub record GoodCut (B : List Word) (i : ℕ) : Type 0 where
   pub some : 0 < length (yOf B i)
   pub middle : ¬ IsPiece B (yOf B i)
   pub once : (j p : ℕ) → Occurs B (xyOf B i) j p → (i ≡ j) × (p ≡ 0)
-  pub fronts : (a : Word) → front a (word B i) ≡ true → IsPiece B a → front a (xOf B i) ≡ true
+  pub prefixes : (a : Word) → isPrefix a (word B i) ≡ true → IsPiece B a → isPrefix a (xOf B i) ≡ true
 
--- Y is not empty and no piece, XY occurs nowhere else, and a piece that is a front of a relation word is a front of its X
+-- Y is not empty and no piece, XY occurs nowhere else, and a piece that is a prefix of a relation word is a prefix of its X
 abbrev pub CutsGood : Type 0
 CutsGood = (B : List Word) → C4 B → (i : ℕ) → i < length B → GoodCut B i
 

@@ -1,4 +1,4 @@
--- Common fronts of two places of a fenced text never cross a fence, so they are the factors that two places of the relation words share.
+-- Common prefixes of two places of a fenced text never cross a fence, so they are the factors that two places of the relation words share.
 use Prim.Native.Nat.{ℕ, zero, suc, _+_, _-_, _<_, _≤_}
 use mathlib.Core.Bool.{Bool, true, false, _&&_, true≢false, false≢true, and-eq-true-iff}
 use mathlib.Core.List.{List}
@@ -13,7 +13,7 @@ use lib.Seq.{getD-take, getD-drop, length-take-le}
 use Rattle.words.specs.Search.{anyBelow}
 use Rattle.words.proofs.Tests.{false-of}
 use Rattle.words.proofs.Commons.{common-within, common-at, common-most}
-use Rattle.words.proofs.Fronts.{front-at, at-front, front-length}
+use Rattle.words.proofs.Prefixes.{prefix-at, at-prefix, prefix-length}
 use Rattle.words.proofs.Searching.{any-of, any-none}
 use Rattle.overlap.specs.Pieces.{word}
 use Rattle.overlap.specs.Cuts.{len, twin, pieceAt}
@@ -23,7 +23,7 @@ use Rattle.pieces.specs.Longest.{most, shared, longestAt, Bounded}
 use Rattle.pieces.specs.Judging.{Fenced}
 use Rattle.pieces.proofs.Passes.{shared-from-past}
 
--- the common front of two places, letter by letter
+-- the common prefix of two places, letter by letter
 module _ (text : List ℕ) (p q : ℕ) where
   pub shared-fits : 0 < shared text p q → (p + shared text p q ≤ length text) × (q + shared text p q ≤ length text)
   unfolding shared
@@ -74,7 +74,7 @@ longest-found text p m i h l = by-cases (decLe m (most (shared text p) 0 p))
     (r .0, omega (arith, r .2, i), (λ g. absurd (omega (arith, g, r .1))), r .3))
 
 module _ (text table : List ℕ) (n : ℕ) (f : Fenced text table n) where
-  -- a common front with another place stays before the fence
+  -- a common prefix with another place stays before the fence
   pub shared-inside : (i p q : ℕ) → i < n → startOf table i ≤ p → p ≤ endOf table i → (q ≡ p → ⊥) → shared text p q ≤ endOf table i - p
   shared-inside i p q h l u ne = by-cases (decLe (shared text p q) (endOf table i - p)) (λ a. a) (λ a.
       let w = f .whole in
@@ -114,7 +114,7 @@ module _ (text table : List ℕ) (n : ℕ) (f : Fenced text table n) where
       let s = shared-inside i p (r .0) h l u (r .2) in
       absurd (omega (arith, s, r .3)))
 
--- factors of relation words are common fronts of places of the text
+-- factors of relation words are common prefixes of places of the text
 module _ (text table : List ℕ) (n : ℕ) (f : Fenced text table n) (i p m : ℕ) (h : i < n) (u : startOf table i + p + m ≤ endOf table i) (some : 0 < m) where
   -- the factor itself
   factor-length : length (take m (drop p (word (wordsIn text table n) i))) ≡ m
@@ -130,12 +130,12 @@ module _ (text table : List ℕ) (n : ℕ) (f : Fenced text table n) (i p m : �
       ∙ word-at text table n (f .laid) i (p + k) h (omega (arith, l, u))
       ∙ ap (λ j. getD text j 0) (omega arith)
 
-  -- a twin of it is a common front
+  -- a twin of it is a common prefix
   twin-shared : (j q : ℕ) → j < n → q < len (wordsIn text table n) j → twin (wordsIn text table n) i p m j q ≡ true → m ≤ longestAt text (startOf table i + p)
   unfolding twin
   twin-shared j q g k e =
       let r = simp and-eq-true-iff at e in
-      let c = front-length (take m (drop p (word (wordsIn text table n) i))) (drop q (word (wordsIn text table n) j)) (r .1) in
+      let c = prefix-length (take m (drop p (word (wordsIn text table n) i))) (drop q (word (wordsIn text table n) j)) (r .1) in
       let d = length-drop q (word (wordsIn text table n) j) in
       let l = word-length text table n (f .laid) j g in
       let w = f .whole in
@@ -144,7 +144,7 @@ module _ (text table : List ℕ) (n : ℕ) (f : Fenced text table n) (i p m : �
       let fl = factor-length in
       let inside : startOf table j + q + m ≤ endOf table j = omega (arith, c, d, l, fl, k, some) in
       let s = at-shared text (startOf table i + p) (startOf table j + q) m (omega (arith, u, ei, w)) (omega (arith, inside, ej, w))
-      (λ t v. sym (factor-at t v) ∙ front-at (take m (drop p (word (wordsIn text table n) i))) (drop q (word (wordsIn text table n) j)) (r .1) t (omega (arith, fl, v))
+      (λ t v. sym (factor-at t v) ∙ prefix-at (take m (drop p (word (wordsIn text table n) i))) (drop q (word (wordsIn text table n) j)) (r .1) t (omega (arith, fl, v))
       ∙ getD-drop q (word (wordsIn text table n) j) t 0
       ∙ word-at text table n (f .laid) j (q + t) g (omega (arith, inside, v))
       ∙ ap (λ b. getD text b 0) (omega arith)) in
@@ -156,7 +156,7 @@ module _ (text table : List ℕ) (n : ℕ) (f : Fenced text table n) (i p m : �
       let t = longest-least text (startOf table i + p) (startOf table j + q) (omega (arith, u, ei, w, some)) (omega (arith, inside, ej, w, some)) ne in
       omega (arith, s, t)
 
-  -- a common front with another place is a twin
+  -- a common prefix with another place is a twin
   shared-twin : (q : ℕ) → q < length text → (q ≡ startOf table i + p → ⊥) → m ≤ shared text (startOf table i + p) q
       → anyBelow (length (wordsIn text table n)) (λ j. anyBelow (len (wordsIn text table n) j) (twin (wordsIn text table n) i p m j)) ≡ true
   unfolding twin
@@ -172,7 +172,7 @@ module _ (text table : List ℕ) (n : ℕ) (f : Fenced text table n) (i p m : �
       let inside : q + m ≤ endOf table (r .0) = omega (arith, back, turned, some, r .3) in
       let fl = factor-length in
       let d = length-drop (q - startOf table (r .0)) (word (wordsIn text table n) (r .0)) in
-      let fr = at-front (take m (drop p (word (wordsIn text table n) i))) (drop (q - startOf table (r .0)) (word (wordsIn text table n) (r .0))) (omega (arith, fl, d, l, inside, r .2))
+      let fr = at-prefix (take m (drop p (word (wordsIn text table n) i))) (drop (q - startOf table (r .0)) (word (wordsIn text table n) (r .0))) (omega (arith, fl, d, l, inside, r .2))
       (λ t v. factor-at t (omega (arith, fl, v)) ∙ shared-at text (startOf table i + p) q t (omega (arith, s, fl, v))
       ∙ ap (λ b. getD text b 0) (omega (arith, r .2))
       ∙ sym (word-at text table n (f .laid) (r .0) (q - startOf table (r .0) + t) (r .1) (omega (arith, inside, fl, v, r .2)))

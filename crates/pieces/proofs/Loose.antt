@@ -32,7 +32,7 @@ pub record Inner (longest : List ℕ) (start n i j : ℕ) (found : Bool) : Type 
   pub inside : i ≤ n
   pub low : i ≤ j
   pub over : j ≤ n + 1
-  pub front : held longest start 0 i ≡ true
+  pub prefix : held longest start 0 i ≡ true
   pub none : NoneBelow (second longest start n i) j
 
 pub outer-start : (longest : List ℕ) (start n : ℕ) → Span longest start n → Outer longest start n 0 false
@@ -49,7 +49,7 @@ module _ (longest : List ℕ) (start n i : ℕ) (found r : Bool) (o : Outer long
         inside = h;
         low = omega arith;
         over = omega (arith, h);
-        front = sym (at-start longest start i) ∙ sym e ∙ t;
+        prefix = sym (at-start longest start i) ∙ sym e ∙ t;
         none = record { none = λ k l. rw (lt-leb i k l) };
       }
 
@@ -67,7 +67,7 @@ module _ (longest : List ℕ) (start n i j : ℕ) (found : Bool) (v : Inner long
         span = v .outer .span;
         upto = omega (arith, v .inside);
         absent = v .outer .absent;
-        none = none-more _ i (v .outer .none) (rw (v .front, ← e) (none-all _ j (v .none)));
+        none = none-more _ i (v .outer .none) (rw (v .prefix, ← e) (none-all _ j (v .none)));
       }
 
   module _ (h : j ≤ n) where
@@ -82,7 +82,7 @@ module _ (longest : List ℕ) (start n i j : ℕ) (found : Bool) (v : Inner long
             inside = v .inside;
             low = omega (arith, v .low);
             over = omega (arith, h);
-            front = v .front;
+            prefix = v .prefix;
             none = none-more _ j (v .none) (rw (sym e ∙ t) (and-false (leb i j)));
           }
 
@@ -90,7 +90,7 @@ module _ (longest : List ℕ) (start n i j : ℕ) (found : Bool) (v : Inner long
       unfolding three
       found-here t =
           let q : second longest start n i j ≡ true = rw (le-leb i j (v .low)) (sym e ∙ t) in
-          let p : first longest start n i ≡ true = rw (v .front, any-of (n + 1) (second longest start n i) j (omega (arith, h)) q) in
+          let p : first longest start n i ≡ true = rw (v .prefix, any-of (n + 1) (second longest start n i) j (omega (arith, h)) q) in
           sym (any-of (n + 1) (first longest start n) i (omega (arith, v .inside)) p)
 
 pub not-found : (longest : List ℕ) (start n i : ℕ) (found : Bool) → Outer longest start n i found → n < i → found ≡ three (held longest start) n

@@ -12,7 +12,7 @@ use borrow.Author.Needs.{needs}
 use borrow.Author.Tests.{eq-eqb, ne-eqb}
 use lib.ListN.{length, getD, drop, set, replicate, length-set, length-replicate, getD-replicate, drop-of-length-le}
 use lib.Seq.{drop-cons, getD-set-same, getD-set-other}
-use Rattle.words.specs.Words.{common}
+use Rattle.words.specs.Words.{commonPrefix}
 use Rattle.words.proofs.Commons.{common-empty}
 use Rattle.pieces.specs.Longest.{most, shared, longestAt, next, entry, Room, Passed, RowOf, Ready, Advanced, Space, Tabled}
 
@@ -104,17 +104,17 @@ module _ (text row : List ℕ) (x from to q : ℕ) (b : List ℕ) (best : ℕ) (
 
 pub ruleset passes = (pass-start, pass-small, pass-more, pass-end, needs)
 
--- common fronts by the letters at their places
+-- common prefixes by the letters at their places
 pub shared-next : (text : List ℕ) (p q : ℕ) → p < length text → q < length text → shared text p q ≡ next (getD text p 0) (getD text q 0) (shared text (p + 1) (q + 1))
-unfolding shared next common
-shared-next text p q h k = rw (add-one p, add-one q, add-one (common (drop (suc p) text) (drop (suc q) text)), drop-cons text p 0 h, drop-cons text q 0 k)
+unfolding shared next commonPrefix
+shared-next text p q h k = rw (add-one p, add-one q, add-one (commonPrefix (drop (suc p) text) (drop (suc q) text)), drop-cons text p 0 h, drop-cons text q 0 k)
 
 pub shared-past : (text : List ℕ) (p q : ℕ) → length text ≤ q → shared text p q ≡ 0
 unfolding shared
 shared-past text p q h = rw (drop-of-length-le text h) (common-empty (drop p text))
 
 pub shared-from-past : (text : List ℕ) (p q : ℕ) → length text ≤ p → shared text p q ≡ 0
-unfolding shared common
+unfolding shared commonPrefix
 shared-from-past text p q h = rw (drop-of-length-le text h)
 
 -- one place of the text

@@ -10,11 +10,11 @@ use borrow.Author.Needs.{needs}
 use borrow.Author.Tests.{eq-eqb, ne-eqb}
 use lib.ListN.{length, getD}
 use Rattle.words.specs.Search.{least}
-use Rattle.words.specs.Words.{Word, front}
-use Rattle.words.proofs.Fronts.{front-at, at-front}
+use Rattle.words.specs.Words.{Word, isPrefix}
+use Rattle.words.proofs.Prefixes.{prefix-at, at-prefix}
 use Rattle.words.proofs.Tests.{false-of}
 use Rattle.words.proofs.Searching.{NoneBelow, none-start, none-more, none-all, any-of, least-is, least-none}
-use Rattle.overlap.specs.Verdict.{sameWord, repeated, firstRepeated}
+use Rattle.overlap.specs.Verdict.{sameWord, isRepeated, firstRepeated}
 use Rattle.layout.specs.Layout.{Laid, wordsIn, part, startOf, endOf}
 use Rattle.layout.proofs.Placed.{words-length, word-part, end-before}
 use Rattle.pieces.specs.Judging.{Lying, BothLying, AllLying, sameParts, repeatedIn}
@@ -39,16 +39,16 @@ module _ (u v : Word) (k : ℕ) (s : Agreeing u v k) where
         same = λ j l. by-cases (decLt j k) (λ a. s .same j a) (λ a. subst (λ (i : ℕ). getD u i 0 ≡ getD v i 0) (omega (arith, a, l)) e);
       }
 
-  pub agree-differ : k < length u → (getD u k 0 ≡ getD v k 0 → ⊥) → false ≡ front u v
-  agree-differ h e = sym (false-of (front u v) (λ t. e (front-at u v t k h)))
+  pub agree-differ : k < length u → (getD u k 0 ≡ getD v k 0 → ⊥) → false ≡ isPrefix u v
+  agree-differ h e = sym (false-of (isPrefix u v) (λ t. e (prefix-at u v t k h)))
 
-  pub agree-end : length u ≤ k → true ≡ front u v
-  agree-end h = let l = s .long in sym (at-front u v (omega (arith, l)) (λ j i. s .same j (omega (arith, h, i))))
+  pub agree-end : length u ≤ k → true ≡ isPrefix u v
+  agree-end h = let l = s .long in sym (at-prefix u v (omega (arith, l)) (λ j i. s .same j (omega (arith, h, i))))
 
 pub ruleset agreeing = (agree-start, agree-more, agree-differ, agree-end, needs)
 
 module _ (u v : Word) where
-  pub equal-letters : (r : Bool) → length u ≡ length v → r ≡ front u v → r ≡ sameWord u v
+  pub equal-letters : (r : Bool) → length u ≡ length v → r ≡ isPrefix u v → r ≡ sameWord u v
   unfolding sameWord
   equal-letters r e d = rw (eq-eqb (length u) (length v) e) d
 
@@ -104,8 +104,8 @@ pub ruleset comparing = (compare-start, compare-lying, compare-more, compare-fou
 
 -- the loop over the words
 
-pub repeated-there : (text table : List ℕ) (n i : ℕ) → i < n → repeatedIn text table i ≡ repeated (wordsIn text table n) i
-unfolding repeatedIn repeated
+pub repeated-there : (text table : List ℕ) (n i : ℕ) → i < n → repeatedIn text table i ≡ isRepeated (wordsIn text table n) i
+unfolding repeatedIn isRepeated
 repeated-there text table n i h =
     any-same i _ _ (λ j l. rw (word-part text table n i h, word-part text table n j (omega (arith, l, h))))
 
@@ -120,7 +120,7 @@ recall-start text table n f = record { laid = f; upto = omega arith; none = none
 module _ (text table : List ℕ) (n i : ℕ) (s : Recalling text table n i) where
   lowest-there : least n (repeatedIn text table) ≡ firstRepeated (wordsIn text table n)
   unfolding firstRepeated
-  lowest-there = rw (words-length text table n) (least-same n (repeatedIn text table) (repeated (wordsIn text table n)) (repeated-there text table n))
+  lowest-there = rw (words-length text table n) (least-same n (repeatedIn text table) (isRepeated (wordsIn text table n)) (repeated-there text table n))
 
   pub recall-lying : i < n → AllLying text table (i + 1)
   recall-lying h = record {

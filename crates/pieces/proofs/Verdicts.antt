@@ -10,7 +10,7 @@ use lib.Seq.{getD-take, length-take-le}
 use Rattle.overlap.specs.Pieces.{C4}
 use Rattle.overlap.specs.Cuts.{firstLoose}
 use Rattle.overlap.specs.Verdict.{judge, firstRepeated}
-use Rattle.overlap.specs.Verdict.Verdict.{twice, loose}
+use Rattle.overlap.specs.Verdict.Verdict.{repeated, loose}
 use Rattle.overlap.proofs.Verdicts.{judge-accepts-iff-c4}
 use Rattle.layout.specs.Layout.{Laid, wordsIn, startOf, endOf}
 use Rattle.layout.proofs.Parts.{part-of-take}
@@ -81,19 +81,19 @@ words-take text table t (suc m) h =
     rw (words-take text table t m (λ i l. h i (omega (arith, l))), part-of-take text t (startOf table m) (endOf table m) (h m (omega arith)))
 
 module _ (text table : List ℕ) (n : ℕ) (f : Laid text table n) (t : ℕ) (e : t ≡ startOf table n) where
-  pub front-inside : t ≤ length text
-  front-inside = let k = f .inside in omega (arith, e, k)
+  pub prefix-inside : t ≤ length text
+  prefix-inside = let k = f .inside in omega (arith, e, k)
 
-  pub front-long : t ≡ length (take t text)
-  front-long = sym (length-take-le t text front-inside)
+  pub prefix-long : t ≡ length (take t text)
+  prefix-long = sym (length-take-le t text prefix-inside)
 
-  pub front-fenced : Fenced (take t text) table n
-  front-fenced =
+  pub prefix-fenced : Fenced (take t text) table n
+  prefix-fenced =
       record {
         laid = record {
           few = f .few;
           room = f .room;
-          inside = let l = front-long in omega (arith, e, l);
+          inside = let l = prefix-long in omega (arith, e, l);
           first = f .first;
           next = f .next;
           some = f .some;
@@ -101,33 +101,33 @@ module _ (text table : List ℕ) (n : ℕ) (f : Laid text table n) (t : ℕ) (e 
           letters = λ i q h l u. let k = end-before text table n f i h in rw (getD-take t text q 0 (omega (arith, u, k, e))) (f .letters i q h l u);
           fence = λ i h. let k = end-before text table n f i h in getD-take t text (endOf table i) 0 (omega (arith, k, e)) ∙ f .fence i h;
         };
-        whole = sym front-long ∙ e;
+        whole = sym prefix-long ∙ e;
       }
 
   ends-before : (i : ℕ) → i < n → endOf table i ≤ t
   ends-before i h = let k = end-before text table n f i h in omega (arith, k, e)
 
-  front-words : wordsIn (take t text) table n ≡ wordsIn text table n
-  front-words = words-take text table t n ends-before
+  prefix-words : wordsIn (take t text) table n ≡ wordsIn text table n
+  prefix-words = words-take text table t n ends-before
 
-  front-recut : (after : List ℕ) → Recut (take t text) table n after → Recut text table n after
-  front-recut after r =
+  prefix-recut : (after : List ℕ) → Recut (take t text) table n after → Recut text table n after
+  prefix-recut after r =
       let k = r .kept in
       let w = words-take text after t n (λ i h. let a = ends-before i h in let b = k .ends i in omega (arith, a, b)) in
       let c = r .cut in
       record { kept = k; cut = record { xEnd = λ i h. rw w at (c .xEnd i h); zStart = λ i h. rw w at (c .zStart i h) } }
 
-  pub front-judged : (after : List ℕ) (r : Judged) → Judging (looseVerdict (wordsIn (take t text) table n)) (take t text) table n after r
+  pub prefix-judged : (after : List ℕ) (r : Judged) → Judging (looseVerdict (wordsIn (take t text) table n)) (take t text) table n after r
       → Judging (looseVerdict (wordsIn text table n)) text table n after r
-  front-judged after r j =
+  prefix-judged after r j =
       record {
-        verdict = rw (← front-words) (j .verdict);
-        cuts = λ d. front-recut after (j .cuts d);
+        verdict = rw (← prefix-words) (j .verdict);
+        cuts = λ d. prefix-recut after (j .cuts d);
         repeats = j .repeats;
         looses = j .looses;
       }
 
-pub ruleset fronts = (front-inside, front-long, front-fenced, front-judged, needs)
+pub ruleset prefixes = (prefix-inside, prefix-long, prefix-fenced, prefix-judged, needs)
 
 -- refusal 7 comes first
 module _ (text table : List ℕ) (n r : ℕ) (e : r ≡ firstRepeated (wordsIn text table n)) where
@@ -137,7 +137,7 @@ module _ (text table : List ℕ) (n r : ℕ) (e : r ≡ firstRepeated (wordsIn t
       let l = words-length text table n in
       let t = lt-ltb (firstRepeated (wordsIn text table n)) (length (wordsIn text table n)) (omega (arith, e, l, h)) in
       record {
-        verdict = rw t (ap twice e);
+        verdict = rw t (ap repeated e);
         cuts = λ d. accepted-not-repeated (sym d);
         repeats = λ i d. refl;
         looses = λ i d. refl;

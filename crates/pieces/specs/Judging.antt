@@ -9,7 +9,7 @@ use lib.ListN.{length, getD}
 use Rattle.words.specs.Search.{anyBelow, least, greatest}
 use Rattle.overlap.specs.Cuts.{three, firstLoose}
 use Rattle.overlap.specs.Verdict.{sameWord, Verdict}
-use Rattle.overlap.specs.Verdict.Verdict.{accepted, twice, loose}
+use Rattle.overlap.specs.Verdict.Verdict.{accepted, repeated, loose}
 use Rattle.words.specs.Words.{Word}
 use Rattle.pieces.specs.declared.Judged.{Judged}
 use Rattle.pieces.specs.declared.Judged.the-variants.{Accepted, Repeated, Loose}
@@ -107,7 +107,7 @@ repeatedIn text table i = anyBelow i (sameParts text table i)
 -- the answer's words: accepted, or the number of the relation word refused by 7 or by 8
 unfoldable pub verdictOf : Judged → Verdict
 verdictOf Accepted = accepted
-verdictOf (Repeated i) = twice i
+verdictOf (Repeated i) = repeated i
 verdictOf (Loose i) = loose i
 
 -- refusal 8 alone

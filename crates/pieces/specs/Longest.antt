@@ -1,23 +1,23 @@
 -- The longest piece at each place of a text, and what the loops that fill its table keep (document 01, "Pieces, C(4) and cuts").
--- The loops know nothing of relation words: a piece at place p is a common front of the text at p and at some other place.
+-- The loops know nothing of relation words: a piece at place p is a common prefix of the text at p and at some other place.
 use Prim.Native.Nat.{ℕ, zero, suc, _+_, _-_, _<_, _≤_, max}
 use mathlib.Core.Bool.{Bool, cond}
 use mathlib.Core.List.{List}
 use mathlib.Core.Path.{_≡_}
 use lib.Dec.{eqb, leb}
 use lib.ListN.{length, getD, drop}
-use Rattle.words.specs.Words.{common}
+use Rattle.words.specs.Words.{commonPrefix}
 
 -- the greatest of the n values of f from a on, or 0
 unfoldable pub most : (ℕ → ℕ) → ℕ → ℕ → ℕ
 most f a zero = 0
 most f a (suc n) = max (most f a n) (f (a + n))
 
--- the length of the common front of the text at p and at q
+-- the length of the common prefix of the text at p and at q
 unfoldable pub shared : List ℕ → ℕ → ℕ → ℕ
-shared text p q = common (drop p text) (drop q text)
+shared text p q = commonPrefix (drop p text) (drop q text)
 
--- the longest common front of the text at p and at any other place
+-- the longest common prefix of the text at p and at any other place
 unfoldable pub longestAt : List ℕ → ℕ → ℕ
 longestAt text p = max (most (shared text p) 0 p) (most (shared text p) (p + 1) (length text - (p + 1)))
 
@@ -25,7 +25,7 @@ longestAt text p = max (most (shared text p) 0 p) (most (shared text p) (p + 1) 
 unfoldable pub next : ℕ → ℕ → ℕ → ℕ
 next x t r = cond (eqb x t) (r + 1) 0
 
--- the common front at q and at a letter x, where the row has that of the places behind them
+-- the common prefix at q and at a letter x, where the row has that of the places behind them
 abbrev pub entry : List ℕ → List ℕ → ℕ → ℕ → ℕ
 entry text row x q = next x (getD text q 0) (getD row (q + 1) 0)
 
@@ -44,11 +44,11 @@ pub record Passed (text row : List ℕ) (x from to : ℕ) (after : List ℕ) (be
   pub above : (q : ℕ) → to ≤ q → getD after q 0 ≡ getD row q 0
   pub greatest : best ≡ most (entry text row x) from (to - from)
 
--- no common front of two places is longer than 64 letters
+-- no common prefix of two places is longer than 64 letters
 pub record Bounded (text : List ℕ) : Type 0 where
   pub most64 : (p q : ℕ) → (p ≡ q → ⊥) → shared text p q ≤ 64
 
--- the row has the common front of the text at p and at each other place
+-- the row has the common prefix of the text at p and at each other place
 pub record RowOf (text : List ℕ) (p : ℕ) (row : List ℕ) : Type 0 where
   pub further : length text < length row
   pub end : getD row (length text) 0 ≡ 0

@@ -7,7 +7,7 @@ ghost use lib.ListN.{length, getD, set};
 ghost use Rattle.layout.specs.Layout.{Laid, wordsIn};
 ghost use Rattle.overlap.specs.Cuts.{three};
 ghost use Rattle.overlap.specs.Verdict.{sameWord, firstRepeated, judge};
-ghost use Rattle.words.specs.Words.{front};
+ghost use Rattle.words.specs.Words.{isPrefix};
 ghost use Rattle.pieces.specs.Judging.{Placed, AllPlaced, looseBy, lowestLoose, Measurable, Measured, Tail, tailBy, xBy, zBy, CutBy, BothLying, AllLying, sameParts, repeatedIn, Fenced, Judging, looseVerdict};
 ghost use Rattle.pieces.specs.Longest.{next, Room, Passed, Ready, Advanced, Space, Tabled, held, Span, Parts};
 use format::Relation;
@@ -213,7 +213,7 @@ fn cut(longest: &[u8], table: &mut [u16], n: usize)
 // Two words of one length have the same letters.
 fn agree(u: &[u8], v: &[u8]) -> bool
     requires { ⌜ length (now u) ≡ length (now v) ⌝ }
-    ensures { λ r. ⌜ r ≡ front (now (u .entry)) (now (v .entry)) ⌝ }
+    ensures { λ r. ⌜ r ≡ isPrefix (now (u .entry)) (now (v .entry)) ⌝ }
 {
     let mut k = 0;
     while k < u.len() {

@@ -7,7 +7,7 @@ use borrow.Author.Needs.{needs}
 use lib.ListN.{length}
 use mir.Val.{Fits}
 use mir.Syntax.{w64}
-use Rattle.words.specs.Relations.{Relation, sides}
+use Rattle.words.specs.Relations.{Relation, relationWords}
 use Rattle.overlap.specs.Verdict.{judge}
 use Rattle.layout.specs.Layout.{Laid, wordsIn}
 use Rattle.format.specs.declared.Refusal.{Refusal}
@@ -112,7 +112,7 @@ module _ (book text table : List ℕ) (memory : Memory text table) (reading : Re
 
     -- the verdict on the words of the book
     module _ (last : List ℕ) (j : Judged) (s : Settled text′ table′ (2 * count) last j) where
-      words-of : wordsIn text′ table′ (2 * count) ≡ sides (relations-of .0)
+      words-of : wordsIn text′ table′ (2 * count) ≡ relationWords (relations-of .0)
       words-of = rw same-number (held-of .words)
 
       settled-memory : Memory text′ last

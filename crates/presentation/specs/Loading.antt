@@ -3,7 +3,7 @@ use Prim.Native.Nat.{ℕ, _*_}
 use mathlib.Core.List.{List}
 use mathlib.Core.Path.{_≡_}
 use lib.ListN.{length}
-use Rattle.words.specs.Relations.{Relation, sides}
+use Rattle.words.specs.Relations.{Relation, relationWords}
 use Rattle.overlap.specs.Verdict.{Verdict, judge}
 use Rattle.layout.specs.Layout.{Checked, wordsIn}
 use Rattle.pieces.specs.declared.Judged.{Judged}
@@ -24,11 +24,11 @@ pub data BookLoading : Type 0 where
 -- 7 and 8, by the verdict on the relation words
 abbrev pub byVerdict : ℕ → List Relation → Verdict → BookLoading
 byVerdict letters relations Verdict.accepted = loaded letters relations
-byVerdict letters relations (Verdict.twice i) = refused (Repeated i)
+byVerdict letters relations (Verdict.repeated i) = refused (Repeated i)
 byVerdict letters relations (Verdict.loose i) = refused (Loose i)
 
 abbrev pub byReading : BookReading → BookLoading
-byReading (BookReading.read letters relations) = byVerdict letters relations (judge (sides relations))
+byReading (BookReading.read letters relations) = byVerdict letters relations (judge (relationWords relations))
 byReading (BookReading.refused r) = refused r
 
 -- a book's bytes
@@ -59,7 +59,7 @@ pub record Holding (book : List ℕ) (letters count : ℕ) (text table : List �
   pub is : loadBook book ≡ loaded letters relations
   pub many : count ≡ length relations
   pub checked : Checked text table (2 * count)
-  pub words : wordsIn text table (2 * count) ≡ sides relations
+  pub words : wordsIn text table (2 * count) ≡ relationWords relations
   pub within : Within letters relations
 
 -- the two arrays that a book is loaded into

@@ -9,7 +9,7 @@ use lib.Dec.{eqb, leb, ltb}
 use lib.ListN.{length, take, length-append, length-take}
 use lib.Seq.{slice}
 use Rattle.words.specs.Words.{Word}
-use Rattle.words.specs.Relations.{Relation, sides}
+use Rattle.words.specs.Relations.{Relation, relationWords}
 use Rattle.overlap.specs.Cuts.{firstLoose}
 use Rattle.overlap.specs.Verdict.{Verdict, judge, firstRepeated}
 use Rattle.congruence.specs.Rows.{Next, round}
@@ -309,24 +309,24 @@ abbrev SmallLoading : BookLoading → Type 0
 SmallLoading (BookLoading.refused r) = placeOf r < numberMost
 SmallLoading (BookLoading.loaded letters relations) = length relations ≤ relationsMost
 
-length-sides : (relations : List Relation) → length (sides relations) ≡ 2 * length relations
-unfolding sides
+length-sides : (relations : List Relation) → length (relationWords relations) ≡ 2 * length relations
+unfolding relationWords
 length-sides [] = refl
 length-sides (r ∷ rs) = omega (arith, length-sides rs)
 
-small-judged : (letters : ℕ) (relations : List Relation) → length relations ≤ relationsMost → SmallLoading (byVerdict letters relations (judge (sides relations)))
+small-judged : (letters : ℕ) (relations : List Relation) → length relations ≤ relationsMost → SmallLoading (byVerdict letters relations (judge (relationWords relations)))
 unfolding judge
 small-judged letters relations h = first (ltb (firstRepeated B) (length B)) refl
   where
     B : List Word
-    B = sides relations
+    B = relationWords relations
 
     second : (b : Bool) → ltb (firstLoose B) (length B) ≡ b → SmallLoading (byVerdict letters relations (cond b (Verdict.loose (firstLoose B)) Verdict.accepted))
     second true e = omega (arith, ltb-true (firstLoose B) (length B) e, length-sides relations)
     second false e = h
 
     first : (b : Bool) → ltb (firstRepeated B) (length B) ≡ b
-        → SmallLoading (byVerdict letters relations (cond b (Verdict.twice (firstRepeated B)) (cond (ltb (firstLoose B) (length B)) (Verdict.loose (firstLoose B)) Verdict.accepted)))
+        → SmallLoading (byVerdict letters relations (cond b (Verdict.repeated (firstRepeated B)) (cond (ltb (firstLoose B) (length B)) (Verdict.loose (firstLoose B)) Verdict.accepted)))
     first true e = omega (arith, ltb-true (firstRepeated B) (length B) e, length-sides relations)
     first false e = second (ltb (firstLoose B) (length B)) refl
 
@@ -365,9 +365,9 @@ end-within (suc most) input at h = first (end-within most input (at + 4 + field 
 loading-fits : (input : List ℕ) (o : BookLoading) → AreBytes input → length input ≤ inputMost → SmallLoading o → length (byLoading input o) ≤ outputMost
 loading-fits input (BookLoading.refused r) b h k = let l = refused-short r k in omega arith
 loading-fits input (BookLoading.loaded letters relations) b h k =
-    let f = few-lines letters (sides relations) input b h (length input) (bookEnd input) (end-within (length input) input 0 (omega arith)) in
+    let f = few-lines letters (relationWords relations) input b h (length input) (bookEnd input) (end-within (length input) input 0 (omega arith)) in
     let l = line-short bookText (length relations) (omega arith) (omega arith) in
-    let a = length-append (lineOf bookText (length relations)) (linesFrom (length input) letters (sides relations) input (bookEnd input)) in
+    let a = length-append (lineOf bookText (length relations)) (linesFrom (length input) letters (relationWords relations) input (bookEnd input)) in
     omega (arith, f .lines, f .records)
 
 pub output-fits : OutputFits

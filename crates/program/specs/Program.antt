@@ -6,7 +6,7 @@ use lib.Dec.{eqb, leb, ltb}
 use lib.ListN.{length, take}
 use lib.Seq.{slice}
 use Rattle.words.specs.Words.{Word}
-use Rattle.words.specs.Relations.{sides}
+use Rattle.words.specs.Relations.{relationWords}
 use Rattle.format.specs.declared.Refusal.{Refusal}
 use Rattle.format.specs.declared.Refusal.the-variants.{Short, Kind, Length, Heavy}
 use Rattle.format.specs.declared.Record.{Record}
@@ -86,7 +86,7 @@ linesFrom (suc most) letters B input at = cond (leb (length input) at) [] (lineT
 abbrev pub byLoading : List ℕ → BookLoading → List ℕ
 byLoading input (BookLoading.refused r) = refusedLine r
 byLoading input (BookLoading.loaded letters relations) =
-    lineOf bookText (length relations) ++ linesFrom (length input) letters (sides relations) input (bookEnd input)
+    lineOf bookText (length relations) ++ linesFrom (length input) letters (relationWords relations) input (bookEnd input)
 
 -- 13 is tested first
 unfoldable pub programOf : List ℕ → List ℕ

@@ -7,7 +7,7 @@ use borrow.Author.Needs.{needs}
 use borrow.Author.Tests.{le-leb, lt-leb}
 use lib.ListN.{length, getD, set, length-append, length-set}
 use lib.Seq.{getD-set-same}
-use Rattle.words.specs.Relations.{Relation, sides}
+use Rattle.words.specs.Relations.{Relation, relationWords}
 use Rattle.layout.specs.Layout.{wordsIn, Laid}
 use Rattle.format.specs.declared.Refusal.{Refusal}
 use Rattle.format.specs.declared.Reading.{Reading}
@@ -45,7 +45,7 @@ module _ (book : List ℕ) (at m to : ℕ) (text table : List ℕ) (count : ℕ)
 
     pub both-appended : (text₂ table₂ : List ℕ) → Appended (between book (at + 6 + m) to) text₁ table₁ (2 * count + 1) text₂ table₂
         → RelationAppended book at m to text table count text₂ table₂
-    unfolding sides
+    unfolding relationWords
     both-appended text₂ table₂ b =
         let z : 2 * (count + 1) ≡ 2 * count + 1 + 1 = omega arith in
         record {
@@ -67,7 +67,7 @@ pub record Going (book text₀ : List ℕ) (letters at count : ℕ) (text table 
   pub same : readBook book ≡ relationsFrom fuel letters done book at
   pub within : Within letters done
   pub laid : Laid text table (2 * count)
-  pub words : wordsIn text table (2 * count) ≡ sides done
+  pub words : wordsIn text table (2 * count) ≡ relationWords done
   pub textLong : length text ≡ length text₀
   pub arrays : Arrays text table
 
@@ -100,7 +100,7 @@ module _ (book text table : List ℕ) (head : Reading) (e : head ≡ headAt 64 b
       }
 
   pub going-start : (letters first : ℕ) → head ≡ Read letters first → Arrays text table → Going book text letters first 0 text (set table 0 0)
-  unfolding readBook wordsIn sides
+  unfolding readBook wordsIn relationWords
   going-start letters first f a =
       let h = head-read 64 book 0 letters first (sym e ∙ f) in
       record {
@@ -136,8 +136,8 @@ module _ (letters : ℕ) (done : List Relation) (book : List ℕ) (at : ℕ) (h 
   from-more zero k m to e = absurd (omega arith)
   from-more (suc fuel) k m to e = (fuel, refl, rw (lt-leb (length book) at h, e))
 
-sides-more : (done : List Relation) (r : Relation) → sides (done ++ (r ∷ [])) ≡ sides done ++ sides (r ∷ [])
-unfolding sides
+sides-more : (done : List Relation) (r : Relation) → relationWords (done ++ (r ∷ [])) ≡ relationWords done ++ relationWords (r ∷ [])
+unfolding relationWords
 sides-more [] r = refl
 sides-more (d ∷ done) r = ap (λ l. d .left ∷ d .right ∷ l) (sides-more done r)
 
@@ -156,7 +156,7 @@ module _ (book text₀ : List ℕ) (letters at count : ℕ) (text table : List �
             let z : 2 * length rs ≡ 2 * count = rw (← y, g .counted) in
             record {
               laid = rw z (g .laid);
-              words = rw z (g .words ∙ ap sides y);
+              words = rw z (g .words ∙ ap relationWords y);
               within = subst (λ (l : List Relation). Within a l) y (subst (λ (n : ℕ). Within n (g .done)) x (g .within));
             };
         textLong = g .textLong;

@@ -4,7 +4,7 @@ use mathlib.Core.List.{List, [], _∷_, _++_}
 use mathlib.Core.Path.{_≡_}
 use lib.ListN.{length, getD, take, drop}
 use Rattle.words.specs.Words.{Word}
-use Rattle.words.specs.Relations.{Relation, sides}
+use Rattle.words.specs.Relations.{Relation, relationWords}
 use Rattle.layout.specs.Layout.{Laid, wordsIn}
 use Rattle.format.specs.declared.Reading.{Reading}
 use Rattle.format.specs.Book.{read, lettersFrom, relationIn, readBook, told}
@@ -50,7 +50,7 @@ pub record RelationRoom (book : List ℕ) (at m to : ℕ) (text table : List ℕ
 -- both its words are laid behind those before them
 pub record RelationAppended (book : List ℕ) (at m to : ℕ) (text table : List ℕ) (count : ℕ) (text′ table′ : List ℕ) : Type 0 where
   pub laid : Laid text′ table′ (2 * (count + 1))
-  pub words : wordsIn text′ table′ (2 * (count + 1)) ≡ wordsIn text table (2 * count) ++ sides (relationIn book at m to ∷ [])
+  pub words : wordsIn text′ table′ (2 * (count + 1)) ≡ wordsIn text table (2 * count) ++ relationWords (relationIn book at m to ∷ [])
   pub textLong : length text′ ≡ length text
   pub tableLong : length table′ ≡ length table
 
@@ -58,7 +58,7 @@ pub record RelationAppended (book : List ℕ) (at m to : ℕ) (text table : List
 -- the number of letters
 pub record Held (letters : ℕ) (relations : List Relation) (text table : List ℕ) : Type 0 where
   pub laid : Laid text table (2 * length relations)
-  pub words : wordsIn text table (2 * length relations) ≡ sides relations
+  pub words : wordsIn text table (2 * length relations) ≡ relationWords relations
   pub within : Within letters relations
 
 -- the answer is what reading the book gives, and where it is read, the arrays hold its relations

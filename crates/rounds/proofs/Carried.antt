@@ -6,16 +6,16 @@ use mathlib.Core.Path.{_≡_, refl, sym, ap, _∙_}
 use native.Mathlib.Omega.{arith}
 use lib.ListN.{length, take, drop, length-drop}
 use lib.Seq.{length-take-le, drop-length, drop-drop, drop-append-le}
-use Rattle.words.specs.Words.{Word, front, commonEnd}
-use Rattle.words.proofs.Fronts.{front-length, front-split}
+use Rattle.words.specs.Words.{Word, isPrefix, commonSuffix}
+use Rattle.words.proofs.Prefixes.{prefix-length, prefix-split}
 use Rattle.words.proofs.Tests.{or-second}
 use Rattle.words.proofs.Lists.{part-length}
 use Rattle.overlap.specs.Pieces.{word}
 use Rattle.overlap.specs.Cuts.{len, xylen, xOf, xyOf, zOf}
-use Rattle.congruence.specs.Rows.{Next, choose, crowded, active, row3, row4, row5, row6, row7, row8}
+use Rattle.congruence.specs.Rows.{Next, choose, hasRelationPrefixBetween, active, row3, row4, row5, row6, row7, row8}
 use Rattle.congruence.specs.Rows.Next.{end, go}
 use Rattle.overlap.proofs.Facts.{length-xy}
-use Rattle.congruence.proofs.CommonEnds.{end-within}
+use Rattle.congruence.proofs.CommonSuffixes.{end-within}
 use Rattle.layout.specs.Layout.{part}
 use Rattle.layout.proofs.Parts.{part-take, part-drop}
 use Rattle.rounds.specs.declared.Plan.{Plan}
@@ -25,7 +25,7 @@ use Rattle.rounds.specs.Plans.{applied, planned, Fit, MarkFit, Carries}
 use Rattle.rounds.specs.Plans.PlanFit.{ends, goes}
 use Rattle.rounds.specs.Numbers.{number3, number4, number5, number6, number7, cutBy, tailBy, stays, wholeCut, putBoth, plan4, markAfter, plan5, plan6, plan7, plan8, restAt, plan8Of, sharedEnd, planBy}
 use Rattle.rounds.proofs.Sites.{Lies}
-use Rattle.rounds.proofs.RowNumbers.{front-whole}
+use Rattle.rounds.proofs.RowNumbers.{prefix-whole}
 use Rattle.rounds.proofs.Cleans.{crowded-drop}
 
 -- changes that fit
@@ -47,25 +47,25 @@ module _ (text : List ℕ) (B : List Word) (i : ℕ) (s : Site) (l : Lies text B
   z-length = ap length (l .z) ∙ part-length text (s .tail) (s .stop) (l .inside)
 
   -- a word that begins with XY, or with all of the relation word, is as long
-  xy-within : (w : Word) → front (xyOf B i) w ≡ true → s .tail - s .start ≤ length w
-  xy-within w e = let f = front-length (xyOf B i) w e in let g = length-xy B i in let d = l .longXY in omega arith
+  xy-within : (w : Word) → isPrefix (xyOf B i) w ≡ true → s .tail - s .start ≤ length w
+  xy-within w e = let f = prefix-length (xyOf B i) w e in let g = length-xy B i in let d = l .longXY in omega arith
 
-  whole-within : (w : Word) → front (word B i) w ≡ true → s .stop - s .start ≤ length w
-  whole-within w e = let f = front-length (word B i) w e in let d = l .long in omega arith
+  whole-within : (w : Word) → isPrefix (word B i) w ≡ true → s .stop - s .start ≤ length w
+  whole-within w e = let f = prefix-length (word B i) w e in let d = l .long in omega arith
 
   -- all of a relation word in front: its X and Y too
-  xy-of-whole : (w : Word) → front (word B i) w ≡ true → front (xyOf B i) w ≡ true
+  xy-of-whole : (w : Word) → isPrefix (word B i) w ≡ true → isPrefix (xyOf B i) w ≡ true
   xy-of-whole w e =
-      let r : (front (xyOf B i) w && front (zOf B i) (drop (xylen B i) w)) ≡ true = sym (front-whole B i w) ∙ e in
+      let r : (isPrefix (xyOf B i) w && isPrefix (zOf B i) (drop (xylen B i) w)) ≡ true = sym (prefix-whole B i w) ∙ e in
       (simp and-eq-true-iff at r) .0
 
   -- behind X and Y stand Z and the rest
-  rest-of-whole : (w : Word) → front (word B i) w ≡ true → zOf B i ++ drop (len B i) w ≡ drop (xylen B i) w
+  rest-of-whole : (w : Word) → isPrefix (word B i) w ≡ true → zOf B i ++ drop (len B i) w ≡ drop (xylen B i) w
   rest-of-whole w e =
       let b = l .long in
       let d = l .longXY in
       let t = l .third in
-      sym (drop-append-le (xylen B i) (word B i) (drop (len B i) w) (omega arith)) ∙ ap (drop (xylen B i)) (front-split (word B i) w e)
+      sym (drop-append-le (xylen B i) (word B i) (drop (len B i) w) (omega arith)) ∙ ap (drop (xylen B i)) (prefix-split (word B i) w e)
 
   tail-mark : (p : Word) → MarkFit text B p (tailBy s (length p))
   unfolding tailBy
@@ -76,7 +76,7 @@ module _ (text : List ℕ) (B : List Word) (i : ℕ) (s : Site) (l : Lies text B
   tail-applied m w = rw (l .z)
 
   -- the Z of i in the place of letters that begin with the X and Y of k
-  tail-fits : (k : ℕ) (t : Site) → Lies text B k t → (w : Word) (m : ℕ) → front (xyOf B k) w ≡ true → t .tail - t .start ≤ m → m ≤ length w
+  tail-fits : (k : ℕ) (t : Site) → Lies text B k t → (w : Word) (m : ℕ) → isPrefix (xyOf B k) w ≡ true → t .tail - t .start ≤ m → m ≤ length w
       → Fit text B w (tailBy s m)
   unfolding tailBy
   tail-fits k t lk w m e h q =
@@ -88,7 +88,7 @@ module _ (text : List ℕ) (B : List Word) (i : ℕ) (s : Site) (l : Lies text B
         inside = l .inside;
         short = omega arith;
         within = q;
-        tailed = λ _. record { of = i; known = l .known; tail = sym (l .z); by = k; there = lk .known; front = e; taken = let d = lk .longXY in omega arith };
+        tailed = λ _. record { of = i; known = l .known; tail = sym (l .z); by = k; there = lk .known; prefix = e; taken = let d = lk .longXY in omega arith };
       }
 
 pub go-same : {u v p u′ v′ p′ : Word} → u ≡ u′ → v ≡ v′ → p ≡ p′ → go u v p ≡ go u′ v′ p′
@@ -110,13 +110,13 @@ module _ (text : List ℕ) (B : List Word) (i j : ℕ) (s t : Site) (li : Lies t
 
 module _ (text : List ℕ) (B : List Word) (i j : ℕ) (s t : Site) (li : Lies text B i s) (lj : Lies text B j t) (u v p : Word) where
   -- row 5
-  carried5 : front (xyOf B i) u ≡ true → front (xyOf B i) v ≡ true
-      → Carries text B u v p (plan5 text s p) (go (drop (xylen B i) u) (drop (xylen B i) v) (choose (front p (xOf B i)) (λ _. []) (λ _. zOf B i)))
+  carried5 : isPrefix (xyOf B i) u ≡ true → isPrefix (xyOf B i) v ≡ true
+      → Carries text B u v p (plan5 text s p) (go (drop (xylen B i) u) (drop (xylen B i) v) (choose (isPrefix p (xOf B i)) (λ _. []) (λ _. zOf B i)))
   unfolding plan5 markAfter planned
-  carried5 e f = mark (front p (part text (s .start) (s .middle))) refl
+  carried5 e f = mark (isPrefix p (part text (s .start) (s .middle))) refl
     where
-      mark : (m : Bool) → front p (part text (s .start) (s .middle)) ≡ m
-          → Carries text B u v p (plan5 text s p) (go (drop (xylen B i) u) (drop (xylen B i) v) (choose (front p (xOf B i)) (λ _. []) (λ _. zOf B i)))
+      mark : (m : Bool) → isPrefix p (part text (s .start) (s .middle)) ≡ m
+          → Carries text B u v p (plan5 text s p) (go (drop (xylen B i) u) (drop (xylen B i) v) (choose (isPrefix p (xOf B i)) (λ _. []) (λ _. zOf B i)))
       mark true q =
           rw (li .x, q)
           (record {
@@ -131,7 +131,7 @@ module _ (text : List ℕ) (B : List Word) (i j : ℕ) (s t : Site) (li : Lies t
           })
 
   -- row 6
-  carried6 : front (xyOf B i) u ≡ true → front (word B j) v ≡ true
+  carried6 : isPrefix (xyOf B i) u ≡ true → isPrefix (word B j) v ≡ true
       → Carries text B u v p (plan6 s t (length p)) (go (drop (xylen B i) u) (zOf B i ++ drop (len B j) v) [])
   unfolding plan6 planned
   carried6 e f =
@@ -144,7 +144,7 @@ module _ (text : List ℕ) (B : List Word) (i j : ℕ) (s t : Site) (li : Lies t
       }
 
   -- row 7
-  carried7 : front (word B i) u ≡ true → front (xyOf B j) v ≡ true
+  carried7 : isPrefix (word B i) u ≡ true → isPrefix (xyOf B j) v ≡ true
       → Carries text B u v p (plan7 s t (length p)) (go (zOf B j ++ drop (len B i) u) (drop (xylen B j) v) [])
   unfolding plan7 planned
   carried7 e f =
@@ -161,7 +161,7 @@ module _ (text : List ℕ) (B : List Word) (i j : ℕ) (s t : Site) (li : Lies t
   abbrev tailWord : Bool → Word
   tailWord a = choose a (λ _. zOf B i) (λ _. zOf B j)
 
-  tail-serves : (a : Bool) (k : ℕ) (r : Site) → Lies text B k r → (w : Word) → front (word B k) w ≡ true
+  tail-serves : (a : Bool) (k : ℕ) (r : Site) → Lies text B k r → (w : Word) → isPrefix (word B k) w ≡ true
       → (applied text (tailBy (cond a s t) (r .stop - r .start)) w ≡ tailWord a ++ drop (len B k) w) × Fit text B w (tailBy (cond a s t) (r .stop - r .start))
   tail-serves true k r lk w e = (
     tail-whole text B i k s r li lk u v p w,
@@ -173,7 +173,7 @@ module _ (text : List ℕ) (B : List Word) (i j : ℕ) (s t : Site) (li : Lies t
   )
 
   -- the remainder of u is active for the Z of i where an X and Y stand in u behind X and Y and before the end of the relation word
-  pub active-crowded : front (word B i) u ≡ true → active B (zOf B i) (drop (len B i) u) ≡ crowded B u (s .tail - s .start) (s .stop - s .start)
+  pub active-crowded : isPrefix (word B i) u ≡ true → active B (zOf B i) (drop (len B i) u) ≡ hasRelationPrefixBetween B u (s .tail - s .start) (s .stop - s .start)
   unfolding active
   active-crowded e =
       let a = li .first in
@@ -182,32 +182,32 @@ module _ (text : List ℕ) (B : List Word) (i j : ℕ) (s t : Site) (li : Lies t
       let d = li .longXY in
       let z = z-length text B i s li in
       let m : xylen B i + length (zOf B i) ≡ s .stop - s .start = omega arith in
-      ap (λ w. crowded B w 0 (length (zOf B i))) (rest-of-whole text B i s li u e) ∙ crowded-drop B u (xylen B i) (length (zOf B i)) ∙ ap (λ k. crowded B u k (xylen B i + length (zOf B i))) d ∙ ap (crowded B u (s .tail - s .start)) m
+      ap (λ w. hasRelationPrefixBetween B w 0 (length (zOf B i))) (rest-of-whole text B i s li u e) ∙ crowded-drop B u (xylen B i) (length (zOf B i)) ∙ ap (λ k. hasRelationPrefixBetween B u k (xylen B i + length (zOf B i))) d ∙ ap (hasRelationPrefixBetween B u (s .tail - s .start)) m
 
-  carried4 : front (word B i) u ≡ true → (front (word B i) v || front (word B j) v) ≡ true
+  carried4 : isPrefix (word B i) u ≡ true → (isPrefix (word B i) v || isPrefix (word B j) v) ≡ true
       → Carries text B u v p (plan4 s (stays B s t u) (wholeCut text s t v) (length p))
       (go (tailWord (active B (zOf B i) (drop (len B i) u)) ++ drop (len B i) u)
-      (tailWord (active B (zOf B i) (drop (len B i) u)) ++ choose (front (word B i) v) (λ _. drop (len B i) v) (λ _. drop (len B j) v)) [])
+      (tailWord (active B (zOf B i) (drop (len B i) u)) ++ choose (isPrefix (word B i) v) (λ _. drop (len B i) v) (λ _. drop (len B j) v)) [])
   unfolding plan4 putBoth planned stays wholeCut
-  carried4 e f = rw (active-crowded e) (by-v (crowded B u (s .tail - s .start) (s .stop - s .start)) (front (word B i) v) refl)
+  carried4 e f = rw (active-crowded e) (by-v (hasRelationPrefixBetween B u (s .tail - s .start) (s .stop - s .start)) (isPrefix (word B i) v) refl)
     where
-      by-v : (a q : Bool) → front (word B i) v ≡ q → Carries text B u v p
+      by-v : (a q : Bool) → isPrefix (word B i) v ≡ q → Carries text B u v p
           (plan4 s (cond a s t) (wholeCut text s t v) (length p))
-          (go (tailWord a ++ drop (len B i) u) (tailWord a ++ choose (front (word B i) v) (λ _. drop (len B i) v) (λ _. drop (len B j) v)) [])
+          (go (tailWord a ++ drop (len B i) u) (tailWord a ++ choose (isPrefix (word B i) v) (λ _. drop (len B i) v) (λ _. drop (len B j) v)) [])
       by-v a true q =
           let x = tail-serves a i s li u e in
           let y = tail-serves a i s li v q in
-          let w : front (part text (s .start) (s .stop)) v ≡ true = ap (λ k. front k v) (sym (li .whole)) ∙ q in
+          let w : isPrefix (part text (s .start) (s .stop)) v ≡ true = ap (λ k. isPrefix k v) (sym (li .whole)) ∙ q in
           rw (w, q)
           (record {
             same = go-same (x .0) (y .0) (cut-mark-all text B i j s t li lj u v p);
             fits = goes (x .1) (y .1) (cut-mark text B p (length p) (omega arith));
           })
       by-v a false q =
-          let f′ : front (word B j) v ≡ true = rw q at f in
+          let f′ : isPrefix (word B j) v ≡ true = rw q at f in
           let x = tail-serves a i s li u e in
           let y = tail-serves a j t lj v f′ in
-          let w : front (part text (s .start) (s .stop)) v ≡ false = ap (λ k. front k v) (sym (li .whole)) ∙ q in
+          let w : isPrefix (part text (s .start) (s .stop)) v ≡ false = ap (λ k. isPrefix k v) (sym (li .whole)) ∙ q in
           rw (w, q)
           (record {
             same = go-same (x .0) (y .0) (cut-mark-all text B i j s t li lj u v p);
@@ -243,9 +243,9 @@ module _ (text : List ℕ) (B : List Word) (i : ℕ) (s : Site) (li : Lies text 
       let m : s .tail + (s .stop - l - s .tail) ≡ s .stop - l = omega arith in
       ap (λ k. drop k (zOf B i)) b ∙ ap (drop (s .stop - l - s .tail)) (li .z) ∙ part-drop text (s .tail) (s .stop) (s .stop - l - s .tail) ∙ ap (λ k. part text k (s .stop)) m
 
-  head-test : (w : Word) → restAt text s l w ≡ front head (drop (xylen B i) w)
+  head-test : (w : Word) → restAt text s l w ≡ isPrefix head (drop (xylen B i) w)
   unfolding restAt
-  head-test w = ap (λ k. front (part text (s .tail) (s .stop - l)) (drop k w)) (sym (li .longXY)) ∙ ap (λ k. front k (drop (xylen B i) w)) (sym head-part)
+  head-test w = ap (λ k. isPrefix (part text (s .tail) (s .stop - l)) (drop k w)) (sym (li .longXY)) ∙ ap (λ k. isPrefix k (drop (xylen B i) w)) (sym head-part)
 
   head-end : s .stop - l - s .start ≡ xylen B i + length head
   head-end =
@@ -260,11 +260,11 @@ module _ (text : List ℕ) (B : List Word) (i : ℕ) (s : Site) (li : Lies text 
   head-cut : (w : Word) → applied text (cutBy (s .stop - l - s .start)) w ≡ drop (length head) (drop (xylen B i) w)
   head-cut w = cut-applied text _ w ∙ ap (λ k. drop k w) head-end ∙ sym (drop-drop (length head) (xylen B i) w)
 
-  head-fits : (w : Word) → front (xyOf B i) w ≡ true → front head (drop (xylen B i) w) ≡ true → Fit text B w (cutBy (s .stop - l - s .start))
+  head-fits : (w : Word) → isPrefix (xyOf B i) w ≡ true → isPrefix head (drop (xylen B i) w) ≡ true → Fit text B w (cutBy (s .stop - l - s .start))
   head-fits w e f =
       cut-fits text B w _
       (sum-within (xylen B i) (length head) (s .stop - l - s .start) (length w) (rw (li .longXY) (xy-within text B i s li w e))
-      (rw (← length-drop (xylen B i) w) (front-length head (drop (xylen B i) w) f)) head-end)
+      (rw (← length-drop (xylen B i) w) (prefix-length head (drop (xylen B i) w) f)) head-end)
 
   head-mark : (p : Word) → MarkFit text B p (record { from = s .stop - l; to = s .stop; cut = length p })
   head-mark p =
@@ -276,42 +276,42 @@ module _ (text : List ℕ) (B : List Word) (i : ℕ) (s : Site) (li : Lies text 
       record { up = omega arith; inside = li .inside; short = omega arith; within = omega arith; whole = λ _. refl }
 
 module _ (text : List ℕ) (B : List Word) (i j : ℕ) (s t : Site) (li : Lies text B i s) (lj : Lies text B j t) (u v p : Word) where
-  pub shared-end : sharedEnd text s t ≡ commonEnd (zOf B i) (zOf B j)
+  pub shared-end : sharedEnd text s t ≡ commonSuffix (zOf B i) (zOf B j)
   unfolding sharedEnd
   shared-end = rw (li .z, lj .z)
 
   abbrev both8 : Bool
   both8 =
-      front (head text B i s li (commonEnd (zOf B i) (zOf B j)) (end-within (zOf B i) (zOf B j) .0)) (drop (xylen B i) u)
-      && front (head text B j t lj (commonEnd (zOf B i) (zOf B j)) (end-within (zOf B i) (zOf B j) .1)) (drop (xylen B j) v)
+      isPrefix (head text B i s li (commonSuffix (zOf B i) (zOf B j)) (end-within (zOf B i) (zOf B j) .0)) (drop (xylen B i) u)
+      && isPrefix (head text B j t lj (commonSuffix (zOf B i) (zOf B j)) (end-within (zOf B i) (zOf B j) .1)) (drop (xylen B j) v)
 
-  carried8 : front (xyOf B i) u ≡ true → front (xyOf B j) v ≡ true → Carries text B u v p (plan8Of text s t (sharedEnd text s t) u v p) (row8 B i j u v p)
+  carried8 : isPrefix (xyOf B i) u ≡ true → isPrefix (xyOf B j) v ≡ true → Carries text B u v p (plan8Of text s t (sharedEnd text s t) u v p) (row8 B i j u v p)
   unfolding plan8Of plan8 planned row8
   carried8 e f =
       rw (shared-end, head-test text B i s li l hi u, head-test text B j t lj l hj v) (by-test both8 refl)
     where
       l : ℕ
-      l = commonEnd (zOf B i) (zOf B j)
+      l = commonSuffix (zOf B i) (zOf B j)
 
-      hi : commonEnd (zOf B i) (zOf B j) ≤ length (zOf B i)
+      hi : commonSuffix (zOf B i) (zOf B j) ≤ length (zOf B i)
       hi = end-within (zOf B i) (zOf B j) .0
 
-      hj : commonEnd (zOf B i) (zOf B j) ≤ length (zOf B j)
+      hj : commonSuffix (zOf B i) (zOf B j) ≤ length (zOf B j)
       hj = end-within (zOf B i) (zOf B j) .1
 
-      by-test : (q : Bool) → both8 ≡ q → Carries text B u v p (cond q (plan8 s t (commonEnd (zOf B i) (zOf B j)) (length p)) (End false))
-          (choose q (λ _. go (drop (length (take (length (zOf B i) - commonEnd (zOf B i) (zOf B j)) (zOf B i))) (drop (xylen B i) u))
-          (drop (length (take (length (zOf B j) - commonEnd (zOf B i) (zOf B j)) (zOf B j))) (drop (xylen B j) v))
-          (drop (length (take (length (zOf B i) - commonEnd (zOf B i) (zOf B j)) (zOf B i))) (zOf B i))) (λ _. end false))
+      by-test : (q : Bool) → both8 ≡ q → Carries text B u v p (cond q (plan8 s t (commonSuffix (zOf B i) (zOf B j)) (length p)) (End false))
+          (choose q (λ _. go (drop (length (take (length (zOf B i) - commonSuffix (zOf B i) (zOf B j)) (zOf B i))) (drop (xylen B i) u))
+          (drop (length (take (length (zOf B j) - commonSuffix (zOf B i) (zOf B j)) (zOf B j))) (drop (xylen B j) v))
+          (drop (length (take (length (zOf B i) - commonSuffix (zOf B i) (zOf B j)) (zOf B i))) (zOf B i))) (λ _. end false))
       by-test true q =
           let r = simp and-eq-true-iff at q in
           record {
             same =
-                go-same (head-cut text B i s li (commonEnd (zOf B i) (zOf B j)) hi u) (head-cut text B j t lj (commonEnd (zOf B i) (zOf B j)) hj v)
-                (ap (part text (s .stop - commonEnd (zOf B i) (zOf B j)) (s .stop) ++_) (drop-length p) ∙ append-nil _ ∙ sym (head-rest text B i s li (commonEnd (zOf B i) (zOf B j)) hi));
+                go-same (head-cut text B i s li (commonSuffix (zOf B i) (zOf B j)) hi u) (head-cut text B j t lj (commonSuffix (zOf B i) (zOf B j)) hj v)
+                (ap (part text (s .stop - commonSuffix (zOf B i) (zOf B j)) (s .stop) ++_) (drop-length p) ∙ append-nil _ ∙ sym (head-rest text B i s li (commonSuffix (zOf B i) (zOf B j)) hi));
             fits =
-                goes (head-fits text B i s li (commonEnd (zOf B i) (zOf B j)) hi u e (r .0)) (head-fits text B j t lj (commonEnd (zOf B i) (zOf B j)) hj v f (r .1))
-                (head-mark text B i s li (commonEnd (zOf B i) (zOf B j)) hi p);
+                goes (head-fits text B i s li (commonSuffix (zOf B i) (zOf B j)) hi u e (r .0)) (head-fits text B j t lj (commonSuffix (zOf B i) (zOf B j)) hj v f (r .1))
+                (head-mark text B i s li (commonSuffix (zOf B i) (zOf B j)) hi p);
           }
       by-test false q = record { same = refl; fits = ends }
 
@@ -321,37 +321,37 @@ pub by-cond : (text : List ℕ) (B : List Word) (u v p : Word) (f : ℕ → Plan
 by-cond text B u v p f true x y X Y g h = g refl
 by-cond text B u v p f false x y X Y g h = h refl
 
-module _ (text : List ℕ) (B : List Word) (i j : ℕ) (s t : Site) (li : Lies text B i s) (lj : Lies text B j t) (u v p : Word) (e : front (xyOf B i) u ≡ true) where
-  from7 : front (xyOf B j) v ≡ true → Carries text B u v p (planBy text B s t u v p (number7 B i j u v p)) (row7 B i j u v p)
+module _ (text : List ℕ) (B : List Word) (i j : ℕ) (s t : Site) (li : Lies text B i s) (lj : Lies text B j t) (u v p : Word) (e : isPrefix (xyOf B i) u ≡ true) where
+  from7 : isPrefix (xyOf B j) v ≡ true → Carries text B u v p (planBy text B s t u v p (number7 B i j u v p)) (row7 B i j u v p)
   unfolding planBy number7 row7
   from7 f =
-      by-cond text B u v p (planBy text B s t u v p) (front (word B i) u && not (front (zOf B j) (drop (xylen B j) v))) 7 8
+      by-cond text B u v p (planBy text B s t u v p) (isPrefix (word B i) u && not (isPrefix (zOf B j) (drop (xylen B j) v))) 7 8
       (λ _. go (zOf B j ++ drop (len B i) u) (drop (xylen B j) v) []) (λ _. row8 B i j u v p)
       (λ q. carried7 text B i j s t li lj u v p ((simp and-eq-true-iff at q) .0) f)
       (λ q. carried8 text B i j s t li lj u v p e f)
 
-  from6 : front (xyOf B j) v ≡ true → Carries text B u v p (planBy text B s t u v p (number6 B i j u v p)) (row6 B i j u v p)
+  from6 : isPrefix (xyOf B j) v ≡ true → Carries text B u v p (planBy text B s t u v p (number6 B i j u v p)) (row6 B i j u v p)
   unfolding planBy number6 row6
   from6 f =
-      by-cond text B u v p (planBy text B s t u v p) (not (front (zOf B i) (drop (xylen B i) u)) && front (word B j) v) 6 (number7 B i j u v p)
+      by-cond text B u v p (planBy text B s t u v p) (not (isPrefix (zOf B i) (drop (xylen B i) u)) && isPrefix (word B j) v) 6 (number7 B i j u v p)
       (λ _. go (drop (xylen B i) u) (zOf B i ++ drop (len B j) v) []) (λ _. row7 B i j u v p)
       (λ q. carried6 text B i j s t li lj u v p e ((simp and-eq-true-iff at q) .1))
       (λ q. from7 f)
 
-  from5 : (front (xyOf B i) v || front (xyOf B j) v) ≡ true → Carries text B u v p (planBy text B s t u v p (number5 B i j u v p)) (row5 B i j u v p)
+  from5 : (isPrefix (xyOf B i) v || isPrefix (xyOf B j) v) ≡ true → Carries text B u v p (planBy text B s t u v p (number5 B i j u v p)) (row5 B i j u v p)
   unfolding planBy number5 row5
   from5 f =
-      by-cond text B u v p (planBy text B s t u v p) (front (xyOf B i) v) 5 (number6 B i j u v p)
-      (λ _. go (drop (xylen B i) u) (drop (xylen B i) v) (choose (front p (xOf B i)) (λ _. []) (λ _. zOf B i))) (λ _. row6 B i j u v p)
+      by-cond text B u v p (planBy text B s t u v p) (isPrefix (xyOf B i) v) 5 (number6 B i j u v p)
+      (λ _. go (drop (xylen B i) u) (drop (xylen B i) v) (choose (isPrefix p (xOf B i)) (λ _. []) (λ _. zOf B i))) (λ _. row6 B i j u v p)
       (λ q. carried5 text B i j s t li lj u v p e q)
-      (λ q. from6 (or-second (front (xyOf B i) v) (front (xyOf B j) v) f q))
+      (λ q. from6 (or-second (isPrefix (xyOf B i) v) (isPrefix (xyOf B j) v) f q))
 
-  from4 : (front (xyOf B i) v || front (xyOf B j) v) ≡ true → Carries text B u v p (planBy text B s t u v p (number4 B i j u v p)) (row4 B i j u v p)
+  from4 : (isPrefix (xyOf B i) v || isPrefix (xyOf B j) v) ≡ true → Carries text B u v p (planBy text B s t u v p (number4 B i j u v p)) (row4 B i j u v p)
   unfolding planBy number4 row4
   from4 f =
-      by-cond text B u v p (planBy text B s t u v p) (front (word B i) u && (front (word B i) v || front (word B j) v)) 4 (number5 B i j u v p)
+      by-cond text B u v p (planBy text B s t u v p) (isPrefix (word B i) u && (isPrefix (word B i) v || isPrefix (word B j) v)) 4 (number5 B i j u v p)
       (λ _. go (choose (active B (zOf B i) (drop (len B i) u)) (λ _. zOf B i) (λ _. zOf B j) ++ drop (len B i) u)
-      (choose (active B (zOf B i) (drop (len B i) u)) (λ _. zOf B i) (λ _. zOf B j) ++ choose (front (word B i) v) (λ _. drop (len B i) v) (λ _. drop (len B j) v)) [])
+      (choose (active B (zOf B i) (drop (len B i) u)) (λ _. zOf B i) (λ _. zOf B j) ++ choose (isPrefix (word B i) v) (λ _. drop (len B i) v) (λ _. drop (len B j) v)) [])
       (λ _. row5 B i j u v p)
       (λ q. let r = simp and-eq-true-iff at q in carried4 text B i j s t li lj u v p (r .0) (r .1))
       (λ q. from5 f)
@@ -359,7 +359,7 @@ module _ (text : List ℕ) (B : List Word) (i j : ℕ) (s t : Site) (li : Lies t
   pub from3 : Carries text B u v p (planBy text B s t u v p (number3 B i j u v p)) (row3 B i j u v p)
   unfolding planBy number3 row3 planned
   from3 =
-      by-cond text B u v p (planBy text B s t u v p) ((front p (xOf B i) || front p (xOf B j)) && (front (xyOf B i) v || front (xyOf B j) v)) (number4 B i j u v p) 3
+      by-cond text B u v p (planBy text B s t u v p) ((isPrefix p (xOf B i) || isPrefix p (xOf B j)) && (isPrefix (xyOf B i) v || isPrefix (xyOf B j) v)) (number4 B i j u v p) 3
       (λ _. row4 B i j u v p) (λ _. end false)
       (λ q. from4 ((simp and-eq-true-iff at q) .1))
       (λ q. record { same = refl; fits = ends })

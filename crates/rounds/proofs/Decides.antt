@@ -12,7 +12,7 @@ use Rattle.words.specs.Relations.{other}
 use Rattle.words.proofs.Tests.{or-neither, cond-both}
 use Rattle.words.proofs.Lists.{some-letter}
 use Rattle.words.proofs.Relations.{other-there}
-use Rattle.congruence.specs.Rows.{choose, alike, dropFirst, row3, fromFront, cleanFront, round}
+use Rattle.congruence.specs.Rows.{choose, alike, dropFirst, row3, fromPrefix, cleanRelationPrefix, round}
 use Rattle.congruence.specs.Rows.Next.{end, go}
 use Rattle.layout.specs.Layout.{wordsIn}
 use Rattle.layout.proofs.Placed.{words-length}
@@ -22,7 +22,7 @@ use Rattle.rounds.specs.Plans.{planned, Carries, Decided, Paired}
 use Rattle.rounds.specs.Plans.PlanFit.{ends, goes}
 use Rattle.rounds.specs.Numbers.{number3, numberOf, siteOf, plan1, dropOne, markDrop, plan2, planBy}
 use Rattle.rounds.proofs.Sites.{lies}
-use Rattle.rounds.proofs.Cleans.{clean-front}
+use Rattle.rounds.proofs.Cleans.{clean-prefix}
 use Rattle.rounds.proofs.Carried.{go-same, cut-fits, cut-mark, cut-applied, by-cond, from3}
 
 -- the mark without its first letter, if it has one
@@ -44,13 +44,13 @@ carried2 text B u v p a b =
         }
     by-test false = record { same = refl; fits = ends }
 
-module _ (text table : List ℕ) (n : ℕ) (c : Paired text table n) (u v p : Word) (i : ℕ) (f : i ≡ cleanFront (wordsIn text table n) u) where
-  from-front : 1 ≤ length u → 1 ≤ length v
+module _ (text table : List ℕ) (n : ℕ) (c : Paired text table n) (u v p : Word) (i : ℕ) (f : i ≡ cleanRelationPrefix (wordsIn text table n) u) where
+  from-prefix : 1 ≤ length u → 1 ≤ length v
       → Carries text (wordsIn text table n) u v p
       (planBy text (wordsIn text table n) (siteOf table i) (siteOf table (other i)) u v p (cond (ltb i (length (wordsIn text table n))) (number3 (wordsIn text table n) i (other i) u v p) 2))
-      (fromFront (wordsIn text table n) u v p i)
-  unfolding planBy fromFront
-  from-front a b =
+      (fromPrefix (wordsIn text table n) u v p i)
+  unfolding planBy fromPrefix
+  from-prefix a b =
       by-cond text (wordsIn text table n) u v p (planBy text (wordsIn text table n) (siteOf table i) (siteOf table (other i)) u v p)
       (ltb i (length (wordsIn text table n))) (number3 (wordsIn text table n) i (other i) u v p) 2
       (λ _. row3 (wordsIn text table n) i (other i) u v p) (λ _. dropFirst u v p)
@@ -60,7 +60,7 @@ module _ (text table : List ℕ) (n : ℕ) (c : Paired text table n) (u v p : Wo
       let h : i < n = omega arith in
       from3 text (wordsIn text table n) i (other i) (siteOf table i) (siteOf table (other i))
       (lies text table n (c .checked) i h) (lies text table n (c .checked) (other i) (other-there n i (c .even) h)) u v p
-      (clean-front (wordsIn text table n) u i f k))
+      (clean-prefix (wordsIn text table n) u i f k))
       (λ q. carried2 text (wordsIn text table n) u v p a b)
 
   carried : Carries text (wordsIn text table n) u v p
@@ -70,11 +70,11 @@ module _ (text table : List ℕ) (n : ℕ) (c : Paired text table n) (u v p : Wo
   carried =
       by-cond text (wordsIn text table n) u v p (planBy text (wordsIn text table n) (siteOf table i) (siteOf table (other i)) u v p)
       (isEmpty u || isEmpty v) 1 (cond (ltb i (length (wordsIn text table n))) (number3 (wordsIn text table n) i (other i) u v p) 2)
-      (λ _. end (isEmpty u && (isEmpty v && isEmpty p))) (λ _. fromFront (wordsIn text table n) u v p (cleanFront (wordsIn text table n) u))
+      (λ _. end (isEmpty u && (isEmpty v && isEmpty p))) (λ _. fromPrefix (wordsIn text table n) u v p (cleanRelationPrefix (wordsIn text table n) u))
       (λ q. record { same = refl; fits = ends })
       (λ q.
       let r = or-neither (isEmpty u) (isEmpty v) q in
-      rw (← f) (from-front (some-letter u (r .0)) (some-letter v (r .1))))
+      rw (← f) (from-prefix (some-letter u (r .0)) (some-letter v (r .1))))
 
   -- the plan that is made for the row that fits
   pub decided-by : (row : ℕ) (r : Plan) → row ≡ numberOf (wordsIn text table n) u v p i

@@ -1,4 +1,4 @@
--- The longest common end of two parts of the text, counted letter by letter from their ends.
+-- The longest common suffix of two parts of the text, counted letter by letter from their ends.
 use Prim.Native.Nat.{ℕ, _+_, _-_, _≤_, _<_, min}
 use mathlib.Core.Bool.{Bool, true, false}
 use mathlib.Core.Logic.{by-cases}
@@ -8,11 +8,11 @@ use native.Mathlib.Omega.{arith}
 use native.Mathlib.Decide.{decLt}
 use borrow.Author.Needs.{needs}
 use lib.ListN.{length, getD, drop}
-use Rattle.words.specs.Words.{front, lastLetters, commonEnd}
+use Rattle.words.specs.Words.{isPrefix, lastLetters, commonSuffix}
 use Rattle.words.proofs.Searching.{greatest-is}
 use Rattle.words.proofs.Tests.{false-of}
 use Rattle.words.proofs.Lists.{part-length, part-at}
-use Rattle.words.proofs.Fronts.{front-at, at-front}
+use Rattle.words.proofs.Prefixes.{prefix-at, at-prefix}
 use Rattle.layout.specs.Layout.{part}
 use Rattle.layout.proofs.Parts.{part-drop}
 use Rattle.rounds.specs.declared.Site.{Site}
@@ -43,56 +43,56 @@ module _ (text : List ℕ) (x y m : ℕ) (hx : x ≤ length text) (hy : y ≤ le
   letter : {i j : ℕ} → i ≡ j → getD text i 0 ≡ getD text j 0
   letter e = ap (λ n. getD text n 0) e
 
-  backwards-front : Backwards text x y m → front (part text (x - m) x) (part text (y - m) y) ≡ true
-  backwards-front b =
+  backwards-prefix : Backwards text x y m → isPrefix (part text (x - m) x) (part text (y - m) y) ≡ true
+  backwards-prefix b =
       let lx : length (part text (x - m) x) ≡ m = part-length text (x - m) x hx ∙ omega arith in
       let ly : length (part text (y - m) y) ≡ m = part-length text (y - m) y hy ∙ omega arith in
-      at-front (part text (x - m) x) (part text (y - m) y) (omega arith)
+      at-prefix (part text (x - m) x) (part text (y - m) y) (omega arith)
       (λ k h.
       let q : k < m = omega arith in
       part-at text (x - m) x k (omega arith) ∙ letter (back x m k mx q) ∙ b .at (m - 1 - k) (less m k q) ∙ letter (sym (back y m k my q)) ∙ sym (part-at text (y - m) y k (omega arith)))
 
-  front-backwards : front (part text (x - m) x) (part text (y - m) y) ≡ true → Backwards text x y m
-  front-backwards f =
+  prefix-backwards : isPrefix (part text (x - m) x) (part text (y - m) y) ≡ true → Backwards text x y m
+  prefix-backwards f =
       let lx : length (part text (x - m) x) ≡ m = part-length text (x - m) x hx ∙ omega arith in
       record {
         at = λ k h.
-            letter (forth x m k mx h) ∙ sym (part-at text (x - m) x (m - 1 - k) (omega arith)) ∙ front-at (part text (x - m) x) (part text (y - m) y) f (m - 1 - k) (rw lx (less m k h))
+            letter (forth x m k mx h) ∙ sym (part-at text (x - m) x (m - 1 - k) (omega arith)) ∙ prefix-at (part text (x - m) x) (part text (y - m) y) f (m - 1 - k) (rw lx (less m k h))
             ∙ part-at text (y - m) y (m - 1 - k) (omega arith) ∙ letter (sym (forth y m k my h));
       }
 
--- the test of `commonEnd`
+-- the test of `commonSuffix`
 abbrev test : List ℕ → Site → Site → ℕ → Bool
-test text s t n = front (lastLetters n (part text (s .tail) (s .stop))) (lastLetters n (part text (t .tail) (t .stop)))
+test text s t n = isPrefix (lastLetters n (part text (s .tail) (s .stop))) (lastLetters n (part text (t .tail) (t .stop)))
 
 module _ (text : List ℕ) (s t : Site) (h : Mates text s t) (m : ℕ) (l : m ≤ min (s .stop - s .tail) (t .stop - t .tail)) where
-  test-parts : test text s t m ≡ front (part text (s .stop - m) (s .stop)) (part text (t .stop - m) (t .stop))
+  test-parts : test text s t m ≡ isPrefix (part text (s .stop - m) (s .stop)) (part text (t .stop - m) (t .stop))
   test-parts =
       rw (last-part text (s .tail) (s .stop) m (h .own .third) (h .own .inside) (omega arith), last-part text (t .tail) (t .stop) m (h .turned .third) (h .turned .inside) (omega arith))
 
-  test-front : front (part text (s .stop - m) (s .stop)) (part text (t .stop - m) (t .stop)) ≡ true → test text s t m ≡ true
-  test-front e = test-parts ∙ e
+  test-prefix : isPrefix (part text (s .stop - m) (s .stop)) (part text (t .stop - m) (t .stop)) ≡ true → test text s t m ≡ true
+  test-prefix e = test-parts ∙ e
 
-  front-test : test text s t m ≡ true → front (part text (s .stop - m) (s .stop)) (part text (t .stop - m) (t .stop)) ≡ true
-  front-test e = sym test-parts ∙ e
+  prefix-test : test text s t m ≡ true → isPrefix (part text (s .stop - m) (s .stop)) (part text (t .stop - m) (t .stop)) ≡ true
+  prefix-test e = sym test-parts ∙ e
 
 -- l letters agree, and no more
 counted-at : (text : List ℕ) (s t : Site) → Mates text s t → (l : ℕ) → l ≤ min (s .stop - s .tail) (t .stop - t .tail) → Backwards text (s .stop) (t .stop) l
     → (l < min (s .stop - s .tail) (t .stop - t .tail) → getD text (s .stop - 1 - l) 0 ≡ getD text (t .stop - 1 - l) 0 → ⊥) → l ≡ sharedEnd text s t
-unfolding sharedEnd commonEnd
+unfolding sharedEnd commonSuffix
 counted-at text s t h l w b d =
     let is = h .own .inside in
     let it = h .turned .inside in
     let ns = part-length text (s .tail) (s .stop) is in
     let nt = part-length text (t .tail) (t .stop) it in
     sym (greatest-is (min (length (part text (s .tail) (s .stop))) (length (part text (t .tail) (t .stop)))) (test text s t) l (omega arith)
-    (λ _. test-front text s t h l w (backwards-front text (s .stop) (t .stop) l is it (omega arith) (omega arith) b))
+    (λ _. test-prefix text s t h l w (backwards-prefix text (s .stop) (t .stop) l is it (omega arith) (omega arith) b))
     (λ k a q. fails k a (omega arith)))
   where
     fails : (k : ℕ) → l < k → k ≤ min (s .stop - s .tail) (t .stop - t .tail) → test text s t k ≡ false
     fails k a q = false-of (test text s t k) (λ e.
         d (omega arith)
-        (front-backwards text (s .stop) (t .stop) k (h .own .inside) (h .turned .inside) (omega arith) (omega arith) (front-test text s t h k q e) .at l a))
+        (prefix-backwards text (s .stop) (t .stop) k (h .own .inside) (h .turned .inside) (omega arith) (omega arith) (prefix-test text s t h k q e) .at l a))
 
 -- l letters before x and before y are compared, of at most `room`
 pub record Ending (text : List ℕ) (x y room l : ℕ) : Type 0 where
@@ -132,7 +132,7 @@ module _ (text : List ℕ) (x y room l : ℕ) (v : Ending text x y room l) where
 
 pub ruleset endings = (ending-start, ending-more, ending-stop, back-some, back-far, back-at, ending-end, needs)
 
--- the common end of two Z
+-- the common suffix of two Z
 module _ (text : List ℕ) (s t : Site) (h : Mates text s t) where
   pub mates-left : s .tail ≤ s .stop
   mates-left = h .own .third

@@ -11,19 +11,19 @@ use Rattle.words.specs.Words.{Word, isEmpty}
 use Rattle.words.specs.Relations.{other}
 use Rattle.words.proofs.Lists.{some-letter, part-length}
 use Rattle.words.proofs.Relations.{other-there}
-use Rattle.congruence.specs.Rows.{cleanFront}
-use Rattle.congruence.proofs.CommonEnds.{end-within}
+use Rattle.congruence.specs.Rows.{cleanRelationPrefix}
+use Rattle.congruence.proofs.CommonSuffixes.{end-within}
 use Rattle.layout.specs.Layout.{part, wordsIn}
 use Rattle.layout.proofs.Placed.{words-length}
 use Rattle.rounds.specs.declared.Found.{Found}
 use Rattle.rounds.specs.declared.Plan.{Plan}
 use Rattle.rounds.specs.declared.Plan.the-variants.{End}
 use Rattle.rounds.specs.declared.Site.{Site}
-use Rattle.rounds.specs.Plans.{Placed, Mates, BothSome, Turning, Upwards, Shared, Fronted, Paired, Decided}
+use Rattle.rounds.specs.Plans.{Placed, Mates, BothSome, Turning, Upwards, Shared, Prefixed, Paired, Decided}
 use Rattle.rounds.specs.Numbers.{siteOf, lateRow, foundAt, numberOf, sharedEnd, plan1, plan2, stays, wholeCut, plan4, plan5, plan6, plan7, plan8Of, planBy, Chosen}
 use Rattle.rounds.proofs.Sites.{Lies, lies}
 use Rattle.rounds.proofs.RowNumbers.{late-number}
-use Rattle.rounds.proofs.Cleans.{clean-front}
+use Rattle.rounds.proofs.Cleans.{clean-prefix}
 use Rattle.rounds.proofs.Decides.{decided-by}
 use Rattle.rounds.proofs.Laws.{tail-after, stop-after}
 
@@ -43,7 +43,7 @@ module _ (text : List ℕ) (s t : Site) (h : Mates text s t) (l : ℕ) (e : l �
 pub ruleset sharings = (shared-lies, shared-made, needs)
 
 -- row 3 or a later one
-module _ (text table : List ℕ) (n i : ℕ) (h : Fronted text table n i) where
+module _ (text table : List ℕ) (n i : ℕ) (h : Prefixed text table n i) where
   pub late-few : i ≤ 64
   late-few = let a = h .there in let b = h .paired .checked .laid .few in omega arith
 
@@ -77,12 +77,12 @@ pub ruleset latest = (late-few, late-room, late-room′, late-mates, late-made, 
 
 -- the first row that fits; the plan of rows 1 and 2 does not look at the sites
 module _ (text table : List ℕ) (n : ℕ) (c : Paired text table n) (u v p : Word) (f : Found) where
-  early-row : (k : ℕ) → f .row ≡ k → k ≡ numberOf (wordsIn text table n) u v p (cleanFront (wordsIn text table n) u)
+  early-row : (k : ℕ) → f .row ≡ k → k ≡ numberOf (wordsIn text table n) u v p (cleanRelationPrefix (wordsIn text table n) u)
       → ((s t : Site) → planBy text (wordsIn text table n) (f .own) (f .turned) u v p k ≡ planBy text (wordsIn text table n) s t u v p k)
       → Decided text table n u v p (planBy text (wordsIn text table n) (f .own) (f .turned) u v p (f .row))
   early-row k e q g =
-      rw e (decided-by text table n c u v p (cleanFront (wordsIn text table n) u) refl k _ q
-      (g (siteOf table (cleanFront (wordsIn text table n) u)) (siteOf table (other (cleanFront (wordsIn text table n) u)))))
+      rw e (decided-by text table n c u v p (cleanRelationPrefix (wordsIn text table n) u) refl k _ q
+      (g (siteOf table (cleanRelationPrefix (wordsIn text table n) u)) (siteOf table (other (cleanRelationPrefix (wordsIn text table n) u)))))
 
   first-row : f .row ≡ 1 → (isEmpty u || isEmpty v) ≡ true → Chosen text table n u v p f
   unfolding numberOf planBy
@@ -101,7 +101,7 @@ module _ (text table : List ℕ) (n : ℕ) (c : Paired text table n) (u v p : Wo
       pub found-v : y ≡ true → f .row ≡ 1 → Chosen text table n u v p f
       found-v k e = first-row e (rw (← ex, h, ← ey, k))
 
-      module _ (k : y ≡ false) (i : ℕ) (ei : i ≡ cleanFront (wordsIn text table n) u) where
+      module _ (k : y ≡ false) (i : ℕ) (ei : i ≡ cleanRelationPrefix (wordsIn text table n) u) where
         both-some : BothSome u v
         both-some = record { someU = some-letter u (sym ex ∙ h); someV = some-letter v (sym ey ∙ k) }
 
@@ -115,22 +115,22 @@ module _ (text table : List ℕ) (n : ℕ) (c : Paired text table n) (u v p : Wo
             }
 
         module _ (l : i < n) where
-          pub found-front : Fronted text table n i
-          found-front = record { paired = c; there = l }
+          pub found-prefix : Prefixed text table n i
+          found-prefix = record { paired = c; there = l }
 
           pub found-late : f ≡ foundAt text table i u v p → Chosen text table n u v p f
           unfolding numberOf foundAt
           found-late e =
               let nB = words-length text table n in
-              let m = sites-mates text table n i found-front in
+              let m = sites-mates text table n i found-prefix in
               let q : lateRow text (siteOf table i) (siteOf table (other i)) u v p ≡ numberOf (wordsIn text table n) u v p i =
               rw (← ex, h, ← ey, k, nB, lt-ltb i n l)
-              (late-number text (wordsIn text table n) i (other i) (siteOf table i) (siteOf table (other i)) (own-lies text table n i found-front) (turned-lies text table n i found-front) u v p
-              (clean-front (wordsIn text table n) u i ei (omega arith)))
+              (late-number text (wordsIn text table n) i (other i) (siteOf table i) (siteOf table (other i)) (own-lies text table n i found-prefix) (turned-lies text table n i found-prefix) u v p
+              (clean-prefix (wordsIn text table n) u i ei (omega arith)))
               in
               rw e (record { some = λ _. both-some; mates = λ _ _. m; decided = decided-by text table n c u v p i ei _ _ q refl })
 
-pub ruleset founds = (found-u, found-v, found-none, found-front, found-late, needs)
+pub ruleset founds = (found-u, found-v, found-none, found-prefix, found-late, needs)
 
 -- the arms of the decision
 module _ (text table : List ℕ) (n : ℕ) (u v p : Word) (f : Found) (h : Chosen text table n u v p f) where

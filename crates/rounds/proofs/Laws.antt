@@ -10,21 +10,21 @@ use mir.Val.{Fits}
 use lib.Dec.{eqb, leb, ltb}
 use lib.ListN.{length, take, drop}
 use borrow.Author.Tests.{eqb-true, eq-eqb, ne-eqb, le-leb, lt-leb}
-use Rattle.words.specs.Words.{Word, isEmpty, front}
+use Rattle.words.specs.Words.{Word, isEmpty, isPrefix}
 use Rattle.words.proofs.Tests.{false-of}
 use Rattle.words.proofs.Lists.{part-length}
-use Rattle.words.proofs.Fronts.{front-length}
+use Rattle.words.proofs.Prefixes.{prefix-length}
 use Rattle.layout.specs.Layout.{startOf, xEndOf, zStartOf, endOf, part, wordsIn, Checked}
 use Rattle.words.proofs.Searching.{NoneBelow, none-more, any-of, any-none}
 use Rattle.overlap.proofs.Facts.{rigid-of-c4}
-use Rattle.congruence.specs.Rows.{standsAt, crowded, cleanFront}
-use Rattle.index.specs.Index.{Span, frontAt}
-use Rattle.index.proofs.FrontAt.{stands-front}
+use Rattle.congruence.specs.Rows.{hasRelationPrefixAt, hasRelationPrefixBetween, cleanRelationPrefix}
+use Rattle.index.specs.Index.{Span, relationPrefixAt}
+use Rattle.index.proofs.PrefixAt.{stands-prefix}
 use Rattle.layout.proofs.Parts.{part-take}
 use Rattle.layout.proofs.Placed.{words-length}
 use Rattle.rounds.specs.declared.Site.{Site}
 use Rattle.rounds.specs.Plans.{Placed, Known}
-use Rattle.rounds.specs.Numbers.{siteOf, shapeOf, rowBy, shapedRow, markedBy, lateRow, crowdedFront}
+use Rattle.rounds.specs.Numbers.{siteOf, shapeOf, rowBy, shapedRow, markedBy, lateRow, uncleanPrefix}
 use Rattle.rounds.proofs.Sites.{lies}
 use Rattle.rounds.proofs.Cleans.{clean-none, clean-crowded, clean-here}
 
@@ -48,12 +48,12 @@ module _ (text : List ℕ) (s : Site) (h : Placed text s) where
 pub ruleset spans = (span-xy, span-z, span-whole, tail-after, stop-after)
 
 -- how a word begins
-module _ (text : List ℕ) (s : Site) (w : Word) (x : Bool) (e : x ≡ front (part text (s .start) (s .tail)) w) where
+module _ (text : List ℕ) (s : Site) (w : Word) (x : Bool) (e : x ≡ isPrefix (part text (s .start) (s .tail)) w) where
   pub shape-none : x ≡ false → 0 ≡ shapeOf text s w
   unfolding shapeOf
   shape-none h = rw (← e, h)
 
-  module _ (h : x ≡ true) (y : Bool) (f : y ≡ front (part text (s .tail) (s .stop)) (drop (s .tail - s .start) w)) where
+  module _ (h : x ≡ true) (y : Bool) (f : y ≡ isPrefix (part text (s .tail) (s .stop)) (drop (s .tail - s .start) w)) where
     pub shape-part : y ≡ false → 1 ≡ shapeOf text s w
     unfolding shapeOf
     shape-part k = rw (← e, h, ← f, k)
@@ -73,7 +73,7 @@ row-part w a b r h e = rw h e
 pub ruleset rows = (row-whole, row-part, needs)
 
 -- the row by three tests
-pub row-shaped : (text : List ℕ) (s t : Site) (u v : Word) (w : Bool) (a b r : ℕ) → w ≡ front (part text (s .tail) (s .stop)) (drop (s .tail - s .start) u)
+pub row-shaped : (text : List ℕ) (s t : Site) (u v : Word) (w : Bool) (a b r : ℕ) → w ≡ isPrefix (part text (s .tail) (s .stop)) (drop (s .tail - s .start) u)
     → a ≡ shapeOf text s v → b ≡ shapeOf text t v → r ≡ rowBy w a b → r ≡ shapedRow text s t u v
 unfolding shapedRow
 row-shaped text s t u v w a b r e f g h = rw (← e, ← f, ← g) h
@@ -88,7 +88,7 @@ site-read table i a b c d e f g h = rw (e, f, g, h)
 
 pub ruleset siteReads = (site-read, needs)
 
--- two words of one length are fronts of each other alike
+-- two words of one length are prefixes of each other alike
 eqb-swap : (x y : ℕ) → eqb x y ≡ eqb y x
 eqb-swap x y = go (eqb x y) refl (eqb y x) refl
   where
@@ -98,25 +98,25 @@ eqb-swap x y = go (eqb x y) refl (eqb y x) refl
     go false e true f = absurd (true≢false (sym (eq-eqb x y (sym (eqb-true y x f))) ∙ e))
     go false e false f = refl
 
-front-swap : (a b : Word) → length a ≡ length b → front a b ≡ front b a
-unfolding front
-front-swap [] [] h = refl
-front-swap [] (y ∷ b) h = absurd (omega arith)
-front-swap (x ∷ a) [] h = absurd (omega arith)
-front-swap (x ∷ a) (y ∷ b) h = rw (eqb-swap x y) (ap (eqb y x &&_) (front-swap a b (omega arith)))
+prefix-swap : (a b : Word) → length a ≡ length b → isPrefix a b ≡ isPrefix b a
+unfolding isPrefix
+prefix-swap [] [] h = refl
+prefix-swap [] (y ∷ b) h = absurd (omega arith)
+prefix-swap (x ∷ a) [] h = absurd (omega arith)
+prefix-swap (x ∷ a) (y ∷ b) h = rw (eqb-swap x y) (ap (eqb y x &&_) (prefix-swap a b (omega arith)))
 
 -- only the first letters of the longer word are asked
-front-take : (a b : Word) → front a b ≡ front a (take (length a) b)
-unfolding front
-front-take [] b = refl
-front-take (x ∷ a) [] = refl
-front-take (x ∷ a) (y ∷ b) = ap (eqb x y &&_) (front-take a b)
+prefix-take : (a b : Word) → isPrefix a b ≡ isPrefix a (take (length a) b)
+unfolding isPrefix
+prefix-take [] b = refl
+prefix-take (x ∷ a) [] = refl
+prefix-take (x ∷ a) (y ∷ b) = ap (eqb x y &&_) (prefix-take a b)
 
 -- the mark and X
 module _ (text : List ℕ) (s : Site) (p : Word) (h : Placed text s) where
-  pub marks-long : s .middle - s .start < length p → false ≡ front p (part text (s .start) (s .middle))
-  marks-long l = sym (false-of (front p (part text (s .start) (s .middle))) (λ e.
-      let f = front-length p (part text (s .start) (s .middle)) e in
+  pub marks-long : s .middle - s .start < length p → false ≡ isPrefix p (part text (s .start) (s .middle))
+  marks-long l = sym (false-of (isPrefix p (part text (s .start) (s .middle))) (λ e.
+      let f = prefix-length p (part text (s .start) (s .middle)) e in
       let a = h .second in
       let b = h .third in
       let c = h .inside in
@@ -132,7 +132,7 @@ module _ (text : List ℕ) (s : Site) (p : Word) (h : Placed text s) where
         let d = h .inside in
         record { upwards = omega arith; inside = omega arith }
 
-    pub marks-all : (r : Bool) → r ≡ front (part text (s .start) (s .start + length p)) p → r ≡ front p (part text (s .start) (s .middle))
+    pub marks-all : (r : Bool) → r ≡ isPrefix (part text (s .start) (s .start + length p)) p → r ≡ isPrefix p (part text (s .start) (s .middle))
     marks-all r e =
         let a = h .first in
         let b = h .second in
@@ -140,18 +140,18 @@ module _ (text : List ℕ) (s : Site) (p : Word) (h : Placed text s) where
         let d = h .inside in
         let g : s .start + length p - s .start ≡ length p = omega arith in
         let k = part-length text (s .start) (s .start + length p) (omega arith) ∙ g in
-        e ∙ front-swap (part text (s .start) (s .start + length p)) p k ∙ ap (front p) (sym (part-take text (s .start) (s .middle) (length p) l))
-        ∙ sym (front-take p (part text (s .start) (s .middle)))
+        e ∙ prefix-swap (part text (s .start) (s .start + length p)) p k ∙ ap (isPrefix p) (sym (part-take text (s .start) (s .middle) (length p) l))
+        ∙ sym (prefix-take p (part text (s .start) (s .middle)))
 
 pub ruleset marks = (marks-long, marks-span, marks-all, spans, needs)
 
 -- p and two X
-pub marked-left : (text : List ℕ) (s t : Site) (p : Word) (x : Bool) → x ≡ front p (part text (s .start) (s .middle)) → x ≡ true → true ≡ markedBy text s t p
+pub marked-left : (text : List ℕ) (s t : Site) (p : Word) (x : Bool) → x ≡ isPrefix p (part text (s .start) (s .middle)) → x ≡ true → true ≡ markedBy text s t p
 unfolding markedBy
 marked-left text s t p x e h = rw (← e, h)
 
-pub marked-right : (text : List ℕ) (s t : Site) (p : Word) (x y : Bool) → x ≡ front p (part text (s .start) (s .middle)) → x ≡ false
-    → y ≡ front p (part text (t .start) (t .middle)) → y ≡ markedBy text s t p
+pub marked-right : (text : List ℕ) (s t : Site) (p : Word) (x y : Bool) → x ≡ isPrefix p (part text (s .start) (s .middle)) → x ≡ false
+    → y ≡ isPrefix p (part text (t .start) (t .middle)) → y ≡ markedBy text s t p
 unfolding markedBy
 marked-right text s t p x y e h f = rw (← e, h) f
 
@@ -184,34 +184,34 @@ empty-right (x ∷ a) b h = absurd (omega arith)
 pub ruleset empties = (empty-left, empty-right, needs)
 
 -- X and Y at a place
-pub stands-below : (text table : List ℕ) (n : ℕ) (w : Word) (q k : ℕ) → k ≡ frontAt (wordsIn text table n) w q → ltb k n ≡ standsAt (wordsIn text table n) w q
-stands-below text table n w q k e = rw (stands-front (wordsIn text table n) w q, ← e, words-length text table n)
+pub stands-below : (text table : List ℕ) (n : ℕ) (w : Word) (q k : ℕ) → k ≡ relationPrefixAt (wordsIn text table n) w q → ltb k n ≡ hasRelationPrefixAt (wordsIn text table n) w q
+stands-below text table n w q k e = rw (stands-prefix (wordsIn text table n) w q, ← e, words-length text table n)
 
 pub ruleset standing = (stands-below, needs)
 
 -- the search over places: none is found from lo on and below q
 pub record Vacant (B : List Word) (w : Word) (lo q : ℕ) : Type 0 where
   pub low : lo ≤ q
-  pub none : NoneBelow (λ k. leb lo k && standsAt B w k) q
+  pub none : NoneBelow (λ k. leb lo k && hasRelationPrefixAt B w k) q
 
 pub vacant-start : (B : List Word) (w : Word) (lo : ℕ) → Vacant B w lo lo
 vacant-start B w lo = record { low = omega arith; none = record { none = λ k h. rw (lt-leb lo k h) } }
 
 module _ (B : List Word) (w : Word) (lo hi q : ℕ) (v : Vacant B w lo q) where
-  pub vacant-more : (x : Bool) → x ≡ standsAt B w q → x ≡ false → Vacant B w lo (q + 1)
-  vacant-more x e h = record { low = let l = v .low in omega arith; none = none-more (λ k. leb lo k && standsAt B w k) q (v .none) (rw (le-leb lo q (v .low), ← e) h) }
+  pub vacant-more : (x : Bool) → x ≡ hasRelationPrefixAt B w q → x ≡ false → Vacant B w lo (q + 1)
+  vacant-more x e h = record { low = let l = v .low in omega arith; none = none-more (λ k. leb lo k && hasRelationPrefixAt B w k) q (v .none) (rw (le-leb lo q (v .low), ← e) h) }
 
-  pub vacant-found : q < hi → (x : Bool) → x ≡ standsAt B w q → x ≡ true → true ≡ crowded B w lo hi
-  unfolding crowded
-  vacant-found l x e h = sym (any-of hi (λ k. leb lo k && standsAt B w k) q l (rw (le-leb lo q (v .low), ← e) h))
+  pub vacant-found : q < hi → (x : Bool) → x ≡ hasRelationPrefixAt B w q → x ≡ true → true ≡ hasRelationPrefixBetween B w lo hi
+  unfolding hasRelationPrefixBetween
+  vacant-found l x e h = sym (any-of hi (λ k. leb lo k && hasRelationPrefixAt B w k) q l (rw (le-leb lo q (v .low), ← e) h))
 
-  pub vacant-end : hi ≤ q → false ≡ crowded B w lo hi
-  unfolding crowded
-  vacant-end l = sym (any-none hi (λ k. leb lo k && standsAt B w k) (λ k h. v .none .none k (omega arith)))
+  pub vacant-end : hi ≤ q → false ≡ hasRelationPrefixBetween B w lo hi
+  unfolding hasRelationPrefixBetween
+  vacant-end l = sym (any-none hi (λ k. leb lo k && hasRelationPrefixAt B w k) (λ k h. v .none .none k (omega arith)))
 
 pub ruleset vacants = (vacant-start, vacant-more, vacant-found, vacant-end, needs)
 
--- the test for a clean front
+-- the test for a clean relation prefix
 module _ (text table : List ℕ) (n i : ℕ) (h : Known text table n i) where
   pub known-room : 4 * i + 3 < length table
   known-room = let a = h .checked .laid .few in let b = h .checked .indexed .room in let c = h .there in omega arith
@@ -232,18 +232,18 @@ module _ (text table : List ℕ) (n i : ℕ) (h : Known text table n i) where
     pub known-fits : Fits w64 (s .middle - s .start + 1)
     known-fits = let l = lies text table n (h .checked) i (h .there) in rw e (let a = l .second in let b = l .third in let c = l .short in omega arith)
 
-  pub unclean-crowded : (s : Site) → s ≡ siteOf table i → (w : Word) (r : Bool) → r ≡ crowded (wordsIn text table n) w (s .middle - s .start + 1) (s .tail - s .start)
-      → r ≡ crowdedFront (wordsIn text table n) i w
-  unfolding crowdedFront
+  pub unclean-crowded : (s : Site) → s ≡ siteOf table i → (w : Word) (r : Bool) → r ≡ hasRelationPrefixBetween (wordsIn text table n) w (s .middle - s .start + 1) (s .tail - s .start)
+      → r ≡ uncleanPrefix (wordsIn text table n) i w
+  unfolding uncleanPrefix
   unclean-crowded s e w r f = let l = lies text table n (h .checked) i (h .there) in rw (l .longX, l .longXY) (rw e at f)
 
 pub ruleset uncleans = (known-room, known-checked, known-first, known-second, known-fits, unclean-crowded, needs)
 
--- the clean front
-module _ (text table : List ℕ) (n : ℕ) (c : Checked text table n) (w : Word) (k : ℕ) (e : k ≡ frontAt (wordsIn text table n) w 0) where
-  pub clean-no-front : n ≤ k → n ≡ cleanFront (wordsIn text table n) w
-  unfolding frontAt
-  clean-no-front h =
+-- the clean relation prefix
+module _ (text table : List ℕ) (n : ℕ) (c : Checked text table n) (w : Word) (k : ℕ) (e : k ≡ relationPrefixAt (wordsIn text table n) w 0) where
+  pub clean-no-prefix : n ≤ k → n ≡ cleanRelationPrefix (wordsIn text table n) w
+  unfolding relationPrefixAt
+  clean-no-prefix h =
       let l = words-length text table n in
       sym l ∙ clean-none (wordsIn text table n) (rigid-of-c4 (wordsIn text table n) (c .accepted)) w k e (omega arith)
 
@@ -251,16 +251,16 @@ module _ (text table : List ℕ) (n : ℕ) (c : Checked text table n) (w : Word)
     pub clean-known : Known text table n k
     clean-known = record { checked = c; there = h }
 
-    pub clean-not : (x : Bool) → x ≡ crowdedFront (wordsIn text table n) k w → x ≡ true → n ≡ cleanFront (wordsIn text table n) w
-    unfolding crowdedFront frontAt
+    pub clean-not : (x : Bool) → x ≡ uncleanPrefix (wordsIn text table n) k w → x ≡ true → n ≡ cleanRelationPrefix (wordsIn text table n) w
+    unfolding uncleanPrefix relationPrefixAt
     clean-not x f q =
         let l = words-length text table n in
         sym l ∙ clean-crowded (wordsIn text table n) (rigid-of-c4 (wordsIn text table n) (c .accepted)) w k e (omega arith) (sym f ∙ q)
 
-    pub clean-one : (x : Bool) → x ≡ crowdedFront (wordsIn text table n) k w → x ≡ false → k ≡ cleanFront (wordsIn text table n) w
-    unfolding crowdedFront frontAt
+    pub clean-one : (x : Bool) → x ≡ uncleanPrefix (wordsIn text table n) k w → x ≡ false → k ≡ cleanRelationPrefix (wordsIn text table n) w
+    unfolding uncleanPrefix relationPrefixAt
     clean-one x f q =
         let l = words-length text table n in
         clean-here (wordsIn text table n) (rigid-of-c4 (wordsIn text table n) (c .accepted)) w k e (omega arith) (sym f ∙ q)
 
-pub ruleset cleans = (clean-no-front, clean-known, clean-not, clean-one, needs)
+pub ruleset cleans = (clean-no-prefix, clean-known, clean-not, clean-one, needs)

@@ -8,8 +8,8 @@ use borrow.Author.Needs.{needs}
 use borrow.Author.Tests.{eq-eqb, ne-eqb}
 use lib.Dec.{eqb}
 use lib.ListN.{length, getD, drop, length-append}
-use Rattle.words.specs.Words.{Word, isEmpty, front}
-use Rattle.congruence.specs.Rows.{crowded}
+use Rattle.words.specs.Words.{Word, isEmpty, isPrefix}
+use Rattle.congruence.specs.Rows.{hasRelationPrefixBetween}
 use Rattle.layout.specs.Layout.{part, Checked}
 use Rattle.index.specs.Index.{Span}
 use Rattle.rounds.specs.declared.Change.{Change}
@@ -137,7 +137,7 @@ module _ (text table : List ℕ) (n : ℕ) (s t : Site) (h : Turning text table 
   pub turning-stop : s .start ≤ s .stop
   turning-stop = stop-after text s (h .mates .own)
 
-module _ (B : List Word) (s t : Site) (u : Word) (x : Bool) (e : x ≡ crowded B u (s .tail - s .start) (s .stop - s .start)) where
+module _ (B : List Word) (s t : Site) (u : Word) (x : Bool) (e : x ≡ hasRelationPrefixBetween B u (s .tail - s .start) (s .stop - s .start)) where
   pub stays-own : x ≡ true → s ≡ stays B s t u
   unfolding stays
   stays-own h = rw (← e, h)
@@ -158,7 +158,7 @@ module _ (text : List ℕ) (s t : Site) (h : Mates text s t) where
   pub mates-stop′ : t .start ≤ t .stop
   mates-stop′ = stop-after text t (h .turned)
 
-  module _ (v : Word) (x : Bool) (e : x ≡ front (part text (s .start) (s .stop)) v) where
+  module _ (v : Word) (x : Bool) (e : x ≡ isPrefix (part text (s .start) (s .stop)) v) where
     pub whole-own : x ≡ true → s .stop - s .start ≡ wholeCut text s t v
     unfolding wholeCut
     whole-own q = rw (← e, q)
@@ -177,7 +177,7 @@ replace-made text B s t u v k z m r e f g = rw (← e, ← f) g
 pub ruleset replacements = (turning-mates, turning-stop, replace-made, needs)
 
 -- row 5
-module _ (text : List ℕ) (s : Site) (p : Word) (x : Bool) (e : x ≡ front p (part text (s .start) (s .middle))) (c : Change) where
+module _ (text : List ℕ) (s : Site) (p : Word) (x : Bool) (e : x ≡ isPrefix p (part text (s .start) (s .middle))) (c : Change) where
   pub after-cleared : x ≡ true → c ≡ cutBy (length p) → c ≡ markAfter text s p
   unfolding markAfter
   after-cleared h f = rw (← e, h) f
@@ -199,7 +199,7 @@ module _ (text : List ℕ) (s : Site) (l : ℕ) (h : Headed text s l) where
   pub headed-tail : s .start ≤ s .tail
   headed-tail = tail-after text s (h .placed)
 
-  pub headed-rest : (w : Word) (r : Bool) → r ≡ front (part text (s .tail) (s .stop - l)) (drop (s .tail - s .start) w) → r ≡ restAt text s l w
+  pub headed-rest : (w : Word) (r : Bool) → r ≡ isPrefix (part text (s .tail) (s .stop - l)) (drop (s .tail - s .start) w) → r ≡ restAt text s l w
   unfolding restAt
   headed-rest w r e = e
 

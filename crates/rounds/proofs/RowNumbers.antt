@@ -5,7 +5,7 @@ use mathlib.Core.List.{List, [], _∷_, _++_}
 use mathlib.Core.Path.{_≡_, refl, sym, ap, _∙_}
 use lib.Dec.{eqb, ltb}
 use lib.ListN.{length, drop, take-append-drop}
-use Rattle.words.specs.Words.{Word, front}
+use Rattle.words.specs.Words.{Word, isPrefix}
 use Rattle.words.proofs.Tests.{cond-both}
 use Rattle.overlap.specs.Pieces.{word}
 use Rattle.overlap.specs.Cuts.{xylen, xyOf, zOf}
@@ -14,12 +14,12 @@ use Rattle.rounds.specs.declared.Site.{Site}
 use Rattle.rounds.specs.Numbers.{number3, number4, number5, number6, number7, shapeOf, rowBy, shapedRow, markedBy, lateRow}
 use Rattle.rounds.proofs.Sites.{Lies}
 
--- a front in two parts
-pub front-both : (a b w : Word) → front (a ++ b) w ≡ (front a w && front b (drop (length a) w))
-unfolding front
-front-both [] b w = refl
-front-both (x ∷ a) b [] = refl
-front-both (x ∷ a) b (y ∷ w) = ap (eqb x y &&_) (front-both a b w) ∙ sym (and-assoc (eqb x y) (front a w) (front b (drop (length a) w)))
+-- a prefix in two parts
+pub prefix-both : (a b w : Word) → isPrefix (a ++ b) w ≡ (isPrefix a w && isPrefix b (drop (length a) w))
+unfolding isPrefix
+prefix-both [] b w = refl
+prefix-both (x ∷ a) b [] = refl
+prefix-both (x ∷ a) b (y ∷ w) = ap (eqb x y &&_) (prefix-both a b w) ∙ sym (and-assoc (eqb x y) (isPrefix a w) (isPrefix b (drop (length a) w)))
 
 -- the tests of `rowBy` on a shape
 shape-two : (a b : Bool) → eqb (cond a (cond b 2 1) 0) 2 ≡ (a && b)
@@ -79,25 +79,25 @@ unfolding rowBy byRows byShapes
 row-by-shapes w a a′ c c′ = rw (shape-two a a′, shape-two c c′, shape-some a a′, shape-some c c′) (sym (rows-agree c c′ w a a′))
 
 -- all of a relation word in front is its X and Y in front and its Z behind them
-pub front-whole : (B : List Word) (i : ℕ) (w : Word) → front (word B i) w ≡ (front (xyOf B i) w && front (zOf B i) (drop (xylen B i) w))
-front-whole B i w =
-    ap (λ a. front a w) (sym (take-append-drop (xylen B i) (word B i))) ∙ front-both (xyOf B i) (zOf B i) w
-    ∙ ap (λ k. front (xyOf B i) w && front (zOf B i) (drop k w)) (length-xy B i)
+pub prefix-whole : (B : List Word) (i : ℕ) (w : Word) → isPrefix (word B i) w ≡ (isPrefix (xyOf B i) w && isPrefix (zOf B i) (drop (xylen B i) w))
+prefix-whole B i w =
+    ap (λ a. isPrefix a w) (sym (take-append-drop (xylen B i) (word B i))) ∙ prefix-both (xyOf B i) (zOf B i) w
+    ∙ ap (λ k. isPrefix (xyOf B i) w && isPrefix (zOf B i) (drop k w)) (length-xy B i)
 
 shape-lies : (text : List ℕ) (B : List Word) (i : ℕ) (s : Site) → Lies text B i s → (w : Word)
-    → shapeOf text s w ≡ cond (front (xyOf B i) w) (cond (front (zOf B i) (drop (xylen B i) w)) 2 1) 0
+    → shapeOf text s w ≡ cond (isPrefix (xyOf B i) w) (cond (isPrefix (zOf B i) (drop (xylen B i) w)) 2 1) 0
 unfolding shapeOf
 shape-lies text B i s l w = rw (l .xy, l .z, l .longXY)
 
 module _ (text : List ℕ) (B : List Word) (i j : ℕ) (s t : Site) (li : Lies text B i s) (lj : Lies text B j t) (u v p : Word) where
   -- rows 3 to 8
-  pub late-number : front (xyOf B i) u ≡ true → lateRow text s t u v p ≡ number3 B i j u v p
+  pub late-number : isPrefix (xyOf B i) u ≡ true → lateRow text s t u v p ≡ number3 B i j u v p
   unfolding lateRow shapedRow markedBy number3 number4 number5 number6 number7 byRows
   late-number e =
-      let a : front (word B i) u ≡ front (zOf B i) (drop (xylen B i) u) = front-whole B i u ∙ rw e in
-      let b = front-whole B i v in
-      let c = front-whole B j v in
+      let a : isPrefix (word B i) u ≡ isPrefix (zOf B i) (drop (xylen B i) u) = prefix-whole B i u ∙ rw e in
+      let b = prefix-whole B i v in
+      let c = prefix-whole B j v in
       rw (a, b, c, shape-lies text B i s li v, shape-lies text B j t lj v, li .x, lj .x, ← li .z, ← li .longXY, row-by-shapes)
-      (cond-both (markedBy text s t p) (front (xyOf B i) v || front (xyOf B j) v)
-      (from4 (front (zOf B i) (drop (xylen B i) u)) (front (xyOf B i) v) (front (zOf B i) (drop (xylen B i) v)) (front (xyOf B j) v) (front (zOf B j) (drop (xylen B j) v)))
+      (cond-both (markedBy text s t p) (isPrefix (xyOf B i) v || isPrefix (xyOf B j) v)
+      (from4 (isPrefix (zOf B i) (drop (xylen B i) u)) (isPrefix (xyOf B i) v) (isPrefix (zOf B i) (drop (xylen B i) v)) (isPrefix (xyOf B j) v) (isPrefix (zOf B j) (drop (xylen B j) v)))
       3)

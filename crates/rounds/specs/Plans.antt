@@ -4,7 +4,7 @@ use mathlib.Core.Bool.{Bool, true}
 use mathlib.Core.List.{List, _++_}
 use mathlib.Core.Path.{_≡_}
 use lib.ListN.{length, getD, drop}
-use Rattle.words.specs.Words.{Word, front}
+use Rattle.words.specs.Words.{Word, isPrefix}
 use Rattle.overlap.specs.Cuts.{xylen, xyOf, zOf}
 use Rattle.congruence.specs.Rows.{Next, round}
 use Rattle.congruence.specs.Rows.Next.{end, go}
@@ -30,7 +30,7 @@ pub record Tailed (text : List ℕ) (B : List Word) (w : Word) (c : Change) : Ty
   pub tail : part text (c .from) (c .to) ≡ zOf B of
   pub by : ℕ
   pub there : by < length B
-  pub front : front (xyOf B by) w ≡ true
+  pub prefix : isPrefix (xyOf B by) w ≡ true
   pub taken : xylen B by ≤ c .cut
 
 -- a change of u or v lies in the text and in the word
@@ -132,6 +132,6 @@ pub record Shared (text : List ℕ) (s t : Site) (l : ℕ) : Type 0 where
   pub turned : Headed text t l
 
 -- relation word i of a presentation whose relation words come in pairs
-pub record Fronted (text table : List ℕ) (n i : ℕ) : Type 0 where
+pub record Prefixed (text table : List ℕ) (n i : ℕ) : Type 0 where
   pub paired : Paired text table n
   pub there : i < n

@@ -6,11 +6,11 @@ ghost use mathlib.Core.Path.{_≡_};
 ghost use Prim.Native.Nat.{_+_, _*_, _-_, _<_, _≤_};
 ghost use mathlib.Core.List.{_++_};
 ghost use lib.ListN.{length, getD, drop};
-ghost use Rattle.words.specs.Words.{isEmpty, front};
+ghost use Rattle.words.specs.Words.{isEmpty, isPrefix};
 ghost use Rattle.words.specs.Relations.{other};
-ghost use Rattle.congruence.specs.Rows.{standsAt, crowded, cleanFront, round};
+ghost use Rattle.congruence.specs.Rows.{hasRelationPrefixAt, hasRelationPrefixBetween, cleanRelationPrefix, round};
 ghost use Rattle.layout.specs.Layout.{part, wordsIn, Checked};
-ghost use Rattle.rounds.specs.Plans.{Placed, Known, Mates, BackRoom, AgreeBack, BothSome, Turning, Upwards, Headed, Ends, Shared, Fronted, Paired, planned, Decided};
+ghost use Rattle.rounds.specs.Plans.{Placed, Known, Mates, BackRoom, AgreeBack, BothSome, Turning, Upwards, Headed, Ends, Shared, Prefixed, Paired, planned, Decided};
 ghost use Rattle.rounds.specs.declared.Plan.the-variants.{Go};
 ghost use Rattle.rounds.specs.Writing.{copied, Writable, Written, writtenBy, Changes, Planned, Lent};
 ghost use Rattle.rounds.specs.Writing.Outcome.{after};
@@ -25,7 +25,7 @@ ghost use Rattle.rounds.specs.Numbers.{
   lateRow,
   foundAt,
   Chosen,
-  crowdedFront,
+  uncleanPrefix,
   sharedEnd,
   plan1,
   dropOne,
@@ -67,7 +67,7 @@ pub struct Site {
     pub stop: usize,
 }
 
-// The first row that fits; from row 3 on, also where the relation word of u's clean front and its other word lie.
+// The first row that fits; from row 3 on, also where the relation word of u's clean relation prefix and its other word lie.
 pub struct Found {
     pub row: u8,
     pub own: Site,
@@ -171,10 +171,10 @@ fn shaped_row(text: &[u8], s: Site, t: Site, ua: &[u8], ub: &[u8], va: &[u8], vb
     row_by(whole, same, turned)
 }
 
-// Whether p is a front of the X at s.
+// Whether p is a prefix of the X at s.
 fn marks(text: &[u8], s: Site, p: &[u8]) -> bool
     requires { ⌜ Placed (now text) s ⌝ }
-    ensures { λ r. ⌜ r ≡ front (now (p .entry)) (part (now (text .entry)) (s .start) (s .middle)) ⌝ }
+    ensures { λ r. ⌜ r ≡ isPrefix (now (p .entry)) (part (now (text .entry)) (s .start) (s .middle)) ⌝ }
 {
     let from = s.start;
     if s.middle - from < p.len() {
@@ -183,7 +183,7 @@ fn marks(text: &[u8], s: Site, p: &[u8]) -> bool
     index::begins(text, from, from + p.len(), &p[0..0], p, 0)
 }
 
-// Whether p is a front of the X at s or at t.
+// Whether p is a prefix of the X at s or at t.
 fn marked(text: &[u8], s: Site, t: Site, p: &[u8]) -> bool
     requires { ⌜ Mates (now text) s t ⌝ }
     ensures { λ r. ⌜ r ≡ markedBy (now (text .entry)) s t (now (p .entry)) ⌝ }
@@ -226,16 +226,24 @@ fn empty(a: &[u8], b: &[u8]) -> bool
 // Whether X and Y of some relation word stand in the word at place q.
 fn stands(text: &[u8], table: &[u16], n: usize, a: &[u8], b: &[u8], q: usize) -> bool
     requires { ⌜ Checked (now text) (now table) n ⌝ }
-    ensures { λ r. ⌜ r ≡ standsAt (wordsIn (now (text .entry)) (now (table .entry)) n) (now (a .entry) ++ now (b .entry)) q ⌝ }
+    ensures { λ r. ⌜ r ≡ hasRelationPrefixAt (wordsIn (now (text .entry)) (now (table .entry)) n) (now (a .entry) ++ now (b .entry)) q ⌝ }
 {
-    let k = index::front_at(text, table, n, a, b, q);
+    let k = index::prefix_at(text, table, n, a, b, q);
     k < n
 }
 
 // Whether they do so at a place from lo on and below hi: an unclean front and an active remainder are both this.
-fn crowded(text: &[u8], table: &[u16], n: usize, a: &[u8], b: &[u8], lo: usize, hi: usize) -> bool
+fn has_prefix_between(
+    text: &[u8],
+    table: &[u16],
+    n: usize,
+    a: &[u8],
+    b: &[u8],
+    lo: usize,
+    hi: usize,
+) -> bool
     requires { ⌜ Checked (now text) (now table) n ⌝ }
-    ensures { λ r. ⌜ r ≡ crowded (wordsIn (now (text .entry)) (now (table .entry)) n) (now (a .entry) ++ now (b .entry)) lo hi ⌝ }
+    ensures { λ r. ⌜ r ≡ hasRelationPrefixBetween (wordsIn (now (text .entry)) (now (table .entry)) n) (now (a .entry) ++ now (b .entry)) lo hi ⌝ }
 {
     let mut q = lo;
     while q < hi {
@@ -247,13 +255,13 @@ fn crowded(text: &[u8], table: &[u16], n: usize, a: &[u8], b: &[u8], lo: usize, 
     false
 }
 
-// Whether the X and Y of relation word i, which begin the word, are no clean front.
+// Whether the X and Y of relation word i, which begin the word, are no clean relation prefix.
 fn unclean(text: &[u8], table: &[u16], n: usize, i: usize, a: &[u8], b: &[u8]) -> bool
     requires { ⌜ Known (now text) (now table) n i ⌝ }
-    ensures { λ r. ⌜ r ≡ crowdedFront (wordsIn (now (text .entry)) (now (table .entry)) n) i (now (a .entry) ++ now (b .entry)) ⌝ }
+    ensures { λ r. ⌜ r ≡ uncleanPrefix (wordsIn (now (text .entry)) (now (table .entry)) n) i (now (a .entry) ++ now (b .entry)) ⌝ }
 {
     let s = read_site(table, i);
-    crowded(
+    has_prefix_between(
         text,
         table,
         n,
@@ -264,12 +272,12 @@ fn unclean(text: &[u8], table: &[u16], n: usize, i: usize, a: &[u8], b: &[u8]) -
     )
 }
 
-// The relation word whose X and Y are a clean front of the word, or n.
-fn clean_front(text: &[u8], table: &[u16], n: usize, a: &[u8], b: &[u8]) -> usize
+// The relation word whose X and Y are a clean relation prefix of the word, or n.
+fn clean_prefix(text: &[u8], table: &[u16], n: usize, a: &[u8], b: &[u8]) -> usize
     requires { ⌜ Checked (now text) (now table) n ⌝ }
-    ensures { λ r. ⌜ r ≡ cleanFront (wordsIn (now (text .entry)) (now (table .entry)) n) (now (a .entry) ++ now (b .entry)) ⌝ }
+    ensures { λ r. ⌜ r ≡ cleanRelationPrefix (wordsIn (now (text .entry)) (now (table .entry)) n) (now (a .entry) ++ now (b .entry)) ⌝ }
 {
-    let k = index::front_at(text, table, n, a, b, 0);
+    let k = index::prefix_at(text, table, n, a, b, 0);
     if n <= k {
         return n;
     }
@@ -296,7 +304,7 @@ fn early(row: u8) -> Found
     }
 }
 
-// Row 3 or a later one, where relation word i is the clean front of u.
+// Row 3 or a later one, where relation word i is the clean relation prefix of u.
 fn late(
     text: &[u8],
     table: &[u16],
@@ -308,7 +316,7 @@ fn late(
     vb: &[u8],
     p: &[u8],
 ) -> Found
-    requires { ⌜ Fronted (now text) (now table) n i ⌝ }
+    requires { ⌜ Prefixed (now text) (now table) n i ⌝ }
     ensures { λ r. ⌜ r ≡ foundAt (now (text .entry)) (now (table .entry)) i (now (ua .entry) ++ now (ub .entry)) (now (va .entry) ++ now (vb .entry)) (now (p .entry)) ⌝ }
 {
     let own = read_site(table, i);
@@ -340,7 +348,7 @@ fn find_row(
     if empty(va, vb) {
         return early(1);
     }
-    let i = clean_front(text, table, n, ua, ub);
+    let i = clean_prefix(text, table, n, ua, ub);
     if n <= i {
         return early(2);
     }
@@ -363,7 +371,7 @@ fn agree_back(text: &[u8], x: usize, y: usize, room: usize) -> usize
 }
 
 // How many letters of the Z at s and of the Z at t agree at their ends.
-fn common_end(text: &[u8], s: Site, t: Site) -> usize
+fn common_suffix(text: &[u8], s: Site, t: Site) -> usize
     requires { ⌜ Mates (now text) s t ⌝ }
     ensures { λ r. ⌜ r ≡ sharedEnd (now (text .entry)) s t ⌝ }
 {
@@ -444,7 +452,7 @@ fn staying(text: &[u8], table: &[u16], n: usize, s: Site, t: Site, a: &[u8], b: 
     requires { ⌜ Turning (now text) (now table) n s t ⌝ }
     ensures { λ r. ⌜ r ≡ stays (wordsIn (now (text .entry)) (now (table .entry)) n) s t (now (a .entry) ++ now (b .entry)) ⌝ }
 {
-    if crowded(text, table, n, a, b, s.tail - s.start, s.stop - s.start) {
+    if has_prefix_between(text, table, n, a, b, s.tail - s.start, s.stop - s.start) {
         return s;
     }
     t
@@ -501,7 +509,7 @@ fn mark_after(text: &[u8], s: Site, p: &[u8]) -> Change
 }
 
 // Row 5.
-fn cut_fronts(text: &[u8], s: Site, p: &[u8]) -> Plan
+fn cut_prefixes(text: &[u8], s: Site, p: &[u8]) -> Plan
     requires { ⌜ Placed (now text) s ⌝ }
     ensures { λ r. ⌜ r ≡ plan5 (now (text .entry)) s (now (p .entry)) ⌝ }
 {
@@ -595,7 +603,7 @@ fn cut_ends(
     requires { ⌜ Mates (now text) s t ⌝ }
     ensures { λ r. ⌜ r ≡ plan8Of (now (text .entry)) s t (sharedEnd (now (text .entry)) s t) (now (ua .entry) ++ now (ub .entry)) (now (va .entry) ++ now (vb .entry)) (now (p .entry)) ⌝ }
 {
-    let l = common_end(text, s, t);
+    let l = common_suffix(text, s, t);
     cut_common(text, s, t, l, ua, ub, va, vb, p)
 }
 
@@ -622,7 +630,7 @@ pub fn decide(
         2 => drop_letters(ua, ub, va, vb, p),
         3 => Plan::End(false),
         4 => replace_words(text, table, n, s, t, ua, ub, va, vb, p.len()),
-        5 => cut_fronts(text, s, p),
+        5 => cut_prefixes(text, s, p),
         6 => put_on_v(s, t, p.len()),
         7 => put_on_u(s, t, p.len()),
         _ => cut_ends(text, s, t, ua, ub, va, vb, p),

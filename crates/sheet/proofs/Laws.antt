@@ -84,7 +84,7 @@ module _ (table : List ℕ) (n : ℕ) (sheet : List ℕ) (i : ℕ) (b : List ℕ
   unfolding sheetBytes
   sheeted-more a h p =
       let l = length-sheet table i in
-      let front : take (3 * i) b ≡ sheetBytes table i = rw (s .same) (take-at (sheetBytes table i) (drop (3 * i) sheet) (3 * i) l) in
+      let isPrefix : take (3 * i) b ≡ sheetBytes table i = rw (s .same) (take-at (sheetBytes table i) (drop (3 * i) sheet) (3 * i) l) in
       let e : sheetBytes table (i + 1) ≡ sheetBytes table i ++ lengthsAt table i = ap (sheetBytes table) (add-one i) in
       let k : 3 * i + 3 ≡ length (sheetBytes table i) + 3 = omega arith in
       let m : 3 * i + 3 ≡ 3 * (i + 1) = omega arith in
@@ -93,7 +93,7 @@ module _ (table : List ℕ) (n : ℕ) (sheet : List ℕ) (i : ℕ) (b : List ℕ
       record {
         room = s .room;
         within = omega arith;
-        same = p .same ∙ rw (front, back, e) (sym (append-assoc (sheetBytes table i) (lengthsAt table i) (drop (3 * (i + 1)) sheet)));
+        same = p .same ∙ rw (isPrefix, back, e) (sym (append-assoc (sheetBytes table i) (lengthsAt table i) (drop (3 * (i + 1)) sheet)));
         kept = p .kept ∙ s .kept;
       }
 

@@ -4,5 +4,5 @@ pub mod Lists
 pub mod Relations
 pub mod Searching
 pub mod Segments
-pub mod Fronts
+pub mod Prefixes
 pub mod Commons

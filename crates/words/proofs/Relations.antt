@@ -5,14 +5,14 @@ use mathlib.Core.Path.{_≡_, refl}
 use native.Mathlib.Omega.{arith}
 use lib.ListN.{length}
 use Rattle.words.specs.Words.{Word}
-use Rattle.words.specs.Relations.{Relation, sides, other}
+use Rattle.words.specs.Relations.{Relation, relationWords, other}
 
 -- every relation word has its other one
 abbrev pub Even : List Word → Type 0
 Even B = length B % 2 ≡ 0
 
-pub even-sides : (rs : List Relation) → Even (sides rs)
-unfolding sides
+pub even-sides : (rs : List Relation) → Even (relationWords rs)
+unfolding relationWords
 even-sides [] = refl
 even-sides (r ∷ rs) = let e = even-sides rs in omega arith
 

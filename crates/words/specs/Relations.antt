@@ -9,9 +9,9 @@ pub record Relation : Type 0 where
   pub right : Word
 
 -- the relation words (document 01: sides): 0 and 1 of the first relation, 2 and 3 of the second, and so on
-unfoldable pub sides : List Relation → List Word
-sides [] = []
-sides (r ∷ rs) = r .left ∷ r .right ∷ sides rs
+unfoldable pub relationWords : List Relation → List Word
+relationWords [] = []
+relationWords (r ∷ rs) = r .left ∷ r .right ∷ relationWords rs
 
 -- the number of the other relation word of the same relation
 abbrev pub other : ℕ → ℕ

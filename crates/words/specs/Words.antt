@@ -15,21 +15,21 @@ isEmpty [] = true
 isEmpty (x ∷ u) = false
 
 -- the first word is a prefix of the second (document 01: a front)
-unfoldable pub front : Word → Word → Bool
-front [] u = true
-front (x ∷ a) [] = false
-front (x ∷ a) (y ∷ u) = eqb x y && front a u
+unfoldable pub isPrefix : Word → Word → Bool
+isPrefix [] u = true
+isPrefix (x ∷ a) [] = false
+isPrefix (x ∷ a) (y ∷ u) = eqb x y && isPrefix a u
 
 -- the length of the longest common prefix
-unfoldable pub common : Word → Word → ℕ
-common [] u = 0
-common (x ∷ a) [] = 0
-common (x ∷ a) (y ∷ u) = cond (eqb x y) (suc (common a u)) 0
+unfoldable pub commonPrefix : Word → Word → ℕ
+commonPrefix [] u = 0
+commonPrefix (x ∷ a) [] = 0
+commonPrefix (x ∷ a) (y ∷ u) = cond (eqb x y) (suc (commonPrefix a u)) 0
 
 -- the last n letters
 abbrev pub lastLetters : ℕ → Word → Word
 lastLetters n u = drop (length u - n) u
 
 -- the length of the longest common suffix (document 01: common end)
-unfoldable pub commonEnd : Word → Word → ℕ
-commonEnd a b = greatest (min (length a) (length b)) (λ n. front (lastLetters n a) (lastLetters n b))
+unfoldable pub commonSuffix : Word → Word → ℕ
+commonSuffix a b = greatest (min (length a) (length b)) (λ n. isPrefix (lastLetters n a) (lastLetters n b))

@@ -1,0 +1,99 @@
+-- Laws of the program's reading and writing: counts stay within their buffers.
+use Prim.Native.Nat.{ℕ, _+_, _-_, _≤_, _<_}
+use mathlib.Core.List.{List, _++_}
+use mathlib.Core.Path.{_≡_, refl, sym, ap, _∙_}
+use native.Mathlib.Omega.{arith}
+use borrow.Author.Needs.{needs}
+use borrow.Rule.Slice.PartMut.{same-len-mid}
+use lib.ListN.{length, take, drop, length-append, length-take, length-drop}
+use lib.Seq.{length-take-le}
+use mir.Val.{Fits}
+use mir.Syntax.{w64}
+use Rattle.lines.specs.Lines.{Put}
+use Rattle.command.specs.declared.Got.{Got}
+use Rattle.command.specs.declared.Got.the-variants.{Bytes, Failed}
+use Rattle.command.specs.Got.{GotPiece, GotWithin}
+
+-- what is written lies in the buffer
+module _ (out s b : List ℕ) (q : ℕ) (p : Put out 0 s b q) where
+  pub put-within : q ≤ length b
+  put-within =
+      let l = length-append (take 0 out) (s ++ drop (0 + length s) out) in
+      let k = length-append s (drop (0 + length s) out) in
+      omega (arith, p .behind, ap length (p .same))
+
+  pub put-long : q ≡ length (take q b)
+  put-long = sym (length-take-le q b put-within)
+
+pub ruleset puts = (put-within, put-long, needs)
+
+-- a piece, read into the part of the buffer from a place on
+module _ (buf ys : List ℕ) (done k : ℕ) (e : length ys ≡ length (take k (drop done buf))) where
+  pub part-long : length (take done buf ++ (ys ++ drop k (drop done buf))) ≡ length buf
+  part-long = same-len-mid done k buf ys e
+
+  pub part-within : done ≤ length buf → done ≤ length (take done buf ++ (ys ++ drop k (drop done buf)))
+  part-within h = omega (arith, part-long)
+
+  pub piece-none : GotPiece Failed done buf (take done buf ++ (ys ++ drop k (drop done buf)))
+  piece-none = record { within = λ n e. absurd (let z : _≡_ {A = ℕ} 0 1 = cc in omega arith); long = part-long }
+
+  pub piece-some : (b : List ℕ) → b ≡ take done buf ++ (ys ++ drop k (drop done buf)) → done ≤ length buf → (n : ℕ) → n ≤ length (take (length b - done) (drop done b)) → GotPiece (Bytes n) done buf b
+  piece-some b q h n l =
+      let s : length b ≡ length buf = ap length q ∙ part-long in
+      record {
+        within = λ m e. let x : n ≡ m = cc in omega (arith, length-take (length b - done) (drop done b), length-drop done b);
+        long = s;
+      }
+
+pub ruleset pieces = (part-long, part-within, piece-none, piece-some, needs)
+
+-- some bytes are read
+pub record Reading (old buf : List ℕ) (done : ℕ) : Type 0 where
+  pub within : done ≤ length buf
+  pub long : length buf ≡ length old
+
+pub reading-start : (buf : List ℕ) → Reading buf buf 0
+reading-start buf = record { within = omega arith; long = refl }
+
+module _ (old buf : List ℕ) (done : ℕ) (r : Reading old buf done) where
+  pub reading-same : length buf ≡ length old
+  reading-same = r .long
+
+  pub reading-within : done ≤ length buf
+  reading-within = r .within
+
+  pub got-all : GotWithin (Bytes done) buf
+  got-all = record { within = λ n e. let q : done ≡ n = cc in omega (arith, r .within) }
+
+  module _ (piece : Got) (b : List ℕ) (g : GotPiece piece done buf b) where
+    pub piece-same : length b ≡ length old
+    piece-same = g .long ∙ r .long
+
+    pub got-failed : piece ≡ Failed → GotWithin piece b
+    got-failed f = record { within = λ n e. absurd (let z : _≡_ {A = ℕ} 0 1 = cc in omega arith) }
+
+    pub got-end : GotWithin (Bytes done) b
+    got-end = record { within = λ n e. let q : done ≡ n = cc in omega (arith, r .within, g .long) }
+
+    module _ (n : ℕ) (e : piece ≡ Bytes n) where
+      pub reading-fits : Fits w64 (length old) → Fits w64 (done + n)
+      reading-fits f = omega (arith, g .within n e, piece-same)
+
+      pub reading-more : Reading old b (done + n)
+      reading-more = record { within = g .within n e; long = piece-same }
+
+      pub reading-less : (n ≡ 0 → ⊥) → done < length buf → length b - (done + n) < length buf - done
+      reading-less h k = omega (arith, g .long)
+
+pub ruleset readings = (reading-start, reading-same, reading-within, piece-same, got-all, got-failed, got-end, reading-fits, reading-more, reading-less, needs)
+
+-- what was read lies in the buffer
+module _ (got : Got) (buf : List ℕ) (g : GotWithin got buf) (n : ℕ) (e : got ≡ Bytes n) where
+  pub all-within : n ≤ length buf
+  all-within = g .within n e
+
+  pub all-long : n ≡ length (take n buf)
+  all-long = sym (length-take-le n buf all-within)
+
+pub ruleset mains = (all-within, all-long, needs)

@@ -1,0 +1,66 @@
+// The program of document 01: standard input to standard output. It reads, calls and writes; what it writes is fixed by crate `program`.
+// Where a read fails, nothing is written to standard output, since what was read so far is not the input; the error goes to standard error.
+ghost use Prim.Native.Nat.{_≤_};
+ghost use lib.ListN.{length};
+ghost use Rattle.command.specs.Got.{GotPiece, GotWithin};
+use format::Input;
+use libc::STDIN_FILENO;
+use libc::STDOUT_FILENO;
+use program::Output;
+use program::write_program;
+
+// How many bytes were read, or a read failed.
+pub enum Got {
+    Bytes(usize),
+    Failed,
+}
+
+fn main() {
+    // One byte over the limit is enough to tell that an input is too long.
+    let mut input = [0u8; Input::MOST + 1];
+    let got = read_input(&mut input);
+    match got {
+        Got::Bytes(n) => answer(&input[..n]),
+        Got::Failed => os::fail(b"compare: standard input"),
+    }
+}
+
+// One read into the buffer behind the bytes that are in it: no bytes are the end of the input.
+fn read_piece(buf: &mut [u8], done: usize) -> Got
+    requires { ⌜ done ≤ length (now buf) ⌝ }
+    ensures { λ r. ⌜ GotPiece r done (now (buf .entry)) (now (buf .exit)) ⌝ }
+{
+    let got = libc::read(STDIN_FILENO, &mut buf[done..]);
+    if got < 0 {
+        return Got::Failed;
+    }
+    let more = io::count(got, &buf[done..]);
+    Got::Bytes(more)
+}
+
+// Reads until the input ends or the buffer is full, in as many pieces as it comes.
+fn read_input(buf: &mut [u8]) -> Got
+    ensures { λ r. ⌜ GotWithin r (now (buf .exit)) ⌝ }
+{
+    let mut done = 0;
+    while done < buf.len() {
+        let piece = read_piece(buf, done);
+        let Got::Bytes(more) = piece else {
+            return piece;
+        };
+        if more == 0 {
+            return Got::Bytes(done);
+        }
+        done += more;
+    }
+    Got::Bytes(done)
+}
+
+// Writes what the program gives for the input.
+fn answer(input: &[u8]) {
+    let mut out = [0u8; Output::MOST];
+    let n = write_program(input, &mut out);
+    if !io::write_all(STDOUT_FILENO, &out[..n]) {
+        os::fail(b"compare: standard output");
+    }
+}

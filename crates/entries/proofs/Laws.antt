@@ -1,0 +1,244 @@
+-- A law for each way that an entry can go.
+use Prim.Native.Nat.{ℕ, _+_, _*_, _<_, _≤_}
+use mathlib.Core.Bool.{Bool, true, false}
+use mathlib.Core.List.{List, _++_}
+use mathlib.Core.Path.{_≡_, refl, sym, ap, _∙_}
+use native.Mathlib.Omega.{arith}
+use borrow.Author.Needs.{needs}
+use borrow.Author.Tests.{lt-ltb, le-ltb, ltb-false}
+use lib.Dec.{ltb}
+use lib.ListN.{length, drop}
+use mir.Val.{Fits}
+use mir.Syntax.{w64}
+use Rattle.words.specs.Words.{Word}
+use Rattle.words.specs.Relations.{relationWords}
+use Rattle.layout.specs.Layout.{wordsIn}
+use Rattle.format.specs.declared.Refusal.{Refusal}
+use Rattle.format.specs.declared.Refusal.the-variants.{Narrow}
+use Rattle.format.specs.declared.Reading.{Reading}
+use Rattle.format.specs.declared.Reading.the-variants.{Read, Refused}
+use Rattle.congruence.specs.Rows.{Next, round}
+use Rattle.congruence.specs.Rows.Next.{end, go}
+use Rattle.format.specs.Limits.{roundMost, markMost, nextRoom}
+use Rattle.rounds.specs.Writing as Writing
+use Rattle.rounds.specs.Writing.{writtenBy, Lent}
+use Rattle.presentation.specs.Loading.{Holding, Memory, BookLoaded}
+use Rattle.presentation.proofs.Laws.{load-refused}
+use Rattle.given.specs.declared.Given.{Given}
+use Rattle.given.specs.declared.Given.the-variants as Words
+use Rattle.given.specs.Given.{givenOf, andThen, tripleOf}
+use Rattle.given.proofs.Laws.{fine-short, fine-both}
+use Rattle.rounds.specs.declared.RoundLengths.{RoundLengths}
+use Rattle.rounds.specs.declared.RoundLengths.the-variants as Lengths
+use Rattle.comparison.specs.declared.Comparison.{Comparison}
+use Rattle.comparison.specs.declared.Comparison.the-variants as Comparisons
+use Rattle.comparison.specs.State.{Ready}
+use Rattle.comparison.specs.Comparing.{comparisonOf}
+use Rattle.sheet.specs.Sheet.{cutSheet, sheetBytes, SheetRoom}
+use Rattle.sheet.proofs.Laws.{cuts-in, sheet-cut, length-sheet}
+use Rattle.entries.specs.declared.Verdict.the-variants as Verdicts
+use Rattle.entries.specs.declared.Round.{Round}
+use Rattle.entries.specs.declared.Printed.the-variants as Prints
+use Rattle.lines.specs.Lines.{Put}
+use Rattle.program.specs.Program.{programOf}
+use Rattle.program.specs.Size.{outputMost}
+use Rattle.entries.specs.declared.Round.the-variants as Rounds
+use Rattle.entries.specs.Answers.{accepted, refusal, ofVerdict, ofRound, ofComparison, ofPrinted}
+use Rattle.entries.specs.Entries.{checkOf, SheetOutcome, sheetOf, RoundOutcome, OutputOutcome, outputOf, roomOf, askedOf, writing, roundOf, compareOf}
+use Rattle.entries.specs.Parts.{SheetReady, acceptedSheet, answeredRound, loadedRound}
+use Rattle.entries.specs.Demands.{Compared}
+use Rattle.entries.proofs.Theorems.{compared}
+
+module _ (book : List ℕ) (reading : Reading) (text table : List ℕ) (d : BookLoaded book reading text table) where
+  -- the check
+  pub check-refused : (r : Refusal) → reading ≡ Refused r → ofVerdict (Verdicts.Refused r) ≡ checkOf book
+  unfolding checkOf
+  check-refused r e = sym (rw (load-refused book reading text table d r e))
+
+  pub check-accepted : (letters count : ℕ) → reading ≡ Read letters count → ofVerdict (Verdicts.Accepted count) ≡ checkOf book
+  unfolding checkOf
+  check-accepted letters count e =
+      let h = d .held letters count e in
+      let q : checkOf book ≡ accepted (length (h .relations)) = rw (h .is) in
+      ap accepted (h .many) ∙ sym q
+
+  -- the cut sheet
+  pub sheet-refused : (sheet : List ℕ) (r : Refusal) → reading ≡ Refused r → SheetOutcome.after (ofVerdict (Verdicts.Refused r)) sheet ≡ sheetOf book sheet
+  unfolding sheetOf
+  sheet-refused sheet r e = sym (rw (load-refused book reading text table d r e))
+
+  -- the comparison
+  pub compare-refused : (u v : Word) (allowance : ℕ) (r : Refusal) → reading ≡ Refused r → Compared book u v allowance (ofComparison (Comparisons.Refused r))
+  unfolding compareOf
+  compare-refused u v allowance r e = compared book u v allowance (refusal r) (sym (rw (load-refused book reading text table d r e)))
+
+  -- the round
+  pub round-refused : (u v p a c e : List ℕ) (r : Refusal) → reading ≡ Refused r → RoundOutcome.after (ofRound (Rounds.Refused r)) a c e ≡ roundOf book u v p a c e
+  unfolding roundOf
+  round-refused u v p a c e r f = sym (rw (load-refused book reading text table d r f))
+
+  module _ (letters count : ℕ) (e : reading ≡ Read letters count) where
+    held : Holding book letters count text table
+    held = d .held letters count e
+
+    pub loaded-fits : Fits w64 (2 * count)
+    loaded-fits = let h = held in omega (arith, h .within .fewRelations, h .many)
+
+    pub loaded-ready : Ready text table (2 * count)
+    loaded-ready =
+        let h = held in
+        record { paired = record { checked = h .checked; even = omega arith }; text-short = omega (arith, d .memory .text4160) }
+
+    pub loaded-sheet : SheetReady table count
+    loaded-sheet =
+        let h = held in
+        record { cuts = cuts-in text table (2 * count) (h .checked); few = omega (arith, h .within .fewRelations, h .many) }
+
+    pub sheet-loaded : (sheet : List ℕ) (x : SheetOutcome) → x ≡ acceptedSheet table count sheet → x ≡ sheetOf book sheet
+    unfolding sheetOf acceptedSheet
+    sheet-loaded sheet x f =
+        let h = held in
+        let s : sheetBytes table (2 * count) ≡ cutSheet (relationWords (h .relations)) = sheet-cut text table (2 * count) (h .checked) ∙ ap cutSheet (h .words) in
+        let q : sheetOf book sheet ≡ acceptedSheet table count sheet = rw (h .is, ← h .many, s) in
+        f ∙ sym q
+
+    pub compare-loaded : (u v : Word) (allowance : ℕ) (x : Comparison) → x ≡ comparisonOf letters (wordsIn text table (2 * count)) u v allowance
+        → Compared book u v allowance (ofComparison x)
+    unfolding compareOf
+    compare-loaded u v allowance x f =
+        let h = held in
+        let q : compareOf book u v allowance ≡ ofComparison (comparisonOf letters (relationWords (h .relations)) u v allowance) = rw (h .is) in
+        let g : x ≡ comparisonOf letters (relationWords (h .relations)) u v allowance = f ∙ rw (h .words) in
+        compared book u v allowance (ofComparison x) (ap ofComparison g ∙ sym q)
+
+    pub round-loaded : (u v p a c b : List ℕ) (x : RoundOutcome) → x ≡ loadedRound letters (wordsIn text table (2 * count)) u v p a c b → x ≡ roundOf book u v p a c b
+    unfolding roundOf loadedRound
+    round-loaded u v p a c b x f =
+        let h = held in
+        let g = rw (h .words) at f in
+        g ∙ sym (rw (h .is))
+
+pub memory-made : (text table : List ℕ) → length text ≡ 4160 → length table ≡ 450 → Memory text table
+memory-made text table h k = record { text4160 = h; table450 = k }
+
+pub ruleset checks = (memory-made, check-refused, check-accepted, needs)
+
+pub ruleset cutSheets = (memory-made, sheet-refused, loaded-sheet, sheet-loaded, needs)
+
+pub ruleset compares = (memory-made, compare-refused, loaded-fits, loaded-ready, compare-loaded, needs)
+
+pub ruleset singles = (memory-made, round-refused, loaded-fits, loaded-ready, round-loaded, needs)
+
+-- the sheet by the table
+module _ (table : List ℕ) (count : ℕ) (s : SheetReady table count) (sheet : List ℕ) where
+  pub sheet-fits : Fits w64 (6 * count)
+  sheet-fits = omega (arith, s .few)
+
+  pub words-fit : Fits w64 (2 * count)
+  words-fit = omega (arith, s .few)
+
+  pub sheet-narrow : length sheet < 6 * count → SheetOutcome.after (ofVerdict (Verdicts.Refused (Narrow 0))) sheet ≡ acceptedSheet table count sheet
+  unfolding acceptedSheet
+  sheet-narrow h = rw (lt-ltb _ _ h)
+
+  pub sheet-roomy : 6 * count ≤ length sheet → SheetRoom table (2 * count) sheet
+  sheet-roomy h = record { cuts = s .cuts; place = omega arith; few = omega (arith, s .few) }
+
+  pub sheet-written : (out : List ℕ) → 6 * count ≤ length sheet → out ≡ sheetBytes table (2 * count) ++ drop (3 * (2 * count)) sheet
+      → SheetOutcome.after (ofVerdict (Verdicts.Accepted count)) out ≡ acceptedSheet table count sheet
+  unfolding acceptedSheet
+  sheet-written out h e = rw (le-ltb _ _ h, e, length-sheet table (2 * count))
+
+pub ruleset tableSheets = (sheet-fits, words-fit, sheet-narrow, sheet-roomy, sheet-written, needs)
+
+-- what is given to a round
+module _ (letters : ℕ) (u v p : Word) (a c d : ℕ) (g : Given) (e : g ≡ tripleOf letters u v p) where
+  pub asked-words : (r : Refusal) → g ≡ Words.Refused r → g ≡ askedOf letters u v p a c d
+  unfolding askedOf
+  asked-words r f = rw (← e, f)
+
+  pub asked-room : (x : Given) → g ≡ Words.Fine → x ≡ roomOf a c d → x ≡ askedOf letters u v p a c d
+  unfolding askedOf
+  asked-room x f h = rw (← e, f) h
+
+pub ruleset askeds = (asked-words, asked-room, needs)
+
+-- a round that was made
+pub answered-end : (s : RoundLengths) (b : Bool) → s ≡ Lengths.End b → Rounds.End b ≡ answeredRound s
+answered-end s b e = rw e
+
+pub answered-next : (s : RoundLengths) (a b c : ℕ) → s ≡ Lengths.Next a b c → Rounds.Next a b c ≡ answeredRound s
+answered-next s a b c e = rw e
+
+pub ruleset answereds = (answered-end, answered-next, needs)
+
+-- what is fine is within its limits
+fine-room : (a c d : ℕ) → roomOf a c d ≡ Words.Fine → (nextRoom ≤ a) × (nextRoom ≤ c) × (markMost ≤ d)
+unfolding roomOf
+fine-room a c d e = go (ltb a nextRoom) refl (ltb c nextRoom) refl (ltb d markMost) refl
+  where
+    go : (x : Bool) → ltb a nextRoom ≡ x → (y : Bool) → ltb c nextRoom ≡ y → (z : Bool) → ltb d markMost ≡ z → (nextRoom ≤ a) × (nextRoom ≤ c) × (markMost ≤ d)
+    go true p y q z r = let f : Words.Refused (Narrow 0) ≡ Words.Fine = rw p at e in let o : _≡_ {A = ℕ} 0 1 = cc in absurd (omega arith)
+    go false p true q z r = let f : Words.Refused (Narrow 1) ≡ Words.Fine = rw (p, q) at e in let o : _≡_ {A = ℕ} 0 1 = cc in absurd (omega arith)
+    go false p false q true r = let f : Words.Refused (Narrow 2) ≡ Words.Fine = rw (p, q, r) at e in let o : _≡_ {A = ℕ} 0 1 = cc in absurd (omega arith)
+    go false p false q false r = (ltb-false a nextRoom p, ltb-false c nextRoom q, ltb-false d markMost r)
+
+fine-asked : (letters : ℕ) (u v p : Word) (a c d : ℕ) → askedOf letters u v p a c d ≡ Words.Fine
+    → (length u ≤ 4160) × (length v ≤ 4160) × (length p ≤ 64) × (4224 ≤ a) × (4224 ≤ c) × (64 ≤ d)
+unfolding askedOf tripleOf
+fine-asked letters u v p a c d e =
+    let t = fine-both (andThen (givenOf 0 roundMost letters u) (andThen (givenOf 1 roundMost letters v) (givenOf 2 markMost letters p))) (roomOf a c d) e in
+    let x = fine-both (givenOf 0 roundMost letters u) (andThen (givenOf 1 roundMost letters v) (givenOf 2 markMost letters p)) (t .0) in
+    let y = fine-both (givenOf 1 roundMost letters v) (givenOf 2 markMost letters p) (x .1) in
+    let r = fine-room a c d (t .1) in
+    (fine-short 0 roundMost letters u (x .0), fine-short 1 roundMost letters v (y .0), fine-short 2 markMost letters p (y .1), r .0, r .1, r .2)
+
+-- a round under a loaded book
+module _ (text table : List ℕ) (n letters : ℕ) (u v p a c d : List ℕ) (g : Given) (e : g ≡ askedOf letters u v p (length a) (length c) (length d)) where
+  pub loaded-refused : (r : Refusal) → g ≡ Words.Refused r → RoundOutcome.after (ofRound (Rounds.Refused r)) a c d ≡ loadedRound letters (wordsIn text table n) u v p a c d
+  unfolding loadedRound
+  loaded-refused r f = rw (← e, f)
+
+  pub loaded-lent : Ready text table n → g ≡ Words.Fine → Lent text table n u v p a c d
+  loaded-lent r f =
+      let k = fine-asked letters u v p (length a) (length c) (length d) (sym e ∙ f) in
+      record { paired = r .paired; shortU = k .0; shortV = k .1; shortP = k .2; roomU = k .3; roomV = k .4; roomP = k .5 }
+
+  -- the round's outcome in this paper's words
+  written : (x : Next) (s : RoundLengths) (a′ c′ d′ : List ℕ) → Writing.after s a′ c′ d′ ≡ writtenBy x a c d → RoundOutcome.after (ofRound (answeredRound s)) a′ c′ d′ ≡ writing x a c d
+  unfolding writtenBy
+  written (end b) s a′ c′ d′ q =
+      let es : s ≡ Lengths.End b = cc in
+      let ea : a′ ≡ a = cc in
+      let ec : c′ ≡ c = cc in
+      let ed : d′ ≡ d = cc in
+      rw (es, ea, ec, ed)
+  written (go x y z) s a′ c′ d′ q =
+      let es : s ≡ Lengths.Next (length x) (length y) (length z) = cc in
+      let ea : a′ ≡ x ++ drop (length x) a = cc in
+      let ec : c′ ≡ y ++ drop (length y) c = cc in
+      let ed : d′ ≡ z ++ drop (length z) d = cc in
+      rw (es, ea, ec, ed)
+
+  pub loaded-made : g ≡ Words.Fine → (s : RoundLengths) (a′ c′ d′ : List ℕ) → Writing.after s a′ c′ d′ ≡ writtenBy (round (wordsIn text table n) u v p) a c d
+      → (r : Round) → r ≡ answeredRound s → RoundOutcome.after (ofRound r) a′ c′ d′ ≡ loadedRound letters (wordsIn text table n) u v p a c d
+  unfolding loadedRound
+  loaded-made f s a′ c′ d′ q r h = rw (h, ← e, f) (written (round (wordsIn text table n) u v p) s a′ c′ d′ q)
+
+pub ruleset loadeds = (loaded-refused, loaded-lent, loaded-made, needs)
+
+-- the program
+pub output-narrow : (input out : List ℕ) → length out < outputMost → OutputOutcome.after (ofPrinted (Prints.Refused (Narrow 0))) out ≡ outputOf input out
+unfolding outputOf
+output-narrow input out h = rw (lt-ltb _ _ h)
+
+pub output-written : (input out b : List ℕ) (r : ℕ) → outputMost ≤ length out → Put out 0 (programOf input) b r
+    → OutputOutcome.after (ofPrinted (Prints.Wrote r)) b ≡ outputOf input out
+unfolding outputOf
+output-written input out b r h p =
+    let n : r ≡ length (programOf input) = omega (arith, p .behind) in
+    let z : 0 + length (programOf input) ≡ length (programOf input) = omega arith in
+    let q : b ≡ programOf input ++ drop (length (programOf input)) out = p .same ∙ rw z in
+    rw (le-ltb _ _ h, n, q)
+
+pub ruleset prints = (output-narrow, output-written, needs)

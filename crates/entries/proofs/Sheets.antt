@@ -1,0 +1,104 @@
+-- The demands on the cut sheet: the bytes of the definition are the lengths of the cuts, each at its place, and what is behind them is kept.
+use Prim.Native.Nat.{ℕ, zero, suc, _+_, _*_, _-_, _<_, _≤_}
+use mathlib.Core.List.{List, [], _∷_, _++_}
+use mathlib.Core.Logic.{by-cases}
+use mathlib.Core.Path.{_≡_, refl, sym, ap, _∙_}
+use native.Mathlib.Omega.{arith}
+use native.Mathlib.Decide.{decLt}
+use borrow.Author.Tests.{lt-ltb, le-ltb}
+use lib.ListN.{length, drop, getD, length-append, length-drop, List·getD-append}
+use lib.Seq.{length-take-le, getD-append-add, getD-drop}
+use Rattle.words.specs.Words.{Word}
+use Rattle.words.specs.Relations.{Relation, relationWords}
+use Rattle.overlap.specs.Pieces.{word, C4}
+use Rattle.overlap.specs.Cuts.{xlen, ylen, zlen, xylen, xOf, zOf}
+use Rattle.overlap.specs.Maximal.{yOf}
+use Rattle.overlap.proofs.Facts.{x-bound, z-bound}
+use Rattle.overlap.proofs.Maximal.{x-maximal, z-maximal, cut-whole, length-y, y-has-letters, y-is-no-piece}
+use Rattle.sheet.specs.Sheet.{cutBytes, cutSheet}
+use Rattle.entries.specs.Entries.{over, sheetOf}
+use Rattle.entries.specs.Demands.{Reports, CutsReported}
+use Rattle.entries.proofs.Theorems.{loaded-c4}
+
+length-sides : (relations : List Relation) → length (relationWords relations) ≡ 2 * length relations
+unfolding relationWords
+length-sides [] = refl
+length-sides (r ∷ rs) = omega (arith, length-sides rs)
+
+-- three bytes a relation word
+length-cuts : (B : List Word) (n : ℕ) → length (cutBytes B n) ≡ 3 * n
+unfolding cutBytes
+length-cuts B zero = refl
+length-cuts B (suc n) = simp length-append (omega (arith, length-cuts B n))
+
+-- byte k of relation word i, for k below three
+cut-byte : (B : List Word) (n i k : ℕ) → i < n → k < 3 → getD (cutBytes B n) (3 * i + k) 0 ≡ getD (xlen B i ∷ ylen B i ∷ zlen B i ∷ []) k 0
+unfolding cutBytes
+cut-byte B zero i k h b = absurd (omega arith)
+cut-byte B (suc n) i k h b =
+    let l = length-cuts B n in
+    let three : ℕ → List ℕ = λ j. xlen B j ∷ ylen B j ∷ zlen B j ∷ [] in
+    by-cases (decLt i n) (λ a. List·getD-append (cutBytes B n) (three n) 0 (3 * i + k) (omega arith) ∙ cut-byte B n i k a b) (λ a.
+    let e : i ≡ n = omega arith in
+    let p : 3 * i + k ≡ length (cutBytes B n) + k = omega arith in
+    ap (λ (m : ℕ). getD (cutBytes B n ++ three n) m 0) p ∙ getD-append-add (cutBytes B n) (three n) k 0 ∙ ap (λ (j : ℕ). getD (three j) k 0) (sym e))
+
+-- a list written over a buffer that has room for it
+over-prefix : (out buffer : List ℕ) (j : ℕ) → j < length out → getD (over out buffer) j 0 ≡ getD out j 0
+over-prefix out buffer j h = List·getD-append out (drop (length out) buffer) 0 j h
+
+over-behind : (out buffer : List ℕ) (j : ℕ) → length out ≤ j → getD (over out buffer) j 0 ≡ getD buffer j 0
+over-behind out buffer j h =
+    let e : j ≡ length out + (j - length out) = omega arith in
+    ap (λ (m : ℕ). getD (over out buffer) m 0) e ∙ getD-append-add out (drop (length out) buffer) (j - length out) 0 ∙ getD-drop (length out) buffer (j - length out) 0
+    ∙ ap (λ (m : ℕ). getD buffer m 0) (sym e)
+
+over-kept : (out buffer : List ℕ) → length out ≤ length buffer → length (over out buffer) ≡ length buffer
+over-kept out buffer h =
+    let d = length-drop (length out) buffer in
+    simp length-append (omega arith)
+
+-- the lengths of X, Y and Z
+length-x : (B : List Word) (i : ℕ) → length (xOf B i) ≡ xlen B i
+length-x B i = length-take-le (xlen B i) (word B i) (x-bound B i)
+
+length-z : (B : List Word) (i : ℕ) → length (zOf B i) ≡ zlen B i
+length-z B i = let d = length-drop (xylen B i) (word B i) in let b = z-bound B i in omega arith
+
+-- what stands over the buffer reports the cuts
+over-reports : (B : List Word) → C4 B → (old : List ℕ) (i : ℕ) → i < length B → Reports B (over (cutSheet B) old) i
+over-reports B c old i h =
+    let l = length-cuts B (length B) in
+    let at : (k : ℕ) → k < 3 → getD (over (cutSheet B) old) (3 * i + k) 0 ≡ getD (xlen B i ∷ ylen B i ∷ zlen B i ∷ []) k 0 = λ k b.
+    over-prefix (cutSheet B) old (3 * i + k) (omega arith) ∙ cut-byte B (length B) i k h b in
+    let y : ylen B i ≡ length (yOf B i) = omega (arith, length-y B i) in
+    record {
+      x = xOf B i;
+      y = yOf B i;
+      z = zOf B i;
+      whole = cut-whole B c i h;
+      first = x-maximal B i h;
+      last = z-maximal B i h;
+      some = y-has-letters B c i h;
+      middle = y-is-no-piece B c i h;
+      xByte = ap (λ (m : ℕ). getD (over (cutSheet B) old) m 0) (omega arith) ∙ at 0 (omega arith) ∙ sym (length-x B i);
+      yByte = at 1 (omega arith) ∙ y;
+      zByte = at 2 (omega arith) ∙ sym (length-z B i);
+    }
+
+pub cuts-reported : CutsReported
+unfolding sheetOf
+cuts-reported =
+    record {
+      roomy = λ book old letters relations e h.
+          let n = length-sides relations in
+          let l = length-cuts (relationWords relations) (length (relationWords relations)) in
+          record {
+            sheet = over (cutSheet (relationWords relations)) old;
+            is = rw (e, le-ltb (length old) (6 * length relations) (omega arith));
+            reports = over-reports (relationWords relations) (loaded-c4 book letters relations e) old;
+            kept = over-kept (cutSheet (relationWords relations)) old (omega arith);
+            behind = λ j b. over-behind (cutSheet (relationWords relations)) old j (omega arith);
+          };
+      narrow = λ book old letters relations e h. let n = length-sides relations in rw (e, lt-ltb (length old) (6 * length relations) (omega arith));
+    }

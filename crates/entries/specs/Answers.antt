@@ -1,0 +1,50 @@
+-- What the entries answer, in document 01's words and numbers; and which answer each case of the code's enums is.
+use Prim.Native.Nat.{ℕ}
+use mathlib.Core.Bool.{Bool}
+use Rattle.format.specs.declared.Refusal.{Refusal}
+use Rattle.format.specs.Refusals.{numberOf, placeOf}
+use Rattle.comparison.specs.declared.Comparison.{Comparison}
+use Rattle.comparison.specs.declared.Comparison.the-variants as Comparisons
+use Rattle.entries.specs.declared.Verdict.{Verdict}
+use Rattle.entries.specs.declared.Verdict.the-variants as Verdicts
+use Rattle.entries.specs.declared.Round.{Round}
+use Rattle.entries.specs.declared.Round.the-variants as Rounds
+use Rattle.entries.specs.declared.Printed.{Printed}
+use Rattle.entries.specs.declared.Printed.the-variants as Prints
+
+pub data Answer : Type 0 where
+  -- a book is accepted, with its number of relations (document 01: rules)
+  accepted : ℕ → Answer
+  -- a round ends, with 'same' for true
+  ended : Bool → Answer
+  -- a round goes on, with the lengths of the next u, v and p
+  next : ℕ → ℕ → ℕ → Answer
+  -- a comparison's end, with the count of rounds
+  same : ℕ → Answer
+  different : ℕ → Answer
+  -- the program's output is written, with its length
+  wrote : ℕ → Answer
+  -- a refusal's number and place
+  refused : ℕ → ℕ → Answer
+
+-- a refusal by this paper's number and place
+abbrev pub refusal : Refusal → Answer
+refusal r = refused (numberOf r) (placeOf r)
+
+abbrev pub ofVerdict : Verdict → Answer
+ofVerdict (Verdicts.Accepted n) = accepted n
+ofVerdict (Verdicts.Refused r) = refusal r
+
+abbrev pub ofRound : Round → Answer
+ofRound (Rounds.End b) = ended b
+ofRound (Rounds.Next a b c) = next a b c
+ofRound (Rounds.Refused r) = refusal r
+
+abbrev pub ofComparison : Comparison → Answer
+ofComparison (Comparisons.Same n) = same n
+ofComparison (Comparisons.Different n) = different n
+ofComparison (Comparisons.Refused r) = refusal r
+
+abbrev pub ofPrinted : Printed → Answer
+ofPrinted (Prints.Wrote n) = wrote n
+ofPrinted (Prints.Refused r) = refusal r

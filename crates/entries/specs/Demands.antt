@@ -1,0 +1,85 @@
+-- What is owed of the entries, said of their answers in the words of the papers: of the check and of the cut sheet (demand 2) and of the comparison (demand 3).
+-- Demand 1 (safety, refusals, lent buffers) has no record here: every function's check and the equalities with specs/Entries.antt are its statement.
+use Prim.Native.Nat.{ℕ, _+_, _*_, _<_, _≤_}
+use mathlib.Core.Bool.{Bool}
+use mathlib.Core.List.{List, [], _++_}
+use mathlib.Core.Logic.{_↔_, _⊎_}
+use mathlib.Core.Path.{_≡_}
+use lib.ListN.{length, getD}
+use Rattle.words.specs.Words.{Word}
+use Rattle.words.specs.Relations.{Relation, relationWords}
+use Rattle.overlap.specs.Pieces.{word, IsPiece, C4}
+use Rattle.overlap.specs.Cuts.{longestSuffixPiece}
+use Rattle.overlap.specs.Maximal.{MaximalPiecePrefix, MaximalPieceSuffix}
+use Rattle.overlap.specs.Verdict.{IsRepeated, FewPieces, Lowest, Distinct}
+use Rattle.congruence.specs.Congruence.{Congruent}
+use Rattle.congruence.specs.Rounds.{Rounds}
+use Rattle.format.specs.Book.{BookReading, readBook}
+use Rattle.presentation.specs.Loading.{BookLoading, loadBook}
+use Rattle.given.specs.declared.Given.the-variants as Words
+use Rattle.given.specs.Given.{pairOf}
+use Rattle.entries.specs.Answers.{Answer, accepted, same, different, refused}
+use Rattle.entries.specs.Entries.{checkOf, SheetOutcome, sheetOf, compareOf}
+
+-- demand 2, of a book that is well formed and within the limits: it is accepted exactly when it meets C(4); else it is refused by 7 at the lowest
+-- relation word that equals an earlier one, or by 8 at the lowest that is a product of three or fewer pieces
+pub record Accepts (relations : List Relation) (answer : Answer) : Type 0 where
+  pub accepts : (answer ≡ accepted (length relations)) ↔ C4 (relationWords relations)
+  pub repeated : (i : ℕ) → (answer ≡ refused 7 i) ↔ Lowest (length (relationWords relations)) (IsRepeated (relationWords relations)) i
+  pub loose : (i : ℕ) → (answer ≡ refused 8 i) ↔ (Distinct (relationWords relations) × Lowest (length (relationWords relations)) (FewPieces 4 (relationWords relations)) i)
+
+abbrev pub Acceptance : Type 0
+Acceptance = (book : List ℕ) (letters : ℕ) (relations : List Relation) → readBook book ≡ BookReading.read letters relations → Accepts relations (checkOf book)
+
+-- demand 2, of relation word i and its three bytes on a sheet: they are the lengths of its maximal piece prefix X, its middle word Y and its maximal piece
+-- suffix Z, where Y is not empty and no piece
+pub record Reports (B : List Word) (sheet : List ℕ) (i : ℕ) : Type 0 where
+  pub x : Word
+  pub y : Word
+  pub z : Word
+  pub whole : x ++ (y ++ z) ≡ word B i
+  pub first : MaximalPiecePrefix B i x
+  pub last : MaximalPieceSuffix B i z
+  pub some : 0 < length y
+  pub middle : ¬ IsPiece B y
+  pub xByte : getD sheet (3 * i) 0 ≡ length x
+  pub yByte : getD sheet (3 * i + 1) 0 ≡ length y
+  pub zByte : getD sheet (3 * i + 2) 0 ≡ length z
+
+-- of the outcome for a lent buffer: the cuts of all relation words are at its start, and its length and the bytes behind them are the old ones
+pub record Sheeted (relations : List Relation) (old : List ℕ) (outcome : SheetOutcome) : Type 0 where
+  pub sheet : List ℕ
+  pub is : outcome ≡ SheetOutcome.after (accepted (length relations)) sheet
+  pub reports : (i : ℕ) → i < length (relationWords relations) → Reports (relationWords relations) sheet i
+  pub kept : length sheet ≡ length old
+  pub behind : (j : ℕ) → 3 * length (relationWords relations) ≤ j → getD sheet j 0 ≡ getD old j 0
+
+-- of every accepted book: the sheet is in the buffer exactly when that has three bytes for each relation word, else 12 and the old buffer
+pub record CutsReported : Type 0 where
+  pub roomy : (book old : List ℕ) (letters : ℕ) (relations : List Relation) → loadBook book ≡ BookLoading.loaded letters relations
+      → 3 * length (relationWords relations) ≤ length old → Sheeted relations old (sheetOf book old)
+  pub narrow : (book old : List ℕ) (letters : ℕ) (relations : List Relation) → loadBook book ≡ BookLoading.loaded letters relations
+      → length old < 3 * length (relationWords relations) → sheetOf book old ≡ SheetOutcome.after (refused 12 0) old
+
+-- demand 3, of two words under relation words B, an allowance and an answer
+pub record Decides (B : List Word) (u v : Word) (allowance : ℕ) (answer : Answer) : Type 0 where
+  -- the rounds of the two words: so many 'go on's and drops that the rows make up to their end, with no allowance to stop them
+  pub rounds : ℕ
+  pub result : Bool
+  pub made : Rounds B u v [] rounds result
+  -- 'spent' exactly when the allowance is below the rounds
+  pub spends : (answer ≡ refused 11 allowance) ↔ (allowance < rounds)
+  -- else 'same' exactly when a chain joins the words, 'different' exactly when none does, with that count of rounds
+  pub joins : (answer ≡ same rounds) ↔ ((rounds ≤ allowance) × Congruent B u v)
+  pub parts : (answer ≡ different rounds) ↔ ((rounds ≤ allowance) × (¬ Congruent B u v))
+  -- and there is no other answer
+  pub only : (answer ≡ refused 11 allowance) ⊎ ((answer ≡ same rounds) ⊎ (answer ≡ different rounds))
+  -- the rounds are at most (k + 2) times the first word's length; in fact at most (k + 1) times the shorter one's
+  pub bound : rounds ≤ (longestSuffixPiece B + 2) * length u
+  pub closer : (rounds ≤ (longestSuffixPiece B + 1) * length u) × (rounds ≤ (longestSuffixPiece B + 1) * length v)
+
+-- what the comparison promises of its answer: it is the definition's; and of an accepted book and two words that are fine, it decides
+pub record Compared (book : List ℕ) (u v : Word) (allowance : ℕ) (answer : Answer) : Type 0 where
+  pub is : answer ≡ compareOf book u v allowance
+  pub decides : (letters : ℕ) (relations : List Relation) → loadBook book ≡ BookLoading.loaded letters relations → pairOf letters u v ≡ Words.Fine
+      → Decides (relationWords relations) u v allowance answer

@@ -1,0 +1,218 @@
+// The public entries: what a customer calls. None has a `requires`; each promises that its answer equals a definition's of specs/Entries.antt, refusals in
+// document 01's order and lent buffers included: as an equality, or, of `compare`, as the field `is` of the record `Compared`, which holds demand 3 beside it.
+// The demands are spelled out in specs/Demands.antt; the last two functions do nothing and carry demand 2 as theorems on these definitions.
+ghost use mathlib.Core.Path.{_≡_};
+ghost use Prim.Native.Nat.{_*_, _≤_};
+ghost use lib.ListN.{length};
+ghost use Rattle.layout.specs.Layout.{wordsIn};
+ghost use Rattle.comparison.specs.State.{Ready};
+ghost use Rattle.entries.specs.Answers.{ofVerdict, ofRound, ofComparison, ofPrinted};
+ghost use Rattle.entries.specs.Entries.{checkOf, SheetOutcome as Sheets, sheetOf, RoundOutcome as Rounds, roundOf, roomOf, askedOf, OutputOutcome as Outputs, outputOf};
+ghost use Rattle.entries.specs.Parts.{SheetReady, acceptedSheet, answeredRound, loadedRound};
+ghost use Rattle.entries.specs.Demands.{Acceptance, CutsReported, Compared};
+use comparison::Comparison;
+use format::Reading;
+use format::Refusal;
+use format::Relation;
+use format::Word;
+use given::Given;
+use program::Output;
+use rounds::RoundLengths;
+
+// A book is accepted, with its number of relations (document 01: rules), or refused.
+pub enum Verdict {
+    Accepted(usize),
+    Refused(Refusal),
+}
+
+// A round ends, with 'same' for true, or goes on, with the lengths of the next u, v and p, or is refused.
+pub enum Round {
+    End(bool),
+    Next(usize, usize, usize),
+    Refused(Refusal),
+}
+
+// Checks a book.
+pub fn check_book(book: &[u8]) -> Verdict
+    ensures { λ r. ⌜ ofVerdict r ≡ checkOf (now (book .entry)) ⌝ }
+{
+    let mut text = [0u8; Relation::TEXT];
+    let mut table = [0u16; Relation::TABLE];
+    let loaded = presentation::load(book, &mut text, &mut table);
+    match loaded {
+        Reading::Read(_, relations) => Verdict::Accepted(relations),
+        Reading::Refused(refusal) => Verdict::Refused(refusal),
+    }
+}
+
+// The sheet of an accepted book, by its table: 12 where the buffer is too small.
+fn accepted_sheet(table: &[u16], relations: usize, sheet: &mut [u8]) -> Verdict
+    requires { ⌜ SheetReady (now table) relations ⌝ }
+    ensures { λ r. ⌜ Sheets.after (ofVerdict r) (now (sheet .exit)) ≡ acceptedSheet (now (table .entry)) relations (now (sheet .entry)) ⌝ }
+{
+    if sheet.len() < 6 * relations {
+        return Verdict::Refused(Refusal::Narrow(0));
+    }
+    sheet::write_sheet(table, 2 * relations, sheet);
+    Verdict::Accepted(relations)
+}
+
+// Writes the cut sheet of a book at the start of a lent buffer.
+pub fn cut_sheet(book: &[u8], sheet: &mut [u8]) -> Verdict
+    ensures { λ r. ⌜ Sheets.after (ofVerdict r) (now (sheet .exit)) ≡ sheetOf (now (book .entry)) (now (sheet .entry)) ⌝ }
+{
+    let mut text = [0u8; Relation::TEXT];
+    let mut table = [0u16; Relation::TABLE];
+    let loaded = presentation::load(book, &mut text, &mut table);
+    match loaded {
+        Reading::Read(_, relations) => accepted_sheet(&table, relations, sheet),
+        Reading::Refused(refusal) => Verdict::Refused(refusal),
+    }
+}
+
+// Compares two words under a book, with an allowance of rounds.
+pub fn compare(book: &[u8], u: &[u8], v: &[u8], allowance: u32) -> Comparison
+    ensures { λ r. ⌜ Compared (now (book .entry)) (now (u .entry)) (now (v .entry)) allowance (ofComparison r) ⌝ }
+{
+    let mut text = [0u8; Relation::TEXT];
+    let mut table = [0u16; Relation::TABLE];
+    let loaded = presentation::load(book, &mut text, &mut table);
+    match loaded {
+        Reading::Read(letters, relations) => comparison::compare_given(
+            &text,
+            &table,
+            2 * relations,
+            letters,
+            u,
+            v,
+            allowance,
+        ),
+        Reading::Refused(refusal) => Comparison::Refused(refusal),
+    }
+}
+
+// The room of a round's three buffers.
+fn check_room(u: usize, v: usize, p: usize) -> Given
+    ensures { λ r. ⌜ r ≡ roomOf u v p ⌝ }
+{
+    if u < Word::NEXT {
+        return Given::Refused(Refusal::Narrow(0));
+    }
+    if v < Word::NEXT {
+        return Given::Refused(Refusal::Narrow(1));
+    }
+    if p < Word::MARK {
+        return Given::Refused(Refusal::Narrow(2));
+    }
+    Given::Fine
+}
+
+// What is given to a round: its words, then its buffers.
+fn check_asked(
+    letters: u8,
+    u: &[u8],
+    v: &[u8],
+    p: &[u8],
+    first: usize,
+    second: usize,
+    third: usize,
+) -> Given
+    ensures { λ r. ⌜ r ≡ askedOf letters (now (u .entry)) (now (v .entry)) (now (p .entry)) first second third ⌝ }
+{
+    let words = given::check_triple(letters, u, v, p);
+    let Given::Fine = words else {
+        return words;
+    };
+    check_room(first, second, third)
+}
+
+// A round that was made, as an answer.
+fn answered_round(lengths: RoundLengths) -> Round
+    ensures { λ r. ⌜ r ≡ answeredRound lengths ⌝ }
+{
+    match lengths {
+        RoundLengths::End(same) => Round::End(same),
+        RoundLengths::Next(u, v, p) => Round::Next(u, v, p),
+    }
+}
+
+// A round under a loaded book of so many letters: what is given is checked, then the round is made.
+fn loaded_round(
+    text: &[u8],
+    table: &[u16],
+    n: usize,
+    letters: u8,
+    u: &[u8],
+    v: &[u8],
+    p: &[u8],
+    nu: &mut [u8],
+    nv: &mut [u8],
+    np: &mut [u8],
+) -> Round
+    requires { ⌜ Ready (now text) (now table) n ⌝ }
+    ensures { λ r. ⌜ Rounds.after (ofRound r) (now (nu .exit)) (now (nv .exit)) (now (np .exit)) ≡ loadedRound letters (wordsIn (now (text .entry)) (now (table .entry)) n) (now (u .entry)) (now (v .entry)) (now (p .entry)) (now (nu .entry)) (now (nv .entry)) (now (np .entry)) ⌝ }
+{
+    let asked = check_asked(letters, u, v, p, nu.len(), nv.len(), np.len());
+    match asked {
+        Given::Refused(refusal) => Round::Refused(refusal),
+        Given::Fine => answered_round(rounds::write_round(text, table, n, u, v, p, nu, nv, np)),
+    }
+}
+
+// Makes one round from u, v and the front mark p, and writes the next ones at the starts of three lent buffers.
+pub fn single_round(
+    book: &[u8],
+    u: &[u8],
+    v: &[u8],
+    p: &[u8],
+    nu: &mut [u8],
+    nv: &mut [u8],
+    np: &mut [u8],
+) -> Round
+    ensures { λ r. ⌜ Rounds.after (ofRound r) (now (nu .exit)) (now (nv .exit)) (now (np .exit)) ≡ roundOf (now (book .entry)) (now (u .entry)) (now (v .entry)) (now (p .entry)) (now (nu .entry)) (now (nv .entry)) (now (np .entry)) ⌝ }
+{
+    let mut text = [0u8; Relation::TEXT];
+    let mut table = [0u16; Relation::TABLE];
+    let loaded = presentation::load(book, &mut text, &mut table);
+    match loaded {
+        Reading::Read(letters, relations) => loaded_round(
+            &text,
+            &table,
+            2 * relations,
+            letters,
+            u,
+            v,
+            p,
+            nu,
+            nv,
+            np,
+        ),
+        Reading::Refused(refusal) => Round::Refused(refusal),
+    }
+}
+
+// The program's output is written, with its length, or the buffer is too small for it.
+pub enum Printed {
+    Wrote(usize),
+    Refused(Refusal),
+}
+
+// Writes what the program of document 01 prints for an input at the start of a lent buffer, which must have room for the longest output of all.
+pub fn print_program(input: &[u8], out: &mut [u8]) -> Printed
+    ensures { λ r. ⌜ Outputs.after (ofPrinted r) (now (out .exit)) ≡ outputOf (now (input .entry)) (now (out .entry)) ⌝ }
+{
+    if out.len() < Output::MOST {
+        return Printed::Refused(Refusal::Narrow(0));
+    }
+    Printed::Wrote(program::write_program(input, out))
+}
+
+// The demands on acceptance, as a theorem on the check's definition.
+pub fn acceptance_is_c4()
+    ensures { λ _. ⌜ Acceptance ⌝ }
+{}
+
+// The demands on the cut sheet, as a theorem on its definition.
+pub fn sheet_reports_cuts()
+    ensures { λ _. ⌜ CutsReported ⌝ }
+{}

@@ -1,0 +1,61 @@
+-- What the test `isPrefix` says of two words: by append, and by position.
+use Prim.Native.Nat.{ℕ, zero, suc, _+_, _-_, _≤_, _<_}
+use mathlib.Core.Bool.{true, true≢false, and-eq-true-iff}
+use mathlib.Core.List.{[], _∷_, _++_}
+use mathlib.Core.Path.{_≡_, refl, sym, ap, _∙_}
+use native.Mathlib.Omega.{arith}
+use borrow.Author.Tests.{eqb-true, eq-eqb}
+use lib.ListN.{length, getD, drop, length-drop}
+use lib.Seq.{getD-drop}
+use Rattle.words.specs.Words.{Word, isPrefix}
+use Rattle.words.proofs.Segments.{Same}
+
+-- a word is a prefix of what begins with it
+pub prefix-append : (a t : Word) → isPrefix a (a ++ t) ≡ true
+unfolding isPrefix
+prefix-append [] t = refl
+prefix-append (x ∷ a) t = rw (eq-eqb x x refl) (prefix-append a t)
+
+-- what begins with a is a followed by the rest
+pub prefix-split : (a u : Word) → isPrefix a u ≡ true → a ++ drop (length a) u ≡ u
+unfolding isPrefix
+prefix-split [] u e = refl
+prefix-split (x ∷ a) [] e = absurd (true≢false (sym e))
+prefix-split (x ∷ a) (y ∷ u) e =
+    let r = simp and-eq-true-iff at e in
+    rw (eqb-true x y (r .0)) (ap (y ∷_) (prefix-split a u (r .1)))
+
+pub prefix-length : (a u : Word) → isPrefix a u ≡ true → length a ≤ length u
+unfolding isPrefix
+prefix-length [] u e = omega arith
+prefix-length (x ∷ a) [] e = absurd (true≢false (sym e))
+prefix-length (x ∷ a) (y ∷ u) e =
+    let r = simp and-eq-true-iff at e in
+    let h = prefix-length a u (r .1) in
+    omega arith
+
+-- the letters of a prefix are those of the word
+pub prefix-at : (a u : Word) → isPrefix a u ≡ true → (k : ℕ) → k < length a → getD a k 0 ≡ getD u k 0
+unfolding isPrefix
+prefix-at [] u e k h = absurd (omega arith)
+prefix-at (x ∷ a) [] e k h = absurd (true≢false (sym e))
+prefix-at (x ∷ a) (y ∷ u) e zero h = eqb-true x y ((simp and-eq-true-iff at e) .0)
+prefix-at (x ∷ a) (y ∷ u) e (suc k) h = prefix-at a u ((simp and-eq-true-iff at e) .1) k (omega arith)
+
+-- letters that agree make a prefix
+pub at-prefix : (a u : Word) → length a ≤ length u → ((k : ℕ) → k < length a → getD a k 0 ≡ getD u k 0) → isPrefix a u ≡ true
+unfolding isPrefix
+at-prefix [] u h f = refl
+at-prefix (x ∷ a) [] h f = absurd (omega arith)
+at-prefix (x ∷ a) (y ∷ u) h f = rw (eq-eqb x y (f 0 (omega arith))) (at-prefix a u (omega arith) (λ k l. f (suc k) (omega arith)))
+
+-- the same at place q of a word
+pub prefix-same : (a u : Word) (q : ℕ) → isPrefix a (drop q u) ≡ true → Same a 0 u q (length a)
+prefix-same a u q e = record { at = λ k h. ap (λ n. getD a n 0) (omega arith) ∙ prefix-at a (drop q u) e k h ∙ getD-drop q u k 0 }
+
+pub prefix-fits : (a u : Word) (q : ℕ) → 0 < length a → isPrefix a (drop q u) ≡ true → q + length a ≤ length u
+prefix-fits a u q h e = let l = prefix-length a (drop q u) e in let d = length-drop q u in omega arith
+
+pub same-prefix : (a u : Word) (q : ℕ) → q + length a ≤ length u → Same a 0 u q (length a) → isPrefix a (drop q u) ≡ true
+same-prefix a u q h s =
+    at-prefix a (drop q u) (simp length-drop (omega arith)) (λ k l. ap (λ n. getD a n 0) (omega arith) ∙ s .at k l ∙ sym (getD-drop q u k 0))
