@@ -11,6 +11,7 @@ pub mod CleanPrefixes
 pub mod PossiblePrefixes
 pub mod CommonSuffixes
 pub mod Sides
+pub mod FirstRow
 pub mod RowsRight
 pub mod RoundRight
 pub mod ShapeNoPrefix

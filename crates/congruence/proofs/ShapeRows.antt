@@ -1,28 +1,26 @@
 -- What a round makes of its three words, whichever row fits: it drops a letter of each (row 2), or it cuts at least an X and Y from u and from v
 -- and puts an end of a Z before what is left (rows 4 to 8).
 use Prim.Native.Nat.{ℕ, _+_, _-_, _≤_, _<_}
-use mathlib.Core.Bool.{Bool, true, _&&_, _||_, not, and-eq-true-iff}
+use mathlib.Core.Bool.{Bool, true, _&&_, _||_, and-eq-true-iff}
 use mathlib.Core.Logic.{_⊎_, inl, inr}
 use mathlib.Core.List.{List, [], _++_}
-use mathlib.Core.Path.{_≡_, refl, _∙_, subst}
+use mathlib.Core.Path.{_≡_, refl, subst}
 use native.Mathlib.Omega.{arith}
-use lib.Dec.{ltb}
-use borrow.Author.Tests.{ltb-true}
-use lib.ListN.{length, take, drop, length-take, length-drop}
-use lib.Seq.{drop-drop, getD-take}
+use lib.ListN.{length, take, drop, length-drop}
+use lib.Seq.{drop-drop}
 use Rattle.words.specs.Words.{Word, isEmpty, isPrefix, commonSuffix}
-use Rattle.words.specs.Relations.{other}
-use Rattle.words.proofs.Tests.{or-second, or-neither}
-use Rattle.words.proofs.Lists.{some-letter}
+use Rattle.words.proofs.Tests.{or-second}
 use Rattle.words.proofs.Relations.{Even, other-there}
-use Rattle.words.proofs.Prefixes.{prefix-length, prefix-at, at-prefix}
+use Rattle.words.proofs.Prefixes.{prefix-length}
 use Rattle.overlap.specs.Pieces.{word}
 use Rattle.overlap.specs.Cuts.{len, xylen, xOf, xyOf, zOf}
 use Rattle.overlap.proofs.Facts.{length-xy}
-use Rattle.congruence.specs.Rows.{Next, choose, clean, cleanRelationPrefix, active, dropFirst, alike, row3, row4, row5, row6, row7, row8, fromPrefix, round}
+use Rattle.congruence.specs.Rows.{Next, choose, cleanRelationPrefix, otherWord, active, alike, row1, row2, row4, row5, row6, row7, row8, makes, round}
 use Rattle.congruence.specs.Rows.Next.{end, go}
 use Rattle.congruence.proofs.Heads.{Facts}
-use Rattle.congruence.proofs.RowTests.{by-choose, prefix-of-clean, cleanRelationPrefix-passes}
+use Rattle.congruence.proofs.RowTests.{by-choose, prefix-of-clean}
+use Rattle.congruence.proofs.FirstRow.{Fits, xy-of-whole, fits}
+use Rattle.congruence.proofs.FirstRow.Fits.{fits1, fits2, fits3, fits4, fits5, fits6, fits7, fits8}
 use Rattle.congruence.proofs.ShapeNoPrefix.{TailEnd, tail-of-z, tail-drop}
 use Rattle.congruence.proofs.ShapeNoPrefix.TailEnd.{void}
 
@@ -47,13 +45,6 @@ pub data MovesTo (B : List Word) (u v p : Word) : Next → Type 0 where
   ends : {b : Bool} → MovesTo B u v p (end b)
   moves : {u′ v′ p′ : Word} → Moves B u v p u′ v′ p′ → MovesTo B u v p (go u′ v′ p′)
 
--- a prefix of a prefix
-pub prefix-take : (n : ℕ) (a u : Word) → isPrefix a u ≡ true → isPrefix (take n a) u ≡ true
-prefix-take n a u e =
-    let l = prefix-length a u e in
-    let t = length-take n a in
-    at-prefix (take n a) u (omega arith) (λ k h. getD-take n a k 0 (omega arith) ∙ prefix-at a u e k (omega arith))
-
 module _ (B : List Word) (c : Facts B) where
   -- a word that begins with a whole relation word, cut by it
   cut-whole : (i : ℕ) (u z : Word) → i < length B → TailEnd B z → isPrefix (word B i) u ≡ true → Recut B u z (z ++ drop (len B i) u)
@@ -62,7 +53,7 @@ module _ (B : List Word) (c : Facts B) where
       record {
         by = i;
         there = h;
-        begins = prefix-take (xylen B i) (word B i) u e;
+        begins = xy-of-whole B i u e;
         size = len B i;
         enough = c .within i h;
         fits = l;
@@ -95,51 +86,16 @@ module _ (B : List Word) (c : Facts B) where
       let d = length-drop (xylen B i) u in
       omega arith
 
-  module _ (i j : ℕ) (hi : i < length B) (hj : j < length B) (u v p : Word) (eu : isPrefix (xyOf B i) u ≡ true) where
-    -- where v begins with X and Y of j
-    module _ (ev : isPrefix (xyOf B j) v ≡ true) where
-      row8-moves : MovesTo B u v p (row8 B i j u v p)
-      unfolding row8
-      row8-moves =
-          let s = drop (xylen B i) u in
-          let t = drop (xylen B j) v in
-          let l = commonSuffix (zOf B i) (zOf B j) in
-          let e = take (length (zOf B i) - l) (zOf B i) in
-          let f = take (length (zOf B j) - l) (zOf B j) in
-          by-choose (MovesTo B u v p) (isPrefix e s && isPrefix f t) _ _ (λ h.
-          let r = simp and-eq-true-iff at h in
-          moves (cuts (cut-prefix i (length e) u hi (fits-prefix i e u hi eu (r .0)) eu) (cut-prefix j (length f) v hj (fits-prefix j f v hj ev (r .1)) ev)
-          (tail-drop B (zOf B i) (length e) (tail-of-z B i hi)) (inr (refl, refl)))) (λ h. ends)
-
-      row7-moves : MovesTo B u v p (row7 B i j u v p)
-      unfolding row7
-      row7-moves =
-          by-choose (MovesTo B u v p) (isPrefix (word B i) u && not (isPrefix (zOf B j) (drop (xylen B j) v))) _ _ (λ h.
-          let r = simp and-eq-true-iff at h in
-          moves (cuts (cut-whole i u (zOf B j) hi (tail-of-z B j hj) (r .0)) (cut-xy j v hj ev) (void refl) (inl refl))) (λ h. row8-moves)
-
-      row6-moves : MovesTo B u v p (row6 B i j u v p)
-      unfolding row6
-      row6-moves =
-          by-choose (MovesTo B u v p) (not (isPrefix (zOf B i) (drop (xylen B i) u)) && isPrefix (word B j) v) _ _ (λ h.
-          let r = simp and-eq-true-iff at h in
-          moves (cuts (cut-xy i u hi eu) (cut-whole j v (zOf B i) hj (tail-of-z B i hi) (r .1)) (void refl) (inl refl))) (λ h. row7-moves)
-
+  module _ (i j : ℕ) (hi : i < length B) (hj : j < length B) (u v p : Word) where
     -- the mark of row 5
     row5-mark : TailEnd B (choose (isPrefix p (xOf B i)) (λ _. []) (λ _. zOf B i))
     row5-mark = by-choose (TailEnd B) (isPrefix p (xOf B i)) _ _ (λ h. void refl) (λ h. tail-of-z B i hi)
 
-    row5-moves : (isPrefix (xyOf B i) v || isPrefix (xyOf B j) v) ≡ true → MovesTo B u v p (row5 B i j u v p)
-    unfolding row5
-    row5-moves ev =
-        by-choose (MovesTo B u v p) (isPrefix (xyOf B i) v) _ _
-        (λ h. moves (cuts (cut-xy i u hi eu) (cut-xy i v hi h) row5-mark (inr (refl, refl))))
-        (λ h. row6-moves (or-second (isPrefix (xyOf B i) v) (isPrefix (xyOf B j) v) ev h))
-
-    -- row 4's tail, and v behind a whole relation word
+    -- row 4's tail
     row4-tail : (s : Word) → TailEnd B (choose (active B (zOf B i) s) (λ _. zOf B i) (λ _. zOf B j))
     row4-tail s = by-choose (TailEnd B) (active B (zOf B i) s) _ _ (λ h. tail-of-z B i hi) (λ h. tail-of-z B j hj)
 
+    -- what row 4 makes of v
     row4-rest : (z : Word) → TailEnd B z → (isPrefix (word B i) v || isPrefix (word B j) v) ≡ true
         → Recut B v z (z ++ choose (isPrefix (word B i) v) (λ _. drop (len B i) v) (λ _. drop (len B j) v))
     row4-rest z t ev =
@@ -147,43 +103,42 @@ module _ (B : List Word) (c : Facts B) where
         (λ h. cut-whole i v z hi t h)
         (λ h. cut-whole j v z hj t (or-second (isPrefix (word B i) v) (isPrefix (word B j) v) ev h))
 
-    row4-moves : (isPrefix (xyOf B i) v || isPrefix (xyOf B j) v) ≡ true → MovesTo B u v p (row4 B i j u v p)
-    unfolding row4
-    row4-moves ev =
-        by-choose (MovesTo B u v p) (isPrefix (word B i) u && (isPrefix (word B i) v || isPrefix (word B j) v)) _ _ (λ h.
+    row8-moves : isPrefix (xyOf B i) u ≡ true → isPrefix (xyOf B j) v ≡ true → MovesTo B u v p (row8 B i j u v p)
+    unfolding row8
+    row8-moves eu ev =
+        let s = drop (xylen B i) u in
+        let t = drop (xylen B j) v in
+        let l = commonSuffix (zOf B i) (zOf B j) in
+        let e = take (length (zOf B i) - l) (zOf B i) in
+        let f = take (length (zOf B j) - l) (zOf B j) in
+        by-choose (MovesTo B u v p) (isPrefix e s && isPrefix f t) _ _ (λ h.
         let r = simp and-eq-true-iff at h in
-        let t = row4-tail (drop (len B i) u) in
-        moves (cuts (cut-whole i u _ hi t (r .0)) (row4-rest _ t (r .1)) (void refl) (inl refl))) (λ h. row5-moves ev)
+        moves (cuts (cut-prefix i (length e) u hi (fits-prefix i e u hi eu (r .0)) eu) (cut-prefix j (length f) v hj (fits-prefix j f v hj ev (r .1)) ev)
+        (tail-drop B (zOf B i) (length e) (tail-of-z B i hi)) (inr (refl, refl)))) (λ h. ends)
 
-    row3-moves : MovesTo B u v p (row3 B i j u v p)
-    unfolding row3
-    row3-moves =
-        by-choose (MovesTo B u v p) ((isPrefix p (xOf B i) || isPrefix p (xOf B j)) && (isPrefix (xyOf B i) v || isPrefix (xyOf B j) v)) _ _
-        (λ h. let r = simp and-eq-true-iff at h in row4-moves (r .1)) (λ h. ends)
-
--- row 2
-drop-moves : (B : List Word) (u v p : Word) → 0 < length u → 0 < length v → MovesTo B u v p (dropFirst u v p)
-unfolding dropFirst
-drop-moves B u v p hu hv =
-    by-choose (MovesTo B u v p) (alike u v && (isEmpty p || alike p u)) _ _ (λ h. moves (drops hu hv refl refl refl)) (λ h. ends)
-
-from-moves : (B : List Word) → Facts B → Even B → (u v p : Word) (i : ℕ) → 0 < length u → 0 < length v → (i < length B → clean B u i ≡ true) → MovesTo B u v p (fromPrefix B u v p i)
-unfolding fromPrefix
-from-moves B c e u v p i hu hv f =
-    by-choose (MovesTo B u v p) (ltb i (length B)) _ _
-    (λ h. let l = ltb-true i (length B) h in row3-moves B c i (other i) l (other-there (length B) i e l) u v p (prefix-of-clean B u i (f l)))
-    (λ h. drop-moves B u v p hu hv)
-
-pub round-moves-to : (B : List Word) → Facts B → Even B → (u v p : Word) → MovesTo B u v p (round B u v p)
-unfolding round
-round-moves-to B c e u v p =
-    by-choose (MovesTo B u v p) (isEmpty u || isEmpty v) _ _ (λ h. ends) (λ h.
-    let n = or-neither (isEmpty u) (isEmpty v) h in
-    from-moves B c e u v p (cleanRelationPrefix B u) (some-letter u (n .0)) (some-letter v (n .1)) (cleanRelationPrefix-passes B u))
+  -- every row, where it fits first
+  row-moves : (i j : ℕ) → (i < length B → j < length B) → (u v p : Word) (row : ℕ) → Fits B i j u v p row → MovesTo B u v p (makes B i j u v p row)
+  unfolding makes row1 row2 row4 row5 row6 row7
+  row-moves i j o u v p row (fits1 e) = ends
+  row-moves i j o u v p row (fits2 a b l) =
+      by-choose (MovesTo B u v p) (alike u v && (isEmpty p || alike p u)) _ _ (λ h. moves (drops a b refl refl refl)) (λ h. ends)
+  row-moves i j o u v p row (fits3 k q) = ends
+  row-moves i j o u v p row (fits4 k m q r) =
+      let t = row4-tail i j (k .there) (o (k .there)) u v p (drop (len B i) u) in
+      moves (cuts (cut-whole i u _ (k .there) t q) (row4-rest i j (k .there) (o (k .there)) u v p _ t r) (void refl) (inl refl))
+  row-moves i j o u v p row (fits5 k m q w) =
+      moves (cuts (cut-xy i u (k .there) (prefix-of-clean B u i (k .clean))) (cut-xy i v (k .there) q) (row5-mark i j (k .there) (o (k .there)) u v p) (inr (refl, refl)))
+  row-moves i j o u v p row (fits6 k m a z w) =
+      moves (cuts (cut-xy i u (k .there) (prefix-of-clean B u i (k .clean))) (cut-whole j v (zOf B i) (o (k .there)) (tail-of-z B i (k .there)) w) (void refl) (inl refl))
+  row-moves i j o u v p row (fits7 k m a w y z) =
+      moves (cuts (cut-whole i u (zOf B j) (k .there) (tail-of-z B j (o (k .there))) w) (cut-xy j v (o (k .there)) y) (void refl) (inl refl))
+  row-moves i j o u v p row (fits8 k m a w y z) = row8-moves i j (k .there) (o (k .there)) u v p (prefix-of-clean B u i (k .clean)) y
 
 -- every round that goes on makes one of the two changes
 pub round-moves : (B : List Word) → Facts B → Even B → {u v p u′ v′ p′ : Word} → round B u v p ≡ go u′ v′ p′ → Moves B u v p u′ v′ p′
-round-moves B c e {u} {v} {p} {u′} {v′} {p′} r = moved (subst (MovesTo B u v p) r (round-moves-to B c e u v p))
+unfolding round
+round-moves B c e {u} {v} {p} {u′} {v′} {p′} r =
+    moved (subst (MovesTo B u v p) r (row-moves B c (cleanRelationPrefix B u) (otherWord B u) (other-there (length B) (cleanRelationPrefix B u) e) u v p _ (fits B u v p)))
   where
     moved : MovesTo B u v p (go u′ v′ p′) → Moves B u v p u′ v′ p′
     moved (moves m) = m

@@ -3,7 +3,7 @@
 use Prim.Native.Nat.{ℕ, _+_, _-_}
 use mathlib.Core.Bool.{Bool, true, false, _&&_, _||_, not}
 use mathlib.Core.List.{List, [], _++_}
-use lib.Dec.{eqb, leb, ltb}
+use lib.Dec.{eqb, leb}
 use lib.ListN.{length, getD, take, drop}
 use Rattle.words.specs.Search.{anyBelow, least}
 use Rattle.words.specs.Words.{Word, isEmpty, isPrefix, commonSuffix}
@@ -46,13 +46,51 @@ active B z t = hasRelationPrefixBetween B (z ++ t) 0 (length z)
 abbrev pub alike : Word → Word → Bool
 alike u v = eqb (getD u 0 0) (getD v 0 0)
 
--- row 2, where u has no clean relation prefix; u and v are not empty
-unfoldable pub dropFirst : Word → Word → Word → Next
-dropFirst u v p = choose (alike u v && (isEmpty p || alike p u)) (λ _. go (drop 1 u) (drop 1 v) (drop 1 p)) (λ _. end false)
-
--- rows 4 to 8, where XY of i is a clean relation prefix of u, and v begins with XY of i or of its other word j
+-- The number of the first row that fits. Relation word i is the one whose XY is the clean relation prefix of u, and i is the number of relation words
+-- where there is none; X'Y'Z' is relation word j, kin to i and other than i.
 module _ (B : List Word) (i j : ℕ) (u v p : Word) where
-  -- row 8: u = XY s, v = X'Y' t; z is the longest common suffix of Z and Z', Z = e z, Z' = f z
+  unfoldable pub fitting : ℕ
+  fitting =
+      choose (isEmpty u || isEmpty v) (λ _. 1) (λ _.
+      choose (leb (length B) i) (λ _. 2) (λ _.
+      choose (not ((isPrefix p (xOf B i) || isPrefix p (xOf B j)) && (isPrefix (xyOf B i) v || isPrefix (xyOf B j) v))) (λ _. 3) (λ _.
+      choose (isPrefix (word B i) u && (isPrefix (word B i) v || isPrefix (word B j) v)) (λ _. 4) (λ _.
+      choose (isPrefix (xyOf B i) v) (λ _. 5) (λ _.
+      choose (not (isPrefix (zOf B i) (drop (xylen B i) u)) && isPrefix (word B j) v) (λ _. 6) (λ _.
+      choose (isPrefix (word B i) u && not (isPrefix (zOf B j) (drop (xylen B j) v))) (λ _. 7) (λ _. 8)))))))
+
+-- What each row makes, by the same i and j.
+
+-- row 1: u or v empty
+unfoldable pub row1 : Word → Word → Word → Next
+row1 u v p = end (isEmpty u && (isEmpty v && isEmpty p))
+
+-- row 2: u has no clean relation prefix; u and v are not empty
+unfoldable pub row2 : Word → Word → Word → Next
+row2 u v p = choose (alike u v && (isEmpty p || alike p u)) (λ _. go (drop 1 u) (drop 1 v) (drop 1 p)) (λ _. end false)
+
+module _ (B : List Word) (i j : ℕ) (u v p : Word) where
+  -- row 4: u = XYZ s and v = XYZ t or X'Y'Z' t; one tail serves both
+  unfoldable pub row4 : Next
+  row4 =
+      let s = drop (len B i) u in
+      let t = choose (isPrefix (word B i) v) (λ _. drop (len B i) v) (λ _. drop (len B j) v) in
+      let z = choose (active B (zOf B i) s) (λ _. zOf B i) (λ _. zOf B j) in
+      go (z ++ s) (z ++ t) []
+
+  -- row 5: u = XY s, v = XY t
+  unfoldable pub row5 : Next
+  row5 = go (drop (xylen B i) u) (drop (xylen B i) v) (choose (isPrefix p (xOf B i)) (λ _. []) (λ _. zOf B i))
+
+  -- row 6: u = XY s, s not beginning with Z, v = X'Y'Z' t
+  unfoldable pub row6 : Next
+  row6 = go (drop (xylen B i) u) (zOf B i ++ drop (len B j) v) []
+
+  -- row 7: u = XYZ s, v = X'Y' t, t not beginning with Z'
+  unfoldable pub row7 : Next
+  row7 = go (zOf B j ++ drop (len B i) u) (drop (xylen B j) v) []
+
+  -- row 8: u = XY s, v = X'Y' t otherwise; z is the longest common suffix of Z and Z', Z = e z, Z' = f z
   unfoldable pub row8 : Next
   row8 =
       let s = drop (xylen B i) u in
@@ -62,49 +100,25 @@ module _ (B : List Word) (i j : ℕ) (u v p : Word) where
       let f = take (length (zOf B j) - l) (zOf B j) in
       choose (isPrefix e s && isPrefix f t) (λ _. go (drop (length e) s) (drop (length f) t) (drop (length e) (zOf B i))) (λ _. end false)
 
-  -- row 7: u = XYZ s, v = X'Y' t, t not beginning with Z'
-  unfoldable pub row7 : Next
-  row7 =
-      choose (isPrefix (word B i) u && not (isPrefix (zOf B j) (drop (xylen B j) v)))
-      (λ _. go (zOf B j ++ drop (len B i) u) (drop (xylen B j) v) [])
-      (λ _. row8)
+  -- what the row of this number makes; row 3 ends with 'different'
+  unfoldable pub makes : ℕ → Next
+  makes row =
+      choose (eqb row 1) (λ _. row1 u v p) (λ _.
+      choose (eqb row 2) (λ _. row2 u v p) (λ _.
+      choose (eqb row 3) (λ _. end false) (λ _.
+      choose (eqb row 4) (λ _. row4) (λ _.
+      choose (eqb row 5) (λ _. row5) (λ _.
+      choose (eqb row 6) (λ _. row6) (λ _.
+      choose (eqb row 7) (λ _. row7) (λ _. row8)))))))
 
-  -- row 6: u = XY s, s not beginning with Z, v = X'Y'Z' t
-  unfoldable pub row6 : Next
-  row6 =
-      choose (not (isPrefix (zOf B i) (drop (xylen B i) u)) && isPrefix (word B j) v)
-      (λ _. go (drop (xylen B i) u) (zOf B i ++ drop (len B j) v) [])
-      (λ _. row7)
+-- the relation word that document 01 writes X'Y'Z': the other one of the relation whose XY is the clean relation prefix of u
+abbrev pub otherWord : List Word → Word → ℕ
+otherWord B u = other (cleanRelationPrefix B u)
 
-  -- row 5: u = XY s, v = XY t
-  unfoldable pub row5 : Next
-  row5 =
-      choose (isPrefix (xyOf B i) v)
-      (λ _. go (drop (xylen B i) u) (drop (xylen B i) v) (choose (isPrefix p (xOf B i)) (λ _. []) (λ _. zOf B i)))
-      (λ _. row6)
+-- the number of the first row that fits, from 1 to 8
+unfoldable pub firstRow : List Word → Word → Word → Word → ℕ
+firstRow B u v p = fitting B (cleanRelationPrefix B u) (otherWord B u) u v p
 
-  -- row 4: u = XYZ s and v = XYZ t or X'Y'Z' t; one tail serves both
-  unfoldable pub row4 : Next
-  row4 =
-      choose (isPrefix (word B i) u && (isPrefix (word B i) v || isPrefix (word B j) v))
-      (λ _.
-      let s = drop (len B i) u in
-      let t = choose (isPrefix (word B i) v) (λ _. drop (len B i) v) (λ _. drop (len B j) v) in
-      let z = choose (active B (zOf B i) s) (λ _. zOf B i) (λ _. zOf B j) in
-      go (z ++ s) (z ++ t) [])
-      (λ _. row5)
-
-  -- row 3: 'different' if p is a prefix of neither X nor X', or v begins with neither XY nor X'Y'
-  unfoldable pub row3 : Next
-  row3 =
-      choose ((isPrefix p (xOf B i) || isPrefix p (xOf B j)) && (isPrefix (xyOf B i) v || isPrefix (xyOf B j) v))
-      (λ _. row4)
-      (λ _. end false)
-
--- row 2 where i is the number of relation words, so that u has no clean relation prefix; else rows 3 to 8
-unfoldable pub fromPrefix : List Word → Word → Word → Word → ℕ → Next
-fromPrefix B u v p i = choose (ltb i (length B)) (λ _. row3 B i (other i) u v p) (λ _. dropFirst u v p)
-
--- the first row that fits; row 1: u or v empty
+-- one round: what the first row that fits makes
 unfoldable pub round : List Word → Word → Word → Word → Next
-round B u v p = choose (isEmpty u || isEmpty v) (λ _. end (isEmpty u && (isEmpty v && isEmpty p))) (λ _. fromPrefix B u v p (cleanRelationPrefix B u))
+round B u v p = makes B (cleanRelationPrefix B u) (otherWord B u) u v p (firstRow B u v p)

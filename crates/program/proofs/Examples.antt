@@ -7,7 +7,7 @@ use Rattle.words.specs.Words.{isPrefix, commonSuffix}
 use Rattle.words.specs.Relations.{relationWords}
 use Rattle.overlap.specs.Cuts.{twin, pieceAt, three, loose, firstLoose, xlen, zlen}
 use Rattle.overlap.specs.Verdict.{judge, firstRepeated, isRepeated, sameWord}
-use Rattle.congruence.specs.Rows.{hasRelationPrefixAt, hasRelationPrefixBetween, clean, cleanRelationPrefix, active, dropFirst, row3, row4, row5, row6, row7, row8, fromPrefix, round}
+use Rattle.congruence.specs.Rows.{hasRelationPrefixAt, hasRelationPrefixBetween, clean, cleanRelationPrefix, active, row1, row2, row4, row5, row6, row7, row8, makes, fitting, firstRow, round}
 use Rattle.congruence.specs.Rounds.{answerFrom}
 use Rattle.format.specs.Limits.{inputMost}
 use Rattle.format.specs.Book.{recordAt, firstUnknown, headAt, fieldsAt, relationAt, relationsFrom, readBook}
@@ -20,7 +20,7 @@ use Rattle.program.specs.Program.{refusedLine, bookEndFrom, comparisonIn
 use Rattle.program.specs.Examples.{Hold, none, more, examples, HeavyFirst}
 
 pub examples-hold : Hold examples
-unfolding judge firstRepeated isRepeated sameWord firstLoose loose three pieceAt twin xlen zlen greatest least anyBelow isPrefix hasRelationPrefixAt hasRelationPrefixBetween clean cleanRelationPrefix active dropFirst row3 row4 row5 row6 row7 row8 fromPrefix round answerFrom commonSuffix recordAt firstUnknown headAt fieldsAt relationAt relationsFrom readBook loadBook givenOf pairOf answerOf comparisonOf digitsOf countUpTo decimal numbered lineOf pairLineOf refusedLine bookEndFrom comparisonIn linesFrom programOf examples relationWords
+unfolding judge firstRepeated isRepeated sameWord firstLoose loose three pieceAt twin xlen zlen greatest least anyBelow isPrefix hasRelationPrefixAt hasRelationPrefixBetween clean cleanRelationPrefix active row1 row2 row4 row5 row6 row7 row8 makes fitting firstRow round answerFrom commonSuffix recordAt firstUnknown headAt fieldsAt relationAt relationsFrom readBook loadBook givenOf pairOf answerOf comparisonOf digitsOf countUpTo decimal numbered lineOf pairLineOf refusedLine bookEndFrom comparisonIn linesFrom programOf examples relationWords
 examples-hold =
     more refl (more refl (more refl (more refl (more refl (more refl (more refl (more refl (more refl (more refl (more refl (more refl (more refl (more refl (more refl (more refl (more refl (more refl (more refl (more refl (more refl (more refl (none))))))))))))))))))))))
 

@@ -1,0 +1,117 @@
+-- The first row that fits, taken apart once: what holds of u, v and p where a row fits first. Every proof about rounds goes through `fits`.
+-- Relation word i is the clean relation prefix of u, and j is any other word of its family; no law here asks more of j.
+use Prim.Native.Nat.{ℕ, _≤_, _<_}
+use mathlib.Core.Bool.{Bool, true, false, _&&_, _||_, not, true≢false, and-eq-true-iff, and-assoc}
+use mathlib.Core.List.{List, [], _∷_, _++_}
+use mathlib.Core.Path.{_≡_, refl, sym, ap, _∙_}
+use lib.Dec.{eqb, leb}
+use borrow.Author.Tests.{leb-true, leb-false, not-true, not-false}
+use lib.ListN.{length, drop, take-append-drop}
+use Rattle.words.specs.Words.{Word, isEmpty, isPrefix}
+use Rattle.words.proofs.Tests.{or-second, or-neither}
+use Rattle.words.proofs.Lists.{some-letter}
+use Rattle.overlap.specs.Pieces.{word}
+use Rattle.overlap.specs.Cuts.{xylen, xOf, xyOf, zOf}
+use Rattle.overlap.proofs.Facts.{length-xy}
+use Rattle.congruence.specs.Rows.{choose, clean, cleanRelationPrefix, otherWord, fitting, firstRow}
+use Rattle.congruence.proofs.RowTests.{by-choose, prefix-of-clean, cleanRelationPrefix-passes}
+
+-- a prefix in two parts
+pub prefix-both : (a b w : Word) → isPrefix (a ++ b) w ≡ (isPrefix a w && isPrefix b (drop (length a) w))
+unfolding isPrefix
+prefix-both [] b w = refl
+prefix-both (x ∷ a) b [] = refl
+prefix-both (x ∷ a) b (y ∷ w) = ap (eqb x y &&_) (prefix-both a b w) ∙ sym (and-assoc (eqb x y) (isPrefix a w) (isPrefix b (drop (length a) w)))
+
+-- a word begins with a relation word where it begins with its X and Y and its Z follows
+pub prefix-whole : (B : List Word) (i : ℕ) (w : Word) → isPrefix (word B i) w ≡ (isPrefix (xyOf B i) w && isPrefix (zOf B i) (drop (xylen B i) w))
+prefix-whole B i w =
+    ap (λ a. isPrefix a w) (sym (take-append-drop (xylen B i) (word B i))) ∙ prefix-both (xyOf B i) (zOf B i) w
+    ∙ ap (λ k. isPrefix (xyOf B i) w && isPrefix (zOf B i) (drop k w)) (length-xy B i)
+
+pub xy-of-whole : (B : List Word) (i : ℕ) (w : Word) → isPrefix (word B i) w ≡ true → isPrefix (xyOf B i) w ≡ true
+xy-of-whole B i w e =
+    let r : (isPrefix (xyOf B i) w && isPrefix (zOf B i) (drop (xylen B i) w)) ≡ true = sym (prefix-whole B i w) ∙ e in
+    (simp and-eq-true-iff at r) .0
+
+-- relation word i is the clean relation prefix of u
+pub record CleanPrefix (B : List Word) (u : Word) (i : ℕ) : Type 0 where
+  pub there : i < length B
+  pub clean : clean B u i ≡ true
+
+-- what holds where a row fits first: its own condition, with what the rows before it leave
+pub data Fits (B : List Word) (i j : ℕ) (u v p : Word) : ℕ → Type 0 where
+  fits1 : (isEmpty u || isEmpty v) ≡ true → Fits B i j u v p 1
+  fits2 : 0 < length u → 0 < length v → length B ≤ i → Fits B i j u v p 2
+  fits3 : CleanPrefix B u i → ((isPrefix p (xOf B i) || isPrefix p (xOf B j)) && (isPrefix (xyOf B i) v || isPrefix (xyOf B j) v)) ≡ false → Fits B i j u v p 3
+  fits4 : CleanPrefix B u i → (isPrefix p (xOf B i) || isPrefix p (xOf B j)) ≡ true → isPrefix (word B i) u ≡ true
+      → (isPrefix (word B i) v || isPrefix (word B j) v) ≡ true → Fits B i j u v p 4
+  fits5 : CleanPrefix B u i → (isPrefix p (xOf B i) || isPrefix p (xOf B j)) ≡ true → isPrefix (xyOf B i) v ≡ true
+      → (isPrefix (word B i) u && (isPrefix (word B i) v || isPrefix (word B j) v)) ≡ false → Fits B i j u v p 5
+  fits6 : CleanPrefix B u i → (isPrefix p (xOf B i) || isPrefix p (xOf B j)) ≡ true → isPrefix (xyOf B i) v ≡ false
+      → isPrefix (zOf B i) (drop (xylen B i) u) ≡ false → isPrefix (word B j) v ≡ true → Fits B i j u v p 6
+  fits7 : CleanPrefix B u i → (isPrefix p (xOf B i) || isPrefix p (xOf B j)) ≡ true → isPrefix (xyOf B i) v ≡ false
+      → isPrefix (word B i) u ≡ true → isPrefix (xyOf B j) v ≡ true → isPrefix (zOf B j) (drop (xylen B j) v) ≡ false → Fits B i j u v p 7
+  fits8 : CleanPrefix B u i → (isPrefix p (xOf B i) || isPrefix p (xOf B j)) ≡ true → isPrefix (xyOf B i) v ≡ false
+      → isPrefix (zOf B i) (drop (xylen B i) u) ≡ false → isPrefix (xyOf B j) v ≡ true → isPrefix (zOf B j) (drop (xylen B j) v) ≡ false → Fits B i j u v p 8
+
+-- row 8 is what is left: whether Z follows in u and Z' in v decides between rows 4, 6, 7 and 8
+left-over : (x y : Bool) → (x && y) ≡ false → (not x && y) ≡ false → (x && not y) ≡ false → (x ≡ false) × (y ≡ false)
+left-over true y a b c = absurd (true≢false (c′ y a c))
+  where
+    c′ : (y : Bool) → y ≡ false → not y ≡ false → true ≡ false
+    c′ true a c = a
+    c′ false a c = c
+left-over false y a b c = (refl, b)
+
+-- a conjunction whose second part is an alternative that fails
+not-second : (x y z : Bool) → (x && (y || z)) ≡ false → (x && z) ≡ false
+not-second true true z e = absurd (true≢false e)
+not-second true false z e = e
+not-second false y z e = refl
+
+module _ (B : List Word) (i j : ℕ) (u v p : Word) where
+  -- rows 6 to 8 by X and Y of j in v
+  fits-other : CleanPrefix B u i → (isPrefix p (xOf B i) || isPrefix p (xOf B j)) ≡ true → isPrefix (xyOf B i) v ≡ false → isPrefix (xyOf B j) v ≡ true
+      → (isPrefix (word B i) u && (isPrefix (word B i) v || isPrefix (word B j) v)) ≡ false
+      → Fits B i j u v p (choose (not (isPrefix (zOf B i) (drop (xylen B i) u)) && isPrefix (word B j) v) (λ _. 6) (λ _.
+      choose (isPrefix (word B i) u && not (isPrefix (zOf B j) (drop (xylen B j) v))) (λ _. 7) (λ _. 8)))
+  fits-other c m a b w =
+      by-choose (Fits B i j u v p) (not (isPrefix (zOf B i) (drop (xylen B i) u)) && isPrefix (word B j) v) _ _
+      (λ h. let r = simp and-eq-true-iff at h in fits6 c m a (not-true (isPrefix (zOf B i) (drop (xylen B i) u)) (r .0)) (r .1))
+      (λ h.
+      by-choose (Fits B i j u v p) (isPrefix (word B i) u && not (isPrefix (zOf B j) (drop (xylen B j) v))) _ _
+      (λ k. let r = simp and-eq-true-iff at k in fits7 c m a (r .0) b (not-true (isPrefix (zOf B j) (drop (xylen B j) v)) (r .1)))
+      (λ k. let l = left-over (isPrefix (zOf B i) (drop (xylen B i) u)) (isPrefix (zOf B j) (drop (xylen B j) v)) (rw (u-whole, v-whole) at n) (rw v-whole at h) (rw u-whole at k) in
+      fits8 c m a (l .0) b (l .1)))
+    where
+      u-whole : isPrefix (word B i) u ≡ isPrefix (zOf B i) (drop (xylen B i) u)
+      u-whole = prefix-whole B i u ∙ rw (prefix-of-clean B u i (c .clean))
+
+      v-whole : isPrefix (word B j) v ≡ isPrefix (zOf B j) (drop (xylen B j) v)
+      v-whole = prefix-whole B j v ∙ rw b
+
+      n : (isPrefix (word B i) u && isPrefix (word B j) v) ≡ false
+      n = not-second (isPrefix (word B i) u) (isPrefix (word B i) v) (isPrefix (word B j) v) w
+
+  pub fits-row : (i < length B → clean B u i ≡ true) → Fits B i j u v p (fitting B i j u v p)
+  unfolding fitting
+  fits-row g =
+      by-choose (Fits B i j u v p) (isEmpty u || isEmpty v) _ _ fits1 (λ e.
+      let n = or-neither (isEmpty u) (isEmpty v) e in
+      by-choose (Fits B i j u v p) (leb (length B) i) _ _ (λ h. fits2 (some-letter u (n .0)) (some-letter v (n .1)) (leb-true (length B) i h)) (λ h.
+      let l = leb-false (length B) i h in
+      let c : CleanPrefix B u i = record { there = l; clean = g l } in
+      by-choose (Fits B i j u v p) (not ((isPrefix p (xOf B i) || isPrefix p (xOf B j)) && (isPrefix (xyOf B i) v || isPrefix (xyOf B j) v))) _ _
+      (λ k. fits3 c (not-true _ k)) (λ k.
+      let r = simp and-eq-true-iff at (not-false ((isPrefix p (xOf B i) || isPrefix p (xOf B j)) && (isPrefix (xyOf B i) v || isPrefix (xyOf B j) v)) k) in
+      by-choose (Fits B i j u v p) (isPrefix (word B i) u && (isPrefix (word B i) v || isPrefix (word B j) v)) _ _
+      (λ w. let s = simp and-eq-true-iff at w in fits4 c (r .0) (s .0) (s .1)) (λ w.
+      by-choose (Fits B i j u v p) (isPrefix (xyOf B i) v) _ _
+      (λ a. fits5 c (r .0) a w)
+      (λ a. fits-other c (r .0) a (or-second (isPrefix (xyOf B i) v) (isPrefix (xyOf B j) v) (r .1) a) w)))))
+
+-- the elimination law of the rows
+pub fits : (B : List Word) (u v p : Word) → Fits B (cleanRelationPrefix B u) (otherWord B u) u v p (firstRow B u v p)
+unfolding firstRow
+fits B u v p = fits-row B (cleanRelationPrefix B u) (otherWord B u) u v p (cleanRelationPrefix-passes B u)
