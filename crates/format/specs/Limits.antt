@@ -94,13 +94,12 @@ wordOf most length = cond (ltb most length) Words.Long (Words.Good (record { len
 unfoldable pub inputOf : ℕ → MadeInput
 inputOf length = cond (ltb inputMost length) Inputs.Heavy (Inputs.Good (record { length = length }))
 
--- the numbers of the definitions, as the code gives its constants: of the head, of every record, of a relation; of the arrays that hold the relation words,
--- which the layout writes again (64 words in a text of 4,160, 257 positions in a table of 450); of the words of comparisons and rounds; of the program's input
+-- the numbers of the definitions, as the code gives its constants: of the head, of every record, of a relation; of the words of comparisons and rounds; of the
+-- program's input
 abbrev pub fixedAmounts : List ℕ
 fixedAmounts =
     headKind ∷ headLength ∷ lettersMost
     ∷ recordPrefix
     ∷ relationKind ∷ relationLength ∷ relationsMost ∷ sideMost
-    ∷ 64 ∷ 4160 ∷ 257 ∷ 450
     ∷ comparisonKind ∷ comparisonLength ∷ comparedMost ∷ allowanceMost ∷ roundMost ∷ nextRoom ∷ markMost ∷ placeSpacing
     ∷ inputMost ∷ []

@@ -66,18 +66,6 @@ impl Relation {
     // The most letters of a relation word.
     pub const LETTERS: usize = 64;
 
-    // The most relation words of a book.
-    pub const WORDS: usize = 2 * Relation::MOST;
-
-    // The room that the relation words of a book take one after the other, each with a fence behind it.
-    pub const TEXT: usize = Relation::WORDS * (Relation::LETTERS + 1);
-
-    // Four positions for each relation word, and the length of all.
-    pub const POSITIONS: usize = 4 * Relation::WORDS + 1;
-
-    // The positions; a number for each letter, and one more; and two for each relation word.
-    pub const TABLE: usize = Relation::POSITIONS + Head::LETTERS + 1 + 2 * Relation::WORDS;
-
     pub fn make(left: usize, right: usize) -> MadeRelation
         ensures { λ r. ⌜ r ≡ relationOf left right ⌝ }
     {
@@ -250,7 +238,7 @@ pub fn place(refusal: Refusal) -> usize
 }
 
 // The constants are the numbers that the definitions write again, in the order of specs/Limits.antt.
-pub fn fixed_amounts() -> [usize; 21]
+pub fn fixed_amounts() -> [usize; 17]
     ensures { λ r. ⌜ r ≡ fixedAmounts ⌝ }
 {
     [
@@ -262,10 +250,6 @@ pub fn fixed_amounts() -> [usize; 21]
         Relation::LENGTH,
         Relation::MOST,
         Relation::LETTERS,
-        Relation::WORDS,
-        Relation::TEXT,
-        Relation::POSITIONS,
-        Relation::TABLE,
         Word::KIND,
         Word::LENGTH,
         Word::COMPARED,

@@ -1,4 +1,4 @@
--- Where the cuts of a relation word lie: X, X with Y, and Z are the parts of the text that the table cuts.
+-- Where the cuts of a relation word lie: X, X with Y, and Z are the parts of the text that the table cuts; and what C(4) gives holds of checked words.
 use Prim.Native.Nat.{ℕ, _+_, _-_, _≤_, _<_}
 use mathlib.Core.List.{List}
 use mathlib.Core.Path.{_≡_, ap, _∙_}
@@ -6,10 +6,11 @@ use native.Mathlib.Omega.{arith}
 use lib.ListN.{take, drop}
 use Rattle.overlap.specs.Pieces.{word}
 use Rattle.overlap.specs.Cuts.{xlen, xylen, xOf, xyOf, zOf}
-use Rattle.overlap.proofs.Facts.{x-bound, z-bound}
-use Rattle.layout.specs.Layout.{startOf, xEndOf, zStartOf, endOf, part, wordsIn, Laid, Cut}
+use Rattle.overlap.proofs.Rigid.{Rigid}
+use Rattle.overlap.proofs.Facts.{x-bound, z-bound, rigid-of-c4}
+use Rattle.layout.specs.Layout.{startOf, xEndOf, zStartOf, endOf, part, Span, wordsIn, Laid, Cut, Checked}
 use Rattle.layout.proofs.Parts.{part-take, part-drop}
-use Rattle.layout.proofs.Placed.{word-part, word-length}
+use Rattle.layout.proofs.Placed.{word-part, end-inside, word-length}
 
 module _ (text table : List ℕ) (n : ℕ) (l : Laid text table n) (c : Cut text table n) (i : ℕ) (h : i < n) where
   -- the positions of the cuts lie in the word
@@ -22,6 +23,12 @@ module _ (text table : List ℕ) (n : ℕ) (l : Laid text table n) (c : Cut text
       let a = x-bound (wordsIn text table n) i in
       let b = z-bound (wordsIn text table n) i in
       omega (arith, x, z, w, s, a, b)
+
+  pub xy-span : Span text (startOf table i) (zStartOf table i)
+  xy-span =
+      let e = end-inside text table n l i h in
+      let p = cuts-inside in
+      record { upwards = p .2; inside = omega (arith, e, p .3) }
 
   -- the lengths of X and of X with Y
   pub x-long : xlen (wordsIn text table n) i ≡ xEndOf table i - startOf table i
@@ -53,3 +60,6 @@ module _ (text table : List ℕ) (n : ℕ) (l : Laid text table n) (c : Cut text
       ap (drop (xylen (wordsIn text table n) i)) (word-part text table n i h)
       ∙ part-drop text (startOf table i) (endOf table i) (xylen (wordsIn text table n) i)
       ∙ ap (λ a. part text a (endOf table i)) d
+
+pub checked-rigid : (text table : List ℕ) (n : ℕ) → Checked text table n → Rigid (wordsIn text table n) (xlen (wordsIn text table n)) (xylen (wordsIn text table n))
+checked-rigid text table n c = rigid-of-c4 (wordsIn text table n) (c .accepted)

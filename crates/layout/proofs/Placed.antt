@@ -11,7 +11,8 @@ use lib.Seq.{getD-at}
 use Rattle.words.proofs.Lists.{part-length, part-at}
 use Rattle.overlap.specs.Pieces.{word}
 use Rattle.overlap.specs.Cuts.{len}
-use Rattle.layout.specs.Layout.{startOf, endOf, part, wordsIn, Laid}
+use Rattle.layout.specs.Places.{wordMost, fenceOf}
+use Rattle.layout.specs.Layout.{startOf, endOf, part, Span, wordsIn, Laid}
 use Rattle.layout.proofs.Parts.{same-part}
 
 pub words-length : (text table : List ℕ) (n : ℕ) → length (wordsIn text table n) ≡ n
@@ -48,8 +49,11 @@ module _ (text table : List ℕ) (n : ℕ) (f : Laid text table n) where
   pub end-inside : (i : ℕ) → i < n → endOf table i < length text
   end-inside i h = let e = end-before i h in let s = f .inside in omega (arith, e, s)
 
-  -- each takes at most 65 places
-  pub start-bound : (i : ℕ) → i ≤ n → startOf table i ≤ 65 * i
+  pub word-span : (i : ℕ) → i < n → Span text (startOf table i) (endOf table i)
+  word-span i h = let e = end-inside i h in let s = f .some i h in record { upwards = omega (arith, s); inside = omega (arith, e) }
+
+  -- each takes at most the places of the longest and its fence
+  pub start-bound : (i : ℕ) → i ≤ n → startOf table i ≤ (wordMost + 1) * i
   start-bound zero h = let e = f .first in omega (arith, e)
   start-bound (suc i) h =
       let e = f .next i (omega (arith, h)) in
@@ -87,7 +91,7 @@ module _ (text table : List ℕ) (n : ℕ) (f : Laid text table n) where
       (λ k. let d : i ≡ j = omega (arith, l, k) in let c = ap (startOf table) d in (d, omega (arith, c, e))))
 
   -- a fence's code stands nowhere else
-  pub fence-once : (i q : ℕ) → i < n → q < startOf table n → getD text q 0 ≡ 64 + i → q ≡ endOf table i
+  pub fence-once : (i q : ℕ) → i < n → q < startOf table n → getD text q 0 ≡ fenceOf i → q ≡ endOf table i
   fence-once i q h l e =
       let r = owner q n (omega arith) l in
       by-cases (decLt q (endOf table (r .0)))

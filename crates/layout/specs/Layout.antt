@@ -1,6 +1,6 @@
--- How the relation words lie in arrays. One text holds them one after the other, and behind word number i stands its fence, the code 64 + i, which is no letter.
--- A table of 450 numbers has four positions of the text for each word: its start, the end of X, the start of Z and its end; behind the last word's it has the
--- length of all. Behind these 257 numbers stands an index: for each letter, where the words that begin with it are listed; the list; and how much each shares with the one before it.
+-- How the relation words lie in arrays. One text holds them one after the other, and behind each stands its fence, a code of its own that is no letter.
+-- A table of numbers has the positions of each word and of its cuts, and behind the last word's the length of all. Behind the positions stands an index: for
+-- each letter, where the words that begin with it are listed; the list; and how much each shares with the one before it. Places.antt says where in the table.
 use Prim.Native.Nat.{ℕ, zero, suc, _+_, _*_, _-_, _<_, _≤_}
 use mathlib.Core.List.{List, [], _∷_, _++_}
 use mathlib.Core.Path.{_≡_}
@@ -8,22 +8,28 @@ use lib.ListN.{length, getD, take, drop}
 use Rattle.words.specs.Words.{Word, commonPrefix}
 use Rattle.overlap.specs.Pieces.{word, C4}
 use Rattle.overlap.specs.Cuts.{xlen, zlen}
+use Rattle.layout.specs.Places.{wordsMost, wordMost, lettersBound, fenceOf, startCell, xEndCell, zStartCell, endCell, firstCell, orderCell, sharedCell, tableRoom}
 
 abbrev pub startOf : List ℕ → ℕ → ℕ
-startOf table i = getD table (4 * i) 0
+startOf table i = getD table (startCell i) 0
 
 abbrev pub xEndOf : List ℕ → ℕ → ℕ
-xEndOf table i = getD table (4 * i + 1) 0
+xEndOf table i = getD table (xEndCell i) 0
 
 abbrev pub zStartOf : List ℕ → ℕ → ℕ
-zStartOf table i = getD table (4 * i + 2) 0
+zStartOf table i = getD table (zStartCell i) 0
 
 abbrev pub endOf : List ℕ → ℕ → ℕ
-endOf table i = getD table (4 * i + 3) 0
+endOf table i = getD table (endCell i) 0
 
 -- the text from a to b
 abbrev pub part : List ℕ → ℕ → ℕ → Word
 part text a b = take (b - a) (drop a text)
+
+-- the text has a part from a to b
+pub record Span (text : List ℕ) (a b : ℕ) : Type 0 where
+  pub upwards : a ≤ b
+  pub inside : b ≤ length text
 
 -- the first n relation words of the text
 unfoldable pub wordsIn : List ℕ → List ℕ → ℕ → List Word
@@ -32,15 +38,15 @@ wordsIn text table (suc n) = wordsIn text table n ++ (part text (startOf table n
 
 -- n relation words are laid out; the positions of cuts are not spoken of
 pub record Laid (text table : List ℕ) (n : ℕ) : Type 0 where
-  pub few : n ≤ 64
-  pub room : 4 * n < length table
+  pub few : n ≤ wordsMost
+  pub room : startCell n < length table
   pub inside : startOf table n ≤ length text
   pub first : startOf table 0 ≡ 0
   pub next : (i : ℕ) → i < n → startOf table (i + 1) ≡ endOf table i + 1
   pub some : (i : ℕ) → i < n → startOf table i < endOf table i
-  pub short : (i : ℕ) → i < n → endOf table i ≤ startOf table i + 64
-  pub letters : (i q : ℕ) → i < n → startOf table i ≤ q → q < endOf table i → getD text q 0 < 64
-  pub fence : (i : ℕ) → i < n → getD text (endOf table i) 0 ≡ 64 + i
+  pub short : (i : ℕ) → i < n → endOf table i ≤ startOf table i + wordMost
+  pub letters : (i q : ℕ) → i < n → startOf table i ≤ q → q < endOf table i → getD text q 0 < lettersBound
+  pub fence : (i : ℕ) → i < n → getD text (endOf table i) 0 ≡ fenceOf i
 
 -- the table's cuts are the cuts of the relation words
 pub record Cut (text table : List ℕ) (n : ℕ) : Type 0 where
@@ -49,20 +55,20 @@ pub record Cut (text table : List ℕ) (n : ℕ) : Type 0 where
 
 -- the words that begin with letter c are listed from place firstOf c on and below firstOf (c + 1)
 abbrev pub firstOf : List ℕ → ℕ → ℕ
-firstOf table c = getD table (257 + c) 0
+firstOf table c = getD table (firstCell c) 0
 
 -- the word listed at place j
 abbrev pub orderOf : List ℕ → ℕ → ℕ
-orderOf table j = getD table (322 + j) 0
+orderOf table j = getD table (orderCell j) 0
 
 -- how many letters the word listed at place j shares with the one listed before it
 abbrev pub sharedOf : List ℕ → ℕ → ℕ
-sharedOf table j = getD table (386 + j) 0
+sharedOf table j = getD table (sharedCell j) 0
 
 -- the index lists every relation word under its first letter
 pub record Indexed (text table : List ℕ) (n : ℕ) : Type 0 where
-  pub room : length table ≡ 450
-  pub listed : (c : ℕ) → c < 64 → (firstOf table c ≤ firstOf table (c + 1)) × (firstOf table (c + 1) ≤ n)
+  pub room : length table ≡ tableRoom
+  pub listed : (c : ℕ) → c < lettersBound → (firstOf table c ≤ firstOf table (c + 1)) × (firstOf table (c + 1) ≤ n)
   pub known : (j : ℕ) → j < n → orderOf table j < n
   pub found : (k : ℕ) → k < n
       → (j : ℕ) × (firstOf table (getD text (startOf table k) 0) ≤ j) × (j < firstOf table (getD text (startOf table k) 0 + 1)) × (orderOf table j ≡ k)

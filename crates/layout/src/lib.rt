@@ -1,1 +1,161 @@
-// How relation words lie in arrays: definitions, with no code.
+// How relation words lie in arrays: where each part of the text and of the table begins, the readers of the table, and the laying of one relation word more.
+ghost use mathlib.Core.Path.{_≡_};
+ghost use Prim.Native.Nat.{_+_, _<_};
+ghost use lib.ListN.{length};
+ghost use Rattle.layout.specs.Places.{startCell, xEndCell, zStartCell, endCell, firstCell, orderCell, sharedCell, fixedPlaces};
+ghost use Rattle.layout.specs.Layout.{startOf, xEndOf, zStartOf, endOf, firstOf, orderOf, sharedOf};
+ghost use Rattle.layout.specs.Appending.{written, WordRoom, Appended};
+use format::Head;
+use format::Relation;
+use numbers::narrow;
+use numbers::wide;
+use numbers::wide16;
+
+// The text: the relation words one after the other, each with a fence behind it.
+pub struct Text {}
+
+impl Text {
+    // The most relation words.
+    pub const WORDS: usize = 2 * Relation::MOST;
+
+    // The most letters of a relation word.
+    pub const WORD: usize = Relation::LETTERS;
+
+    // Letters are below this number; relation word i has the fence LETTERS + i.
+    pub const LETTERS: usize = Head::LETTERS;
+
+    pub const ROOM: usize = Text::WORDS * (Text::WORD + 1);
+}
+
+// The table: a row of positions for each relation word, and one position more, the length of all; then the index of the relation words by their first letters.
+pub struct Table {}
+
+impl Table {
+    // A row has the start of a relation word, the end of its X, the start of its Z and its end.
+    pub const START: usize = 0;
+
+    pub const X_END: usize = 1;
+
+    pub const Z_START: usize = 2;
+
+    pub const END: usize = 3;
+
+    pub const COLUMNS: usize = 4;
+
+    pub const POSITIONS: usize = Table::COLUMNS * Text::WORDS + 1;
+
+    // For each letter, and once more, the place from which its relation words are listed.
+    pub const FIRST: usize = Table::POSITIONS;
+
+    // The list of the relation words.
+    pub const ORDER: usize = Table::FIRST + Text::LETTERS + 1;
+
+    // What each of the list has in common with the one before it.
+    pub const SHARED: usize = Table::ORDER + Text::WORDS;
+
+    pub const ROOM: usize = Table::SHARED + Text::WORDS;
+}
+
+// The constants are the numbers that the definitions write again, in the order of specs/Places.antt.
+pub fn fixed_places() -> [usize; 14]
+    ensures { λ r. ⌜ r ≡ fixedPlaces ⌝ }
+{
+    [
+        Text::WORDS,
+        Text::WORD,
+        Text::LETTERS,
+        Text::ROOM,
+        Table::COLUMNS,
+        Table::START,
+        Table::X_END,
+        Table::Z_START,
+        Table::END,
+        Table::POSITIONS,
+        Table::FIRST,
+        Table::ORDER,
+        Table::SHARED,
+        Table::ROOM,
+    ]
+}
+
+// Where relation word k starts in the text.
+pub fn start_of(table: &[u16], k: usize) -> usize
+    requires { ⌜ startCell k < length (now table) ⌝ }
+    ensures { λ r. ⌜ r ≡ startOf (now (table .entry)) k ⌝ }
+{
+    wide16(table[Table::COLUMNS * k + Table::START])
+}
+
+// Where its X ends.
+pub fn x_end_of(table: &[u16], k: usize) -> usize
+    requires { ⌜ xEndCell k < length (now table) ⌝ }
+    ensures { λ r. ⌜ r ≡ xEndOf (now (table .entry)) k ⌝ }
+{
+    wide16(table[Table::COLUMNS * k + Table::X_END])
+}
+
+// Where its Z starts.
+pub fn z_start_of(table: &[u16], k: usize) -> usize
+    requires { ⌜ zStartCell k < length (now table) ⌝ }
+    ensures { λ r. ⌜ r ≡ zStartOf (now (table .entry)) k ⌝ }
+{
+    wide16(table[Table::COLUMNS * k + Table::Z_START])
+}
+
+// Where it ends.
+pub fn end_of(table: &[u16], k: usize) -> usize
+    requires { ⌜ endCell k < length (now table) ⌝ }
+    ensures { λ r. ⌜ r ≡ endOf (now (table .entry)) k ⌝ }
+{
+    wide16(table[Table::COLUMNS * k + Table::END])
+}
+
+// The place from which the relation words that begin with letter c are listed.
+pub fn first_of(table: &[u16], c: u8) -> usize
+    requires { ⌜ firstCell c < length (now table) ⌝ }
+    ensures { λ r. ⌜ r ≡ firstOf (now (table .entry)) c ⌝ }
+{
+    wide16(table[Table::FIRST + wide(c)])
+}
+
+// The relation word that is listed at place j.
+pub fn order_of(table: &[u16], j: usize) -> usize
+    requires { ⌜ orderCell j < length (now table) ⌝ }
+    ensures { λ r. ⌜ r ≡ orderOf (now (table .entry)) j ⌝ }
+{
+    wide16(table[Table::ORDER + j])
+}
+
+// How many letters it shares with the one listed before it.
+pub fn shared_of(table: &[u16], j: usize) -> usize
+    requires { ⌜ sharedCell j < length (now table) ⌝ }
+    ensures { λ r. ⌜ r ≡ sharedOf (now (table .entry)) j ⌝ }
+{
+    wide16(table[Table::SHARED + j])
+}
+
+// Writes a word, and its fence behind it, at a position of the text.
+fn write_word(word: &[u8], text: &mut [u8], at: usize, fence: u8)
+    requires { ⌜ at + length (now word) < length (now text) ⌝ }
+    ensures { λ _. ⌜ now (text .exit) ≡ written (now (word .entry)) fence at (now (text .entry)) ⌝ }
+{
+    let mut i = 0;
+    while i < word.len() {
+        text[at + i] = word[i];
+        i += 1;
+    }
+    text[at + i] = fence;
+}
+
+// Lays a relation word behind the i that are laid.
+pub fn append_word(word: &[u8], text: &mut [u8], table: &mut [u16], i: usize)
+    requires { ⌜ WordRoom (now word) (now text) (now table) i ⌝ }
+    ensures { λ _. ⌜ Appended (now (word .entry)) (now (text .entry)) (now (table .entry)) i (now (text .exit)) (now (table .exit)) ⌝ }
+{
+    let start = start_of(table, i);
+    let fence = Text::LETTERS + i;
+    write_word(word, text, start, fence as u8);
+    let end = start + word.len();
+    table[Table::COLUMNS * i + Table::END] = narrow(end);
+    table[Table::COLUMNS * (i + 1) + Table::START] = narrow(end + 1);
+}

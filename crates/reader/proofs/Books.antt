@@ -16,11 +16,13 @@ use Rattle.numbers.specs.Widths.{Widened}
 use Rattle.format.specs.Book.{read, refused, between, headAt, relationAt, relationIn, relationsFrom, readBook}
 use Rattle.format.specs.Bytes.{Within}
 use Rattle.format.proofs.Readings.{RelationRead, relation-read, relation-within, within-more, head-read, within-head}
-use Rattle.reader.specs.Laying.{Arrays, Room, Appended, RelationRoom, RelationAppended, BookRead}
+use Rattle.layout.specs.Appending.{Arrays, WordRoom, Appended}
+use Rattle.layout.proofs.Appending.{nothing-laid}
+use Rattle.reader.specs.Laying.{RelationRoom, RelationAppended, BookRead}
 
 -- both words of a relation
 module _ (book : List ℕ) (at m to : ℕ) (text table : List ℕ) (count : ℕ) (r : RelationRoom book at m to text table count) where
-  pub left-room : Room (between book (at + 6) (at + 6 + m)) text table (2 * count)
+  pub left-room : WordRoom (between book (at + 6) (at + 6 + m)) text table (2 * count)
   left-room =
       record {
         laid = r .laid;
@@ -32,7 +34,7 @@ module _ (book : List ℕ) (at m to : ℕ) (text table : List ℕ) (count : ℕ)
       }
 
   module _ (text₁ table₁ : List ℕ) (a : Appended (between book (at + 6) (at + 6 + m)) text table (2 * count) text₁ table₁) where
-    pub right-room : Room (between book (at + 6 + m) to) text₁ table₁ (2 * count + 1)
+    pub right-room : WordRoom (between book (at + 6 + m) to) text₁ table₁ (2 * count + 1)
     right-room =
         record {
           laid = a .laid;
@@ -40,7 +42,7 @@ module _ (book : List ℕ) (at m to : ℕ) (text table : List ℕ) (count : ℕ)
           some = r .within .right .some;
           short = r .within .right .short;
           known = λ k h. omega (arith, r .within .right .known k h, r .few);
-          arrays = record { text4160 = omega (arith, a .textLong, r .arrays .text4160); table450 = a .tableLong ∙ r .arrays .table450 };
+          arrays = record { textLong = omega (arith, a .textLong, r .arrays .textLong); tableLong = a .tableLong ∙ r .arrays .tableLong };
         }
 
     pub both-appended : (text₂ table₂ : List ℕ) → Appended (between book (at + 6 + m) to) text₁ table₁ (2 * count + 1) text₂ table₂
@@ -71,22 +73,6 @@ pub record Going (book text₀ : List ℕ) (letters at count : ℕ) (text table 
   pub textLong : length text ≡ length text₀
   pub arrays : Arrays text table
 
--- no relation yet
-nothing-laid : (text table : List ℕ) → length table ≡ 450 → Laid text (set table 0 0) 0
-nothing-laid text table h =
-    let f : getD (set table 0 0) 0 0 ≡ 0 = getD-set-same table 0 0 0 (omega arith) in
-    record {
-      few = omega arith;
-      room = simp length-set (omega arith);
-      inside = rw f (omega arith);
-      first = f;
-      next = λ i l. absurd (omega arith);
-      some = λ i l. absurd (omega arith);
-      short = λ i l. absurd (omega arith);
-      letters = λ i q l. absurd (omega arith);
-      fence = λ i l. absurd (omega arith);
-    }
-
 module _ (book text table : List ℕ) (head : Reading) (e : head ≡ headAt 64 book 0) where
   pub head-refused : (r : Refusal) → head ≡ Refused r → BookRead book text table head text table
   unfolding readBook
@@ -111,10 +97,10 @@ module _ (book text table : List ℕ) (head : Reading) (e : head ≡ headAt 64 b
         enough = omega arith;
         same = rw (← e, f);
         within = within-head 64 book 0 letters first (omega arith) h;
-        laid = nothing-laid text table (a .table450);
+        laid = nothing-laid text table (a .tableLong);
         words = refl;
         textLong = refl;
-        arrays = record { text4160 = a .text4160; table450 = length-set table 0 0 ∙ a .table450 };
+        arrays = record { textLong = a .textLong; tableLong = length-set table 0 0 ∙ a .tableLong };
       }
 
 -- the definition's turns: at the end of the book, at a refusal, and over one relation
@@ -160,7 +146,7 @@ module _ (book text₀ : List ℕ) (letters at count : ℕ) (text table : List �
               within = subst (λ (l : List Relation). Within a l) y (subst (λ (n : ℕ). Within n (g .done)) x (g .within));
             };
         textLong = g .textLong;
-        tableLong = g .arrays .table450 ∙ sym (p .table450);
+        tableLong = g .arrays .tableLong ∙ sym (p .tableLong);
       }
 
   module _ (h : at < length book) (r : Reading) (e : r ≡ relationAt letters count book at) where
@@ -174,7 +160,7 @@ module _ (book text₀ : List ℕ) (letters at count : ℕ) (text table : List �
           answer = rw (b, f);
           held = λ a rs q. absurd (let z : _≡_ {A = ℕ} 0 1 = cc in omega arith);
           textLong = g .textLong;
-          tableLong = g .arrays .table450 ∙ sym (p .table450);
+          tableLong = g .arrays .tableLong ∙ sym (p .tableLong);
         }
 
     module _ (m to : ℕ) (f : r ≡ Read m to) where
@@ -215,7 +201,7 @@ module _ (book text₀ : List ℕ) (letters at count : ℕ) (text table : List �
               laid = a .laid;
               words = a .words ∙ rw (g .words, w .same) (sym (sides-more (g .done) (relationIn book at m to)));
               textLong = a .textLong ∙ g .textLong;
-              arrays = record { text4160 = omega (arith, a .textLong, g .arrays .text4160); table450 = a .tableLong ∙ g .arrays .table450 };
+              arrays = record { textLong = omega (arith, a .textLong, g .arrays .textLong); tableLong = a .tableLong ∙ g .arrays .tableLong };
             }
 
 pub ruleset goings = (head-refused, going-start, going-end, going-refused, going-less, going-room, going-more, going-count, needs)

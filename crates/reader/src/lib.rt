@@ -6,7 +6,8 @@ ghost use lib.ListN.{length};
 ghost use Rattle.format.specs.Limits.{lettersMost};
 ghost use Rattle.format.specs.Book.{between, unknownIn, recordAt, headAt, fieldsAt, relationAt};
 ghost use Rattle.reader.specs.Reads.{Field, Payload};
-ghost use Rattle.reader.specs.Laying.{written, Arrays, Room, Appended, RelationRoom, RelationAppended, BookRead};
+ghost use Rattle.layout.specs.Appending.{Arrays};
+ghost use Rattle.reader.specs.Laying.{RelationRoom, RelationAppended, BookRead};
 use format::Head;
 use format::MadeHead;
 use format::MadeRelation;
@@ -15,6 +16,8 @@ use format::Record;
 use format::Refusal;
 use format::Relation;
 use format::first_unknown;
+use layout::Table;
+use layout::append_word;
 use numbers::wide;
 
 // A two-byte field, little-endian.
@@ -120,39 +123,6 @@ pub fn relation_at(book: &[u8], at: usize, letters: u8, count: usize) -> Reading
     }
 }
 
-// Writes a word, and its fence behind it, at a position of the text.
-fn write_word(word: &[u8], text: &mut [u8], at: usize, fence: u8)
-    requires { ⌜ at + length (now word) < length (now text) ⌝ }
-    ensures { λ _. ⌜ now (text .exit) ≡ written (now (word .entry)) fence at (now (text .entry)) ⌝ }
-{
-    let mut i = 0;
-    while i < word.len() {
-        text[at + i] = word[i];
-        i += 1;
-    }
-    text[at + i] = fence;
-}
-
-// A position of the table.
-fn position(x: u16) -> usize
-    ensures { λ r. ⌜ r ≡ x ⌝ }
-{
-    x as usize
-}
-
-// Lays a relation word behind the i that are laid.
-fn append_word(word: &[u8], text: &mut [u8], table: &mut [u16], i: usize)
-    requires { ⌜ Room (now word) (now text) (now table) i ⌝ }
-    ensures { λ _. ⌜ Appended (now (word .entry)) (now (text .entry)) (now (table .entry)) i (now (text .exit)) (now (table .exit)) ⌝ }
-{
-    let start = position(table[4 * i]);
-    let fence = Head::LETTERS + i;
-    write_word(word, text, start, fence as u8);
-    let end = start + word.len();
-    table[4 * i + 3] = end as u16;
-    table[4 * i + 4] = (end + 1) as u16;
-}
-
 // Lays both words of the relation whose record begins at `at` and ends at `to`.
 fn append_relation(
     book: &[u8],
@@ -181,7 +151,7 @@ pub fn read_book(book: &[u8], text: &mut [u8], table: &mut [u16]) -> Reading
     let Reading::Read(letters, first) = head else {
         return head;
     };
-    table[0] = 0;
+    table[Table::START] = 0;
     let mut at = first;
     let mut count = 0;
     while at < book.len() {

@@ -1,6 +1,6 @@
-use Rattle.index.proofs.Seeking.{firsts}
-use Rattle.index.proofs.first_of.Statement.{statement}
-use Rattle.index.proofs.first_of.Tie as tie
+use Rattle.layout.proofs.Appending.{firsts}
+use Rattle.layout.proofs.first_of.Statement.{statement}
+use Rattle.layout.proofs.first_of.Tie as tie
 
 pub first-of-spec : {M : Type 1} → statement M
 first-of-spec =

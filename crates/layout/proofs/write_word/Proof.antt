@@ -1,8 +1,8 @@
 use Prim.Native.Nat.{_-_}
 use lib.ListN.{length}
-use Rattle.reader.proofs.Laying.{Copied, copies}
-use Rattle.reader.proofs.write_word.Statement.{statement}
-use Rattle.reader.proofs.write_word.Tie as tie
+use Rattle.layout.proofs.Appending.{Copied, copies}
+use Rattle.layout.proofs.write_word.Statement.{statement}
+use Rattle.layout.proofs.write_word.Tie as tie
 
 abbrev Inv-loop : tie.InvT-loop
 Inv-loop word text₀ at fence i₀ text i = Copied word text₀ at i text

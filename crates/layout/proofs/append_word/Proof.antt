@@ -1,31 +1,28 @@
-use borrow.Author.Needs.{needs}
-use Rattle.reader.proofs.Laying.{rooms, room-appended}
-use Rattle.reader.proofs.append_word.Statement.{statement}
-use Rattle.reader.proofs.append_word.Tie as tie
+use Rattle.layout.proofs.Appending.{rooms}
+use Rattle.layout.proofs.append_word.Statement.{statement}
+use Rattle.layout.proofs.append_word.Tie as tie
 
 pub append-word-spec : {M : Type 1} → statement M
 append-word-spec =
     tie.close
     (tie.spec
+    (λ c κs. search rooms)
+    (λ c. search rooms)
+    (λ c. search rooms)
+    (λ c κs. search rooms)
+    (λ c. search rooms)
+    (λ c κs. search rooms)
+    (λ c. search rooms)
+    (λ c. search rooms)
     (λ c. search rooms)
     (λ c. search rooms)
     (λ c. search rooms)
     (λ c κs. search rooms)
     (λ c. search rooms)
     (λ c. search rooms)
-    (λ c κs. search rooms)
     (λ c. search rooms)
     (λ c. search rooms)
     (λ c. search rooms)
     (λ c. search rooms)
     (λ c. search rooms)
-    (λ c. search rooms)
-    (λ c. search rooms)
-    (λ c. search rooms)
-    (λ c. search rooms)
-    (λ c. search rooms)
-    (λ c. search rooms)
-    (λ c. search rooms)
-    (λ c. search rooms)
-    (λ c. search rooms)
-    (λ c. room-appended _ _ _ _ (search needs) _ (search needs) _ (search needs)))
+    (λ c. search rooms))

@@ -9,12 +9,13 @@ use native.Mathlib.Decide.{decLt}
 use borrow.Author.Needs.{needs}
 use lib.ListN.{length, getD, take, drop, set, length-append, length-drop, length-set, List·getD-append}
 use lib.Seq.{length-take-le, getD-take, getD-append-add, getD-set-same, getD-set-other, drop-cons, set-at, take-at, drop-at, paste, paste-zero, paste-suc, length-paste-head, take-length}
-use mir.Syntax.{w8, w16}
+use mir.Syntax.{w8}
 use mir.Val.{Fits}
 use Rattle.words.specs.Words.{Word}
-use Rattle.layout.specs.Layout.{startOf, endOf, part, wordsIn, Laid}
+use Rattle.layout.specs.Places.{wordMost, textRoom, tableRoom, lettersBound, fenceOf, startCell, endCell, firstCell}
+use Rattle.layout.specs.Layout.{startOf, endOf, part, wordsIn, firstOf, Laid}
 use Rattle.layout.proofs.Placed.{start-bound, end-before, same-words}
-use Rattle.reader.specs.Laying.{written, Room, Appended}
+use Rattle.layout.specs.Appending.{written, WordRoom, Appended}
 
 -- a word and its fence, by position
 module _ (word : Word) (fence at : ℕ) (text : List ℕ) (h : at + length word < length text) where
@@ -51,29 +52,28 @@ module _ (word : Word) (fence at : ℕ) (text : List ℕ) (h : at + length word 
 
 -- the word's end and the next start in the table
 abbrev pub tabled : ℕ → ℕ → List ℕ → List ℕ
-tabled i end table = set (set table (4 * i + 3) end) (4 * i + 4) (end + 1)
+tabled i end table = set (set table (endCell i) end) (startCell (i + 1)) (end + 1)
 
-module _ (i end : ℕ) (table : List ℕ) (h : 4 * i + 4 < length table) where
-  pub tabled-before : (q : ℕ) → q < 4 * i + 3 → getD (tabled i end table) q 0 ≡ getD table q 0
+module _ (i end : ℕ) (table : List ℕ) (h : startCell (i + 1) < length table) where
+  pub tabled-before : (q : ℕ) → q < endCell i → getD (tabled i end table) q 0 ≡ getD table q 0
   tabled-before q l =
-      getD-set-other (set table (4 * i + 3) end) (4 * i + 4) q (end + 1) 0 (λ e. omega arith)
-      ∙ getD-set-other table (4 * i + 3) q end 0 (λ e. omega arith)
+      getD-set-other (set table (endCell i) end) (startCell (i + 1)) q (end + 1) 0 (λ e. omega arith)
+      ∙ getD-set-other table (endCell i) q end 0 (λ e. omega arith)
 
   pub tabled-end : endOf (tabled i end table) i ≡ end
   tabled-end =
-      getD-set-other (set table (4 * i + 3) end) (4 * i + 4) (4 * i + 3) (end + 1) 0 (λ e. omega arith)
-      ∙ getD-set-same table (4 * i + 3) end 0 (omega arith)
+      getD-set-other (set table (endCell i) end) (startCell (i + 1)) (endCell i) (end + 1) 0 (λ e. omega arith)
+      ∙ getD-set-same table (endCell i) end 0 (omega arith)
 
   pub tabled-next : startOf (tabled i end table) (i + 1) ≡ end + 1
   tabled-next =
-      let z : 4 * (i + 1) ≡ 4 * i + 4 = omega arith in
-      rw z (getD-set-same (set table (4 * i + 3) end) (4 * i + 4) (end + 1) 0 (simp length-set (omega arith)))
+      getD-set-same (set table (endCell i) end) (startCell (i + 1)) (end + 1) 0 (simp length-set (omega arith))
 
   pub tabled-length : length (tabled i end table) ≡ length table
   tabled-length = simp length-set
 
 -- one word more
-module _ (word text table : List ℕ) (i : ℕ) (r : Room word text table i) where
+module _ (word text table : List ℕ) (i : ℕ) (r : WordRoom word text table i) where
   abbrev start : ℕ
   start = startOf table i
 
@@ -81,32 +81,33 @@ module _ (word text table : List ℕ) (i : ℕ) (r : Room word text table i) whe
   end = startOf table i + length word
 
   abbrev text′ : List ℕ
-  text′ = written word (64 + i) start text
+  text′ = written word (fenceOf i) start text
 
   abbrev table′ : List ℕ
   table′ = tabled i end table
 
-  pub start-low : start ≤ 4095
+  -- the words before leave room for one more
+  start-low : start + (wordMost + 1) ≤ textRoom
   start-low = let b = start-bound text table i (r .laid) i (omega arith) in omega (arith, r .more)
 
   fits : start + length word < length text
-  fits = omega (arith, start-low, r .short, r .arrays .text4160)
+  fits = omega (arith, start-low, r .short, r .arrays .textLong)
 
-  inside : 4 * i + 4 < length table
-  inside = omega (arith, r .more, r .arrays .table450)
+  inside : startCell (i + 1) < length table
+  inside = omega (arith, r .more, r .arrays .tableLong)
 
   -- the words before keep their starts, ends and letters
   start-kept : (j : ℕ) → j ≤ i → startOf table′ j ≡ startOf table j
-  start-kept j h = tabled-before i end table inside (4 * j) (omega arith)
+  start-kept j h = tabled-before i end table inside (startCell j) (omega arith)
 
   end-kept : (j : ℕ) → j < i → endOf table′ j ≡ endOf table j
-  end-kept j h = tabled-before i end table inside (4 * j + 3) (omega arith)
+  end-kept j h = tabled-before i end table inside (endCell j) (omega arith)
 
   end-low : (j : ℕ) → j < i → endOf table j < start
   end-low j h = end-before text table i (r .laid) j h
 
   letter-kept : (q : ℕ) → q < start → getD text′ q 0 ≡ getD text q 0
-  letter-kept q h = written-before word (64 + i) start text fits q h
+  letter-kept q h = written-before word (fenceOf i) start text fits q h
 
   -- what holds of the words before and of the new one
   upto : (P : ℕ → Type 0) → ((j : ℕ) → j < i → P j) → P i → (j : ℕ) → j < i + 1 → P j
@@ -115,22 +116,23 @@ module _ (word text table : List ℕ) (i : ℕ) (r : Room word text table i) whe
   word-there : part text′ start end ≡ word
   word-there =
       let z : end - start ≡ length word = omega arith in
-      rw (z, drop-at (take start text) (word ++ ((64 + i) ∷ drop (end + 1) text)) start (head-long word (64 + i) start text fits))
-      (take-at word ((64 + i) ∷ drop (end + 1) text) (length word) refl)
+      rw (z, drop-at (take start text) (word ++ ((fenceOf i) ∷ drop (end + 1) text)) start (head-long word (fenceOf i) start text fits))
+      (take-at word ((fenceOf i) ∷ drop (end + 1) text) (length word) refl)
 
   pub words-appended : wordsIn text′ table′ (i + 1) ≡ wordsIn text table i ++ (word ∷ [])
   unfolding wordsIn
   words-appended =
-      let a = same-words text table text′ table′ i (written-length word (64 + i) start text fits) (λ j h. (start-kept j (omega arith), end-kept j h))
+      let a = same-words text table text′ table′ i (written-length word (fenceOf i) start text fits) (λ j h. (start-kept j (omega arith), end-kept j h))
       (λ j q h lo hi. letter-kept q (omega (arith, end-low j h))) in
-      rw (add-one i, a, start-kept i (omega arith), tabled-end i end table inside, word-there)
+      let b : wordsIn text′ table′ (suc i) ≡ wordsIn text table i ++ (word ∷ []) = rw (a, start-kept i (omega arith), tabled-end i end table inside, word-there) in
+      ap (wordsIn text′ table′) (add-one i) ∙ b
 
   pub laid-appended : Laid text′ table′ (i + 1)
   laid-appended =
       record {
         few = omega (arith, r .more);
-        room = omega (arith, tabled-length i end table inside, r .more, r .arrays .table450);
-        inside = rw (tabled-next i end table inside, written-length word (64 + i) start text fits) (omega (arith, fits));
+        room = omega (arith, tabled-length i end table inside, r .more, r .arrays .tableLong);
+        inside = rw (tabled-next i end table inside, written-length word (fenceOf i) start text fits) (omega (arith, fits));
         first = start-kept 0 (omega arith) ∙ r .laid .first;
         next = upto (λ j. startOf table′ (j + 1) ≡ endOf table′ j + 1)
             (λ j h. start-kept (j + 1) (omega arith) ∙ r .laid .next j h ∙ ap (λ n. n + 1) (sym (end-kept j h)))
@@ -138,20 +140,20 @@ module _ (word text table : List ℕ) (i : ℕ) (r : Room word text table i) whe
         some = upto (λ j. startOf table′ j < endOf table′ j)
             (λ j h. rw (start-kept j (omega arith), end-kept j h) (r .laid .some j h))
             (rw (start-kept i (omega arith), tabled-end i end table inside) (omega (arith, r .some)));
-        short = upto (λ j. endOf table′ j ≤ startOf table′ j + 64)
+        short = upto (λ j. endOf table′ j ≤ startOf table′ j + wordMost)
             (λ j h. rw (start-kept j (omega arith), end-kept j h) (r .laid .short j h))
             (rw (start-kept i (omega arith), tabled-end i end table inside) (omega (arith, r .short)));
-        letters = λ j q h. upto (λ j. startOf table′ j ≤ q → q < endOf table′ j → getD text′ q 0 < 64)
+        letters = λ j q h. upto (λ j. startOf table′ j ≤ q → q < endOf table′ j → getD text′ q 0 < lettersBound)
             (λ j h. rw (start-kept j (omega arith), end-kept j h) (λ lo hi. rw (letter-kept q (omega (arith, end-low j h))) (r .laid .letters j q h lo hi)))
             (rw (start-kept i (omega arith), tabled-end i end table inside) (λ lo hi.
             let z : q ≡ start + (q - start) = omega arith in
             let e : getD text′ q 0 ≡ getD word (q - start) 0
-            = ap (λ n. getD text′ n 0) z ∙ written-in word (64 + i) start text fits (q - start) (omega arith) in
+            = ap (λ n. getD text′ n 0) z ∙ written-in word (fenceOf i) start text fits (q - start) (omega arith) in
             rw e (r .known (q - start) (omega arith))))
             j h;
-        fence = upto (λ j. getD text′ (endOf table′ j) 0 ≡ 64 + j)
+        fence = upto (λ j. getD text′ (endOf table′ j) 0 ≡ fenceOf j)
             (λ j h. rw (end-kept j h) (letter-kept (endOf table j) (end-low j h) ∙ r .laid .fence j h))
-            (rw (tabled-end i end table inside) (written-fence word (64 + i) start text fits));
+            (rw (tabled-end i end table inside) (written-fence word (fenceOf i) start text fits));
       }
 
   pub appended : Appended word text table i text′ table′
@@ -159,7 +161,7 @@ module _ (word text table : List ℕ) (i : ℕ) (r : Room word text table i) whe
       record {
         laid = laid-appended;
         words = words-appended;
-        textLong = written-length word (64 + i) start text fits;
+        textLong = written-length word (fenceOf i) start text fits;
         tableLong = tabled-length i end table inside;
       }
 
@@ -196,34 +198,54 @@ module _ (word text : List ℕ) (at : ℕ) where
 
 pub ruleset copies = (copied-start, copied-more, copied-end, needs)
 
+-- no relation word yet
+pub nothing-laid : (text table : List ℕ) → length table ≡ tableRoom → Laid text (set table (startCell 0) 0) 0
+nothing-laid text table h =
+    let f : getD (set table (startCell 0) 0) 0 0 ≡ 0 = getD-set-same table 0 0 0 (omega arith) in
+    record {
+      few = omega arith;
+      room = simp length-set (omega arith);
+      inside = rw f (omega arith);
+      first = f;
+      next = λ i l. absurd (omega arith);
+      some = λ i l. absurd (omega arith);
+      short = λ i l. absurd (omega arith);
+      letters = λ i q l. absurd (omega arith);
+      fence = λ i l. absurd (omega arith);
+    }
+
 -- what the code asks before it lays a word
-module _ (word text table : List ℕ) (i : ℕ) (r : Room word text table i) (s : ℕ) (e : s ≡ getD table (4 * i) 0) where
-  pub room-text : s + length word < length text
-  room-text = omega (arith, start-low word text table i r, r .short, r .arrays .text4160)
+module _ (word text table : List ℕ) (i : ℕ) (r : WordRoom word text table i) where
+  pub room-read : startCell i < length table
+  room-read = omega (arith, r .more, r .arrays .tableLong)
 
-  pub room-start : Fits w16 s
-  room-start = omega (arith, start-low word text table i r)
+  pub room-fence : Fits w8 (fenceOf i)
+  room-fence = omega (arith, r .more)
 
-  pub room-end : Fits w16 (s + length word)
-  room-end = omega (arith, start-low word text table i r, r .short)
+  pub room-write : endCell i < length table
+  room-write = omega (arith, r .more, r .arrays .tableLong)
 
-  pub room-next : Fits w16 (s + length word + 1)
-  room-next = omega (arith, start-low word text table i r, r .short)
+  pub room-write-next : (v : ℕ) → startCell (i + 1) < length (set table (endCell i) v)
+  room-write-next v = simp length-set (omega (arith, r .more, r .arrays .tableLong))
 
-  pub room-appended : (b : List ℕ) → b ≡ written word (64 + i) s text
-      → Appended word text table i b (set (set table (4 * i + 3) (s + length word)) (4 * i + 4) (s + length word + 1))
-  room-appended b f = rw (f, e) (appended word text table i r)
+  module _ (s : ℕ) (e : s ≡ startOf table i) where
+    pub room-text : s + length word < length text
+    room-text = omega (arith, start-low word text table i r, r .short, r .arrays .textLong)
 
-pub room-fence : (word text table : List ℕ) (i : ℕ) → Room word text table i → Fits w8 (64 + i)
-room-fence word text table i r = omega (arith, r .more)
+    pub room-end : s + length word < 65536
+    room-end = omega (arith, start-low word text table i r, r .short)
 
-pub room-read : (word text table : List ℕ) (i : ℕ) → Room word text table i → 4 * i < length table
-room-read word text table i r = omega (arith, r .more, r .arrays .table450)
+    pub room-next : s + length word + 1 < 65536
+    room-next = omega (arith, start-low word text table i r, r .short)
 
-pub room-write : (word text table : List ℕ) (i : ℕ) → Room word text table i → 4 * i + 3 < length table
-room-write word text table i r = omega (arith, r .more, r .arrays .table450)
+    pub room-appended : (b : List ℕ) → b ≡ written word (fenceOf i) s text → (x y : ℕ) → x ≡ s + length word → y ≡ s + length word + 1
+        → Appended word text table i b (set (set table (endCell i) x) (startCell (i + 1)) y)
+    room-appended b f x y g h = rw (f, g, h, e) (appended word text table i r)
 
-pub room-write-next : (word text table : List ℕ) (i v : ℕ) → Room word text table i → 4 * i + 4 < length (set table (4 * i + 3) v)
-room-write-next word text table i v r = simp length-set (omega (arith, r .more, r .arrays .table450))
+pub ruleset rooms = (room-read, room-fence, room-write, room-write-next, room-text, room-end, room-next, room-appended, needs)
 
-pub ruleset rooms = (room-text, room-start, room-end, room-next, room-appended, room-fence, room-read, room-write, room-write-next, needs)
+-- the first letter of a word says where it is listed
+pub first-at : (table : List ℕ) (c i r : ℕ) → i ≡ c → r ≡ getD table (firstCell i) 0 → r ≡ firstOf table c
+first-at table c i r e f = f ∙ ap (firstOf table) e
+
+pub ruleset firsts = (first-at, needs)
