@@ -9,13 +9,13 @@ use lib.ListN.{length, take, drop, length-append, length-take, length-drop}
 use lib.Seq.{length-take-le}
 use mir.Val.{Fits}
 use mir.Syntax.{w64}
-use Rattle.lines.specs.Lines.{Put}
+use Rattle.lines.specs.Lines.{WrittenTo}
 use Rattle.command.specs.declared.Got.{Got}
 use Rattle.command.specs.declared.Got.the-variants.{Bytes, Failed}
 use Rattle.command.specs.Got.{GotPiece, GotWithin}
 
 -- what is written lies in the buffer
-module _ (out s b : List ℕ) (q : ℕ) (p : Put out 0 s b q) where
+module _ (out s b : List ℕ) (q : ℕ) (p : WrittenTo out 0 s b q) where
   pub put-within : q ≤ length b
   put-within =
       let l = length-append (take 0 out) (s ++ drop (0 + length s) out) in

@@ -39,7 +39,7 @@ use Rattle.sheet.proofs.Laws.{cuts-in, sheet-cut, length-sheet}
 use Rattle.entries.specs.declared.Verdict.the-variants as Verdicts
 use Rattle.entries.specs.declared.Round.{Round}
 use Rattle.entries.specs.declared.Printed.the-variants as Prints
-use Rattle.lines.specs.Lines.{Put}
+use Rattle.lines.specs.Lines.{WrittenTo}
 use Rattle.program.specs.Program.{programOf}
 use Rattle.program.specs.Size.{outputMost}
 use Rattle.entries.specs.declared.Round.the-variants as Rounds
@@ -144,10 +144,10 @@ module _ (table : List ℕ) (count : ℕ) (s : SheetReady table count) (sheet : 
   pub sheet-roomy : 6 * count ≤ length sheet → SheetRoom table (2 * count) sheet
   sheet-roomy h = record { cuts = s .cuts; place = omega arith; few = omega (arith, s .few) }
 
-  pub sheet-written : (out : List ℕ) → 6 * count ≤ length sheet → out ≡ sheetBytes table (2 * count) ++ drop (3 * (2 * count)) sheet
+  pub sheet-written : (out : List ℕ) → 6 * count ≤ length sheet → out ≡ over (sheetBytes table (2 * count)) sheet
       → SheetOutcome.after (ofVerdict (Verdicts.Accepted count)) out ≡ acceptedSheet table count sheet
   unfolding acceptedSheet
-  sheet-written out h e = rw (le-ltb _ _ h, e, length-sheet table (2 * count))
+  sheet-written out h e = rw (le-ltb _ _ h, e)
 
 pub ruleset tableSheets = (sheet-fits, words-fit, sheet-narrow, sheet-roomy, sheet-written, needs)
 
@@ -232,7 +232,7 @@ pub output-narrow : (input out : List ℕ) → length out < outputMost → Outpu
 unfolding outputOf
 output-narrow input out h = rw (lt-ltb _ _ h)
 
-pub output-written : (input out b : List ℕ) (r : ℕ) → outputMost ≤ length out → Put out 0 (programOf input) b r
+pub output-written : (input out b : List ℕ) (r : ℕ) → outputMost ≤ length out → WrittenTo out 0 (programOf input) b r
     → OutputOutcome.after (ofPrinted (Prints.Wrote r)) b ≡ outputOf input out
 unfolding outputOf
 output-written input out b r h p =

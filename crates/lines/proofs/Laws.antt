@@ -4,17 +4,18 @@ use mathlib.Core.Bool.{Bool, true, false}
 use mathlib.Core.List.{List, [], _∷_, _++_, append-assoc, append-nil}
 use mathlib.Core.Path.{_≡_, refl, sym, ap, _∙_}
 use native.Mathlib.Omega.{arith}
-use native.Mathlib.Numerals.{add-one}
-use native.Mathlib.Nat.{add-zero, add-assoc}
+use native.Mathlib.Nat.{add-zero}
 use borrow.Author.Needs.{needs}
 use borrow.Author.Tests.{lt-ltb, le-ltb, ltb-true, ltb-false}
 use lib.Dec.{ltb}
 use lib.ListN.{length, getD, take, drop, set, length-append, length-set, take-append-drop}
-use lib.Seq.{take-suc, set-at, length-take-le, take-at, drop-drop, take-length, drop-append-add, paste, paste-zero, paste-suc, set-split}
+use lib.Seq.{take-suc, set-at, length-take-le}
 use mir.Val.{Fits}
 use mir.Syntax.{w64}
+use Rattle.writing.specs.Writing.{written}
+use Rattle.writing.proofs.Writing.{written-one, written-behind}
 use Rattle.lines.specs.Decimal.{digitsOf, countUpTo, digitCount, decimal}
-use Rattle.lines.specs.Lines.{numbered, lineOf, pairLineOf, Put}
+use Rattle.lines.specs.Lines.{numbered, lineOf, pairLineOf, WrittenTo}
 
 -- counting with any sufficient limit gives the same
 count-limit : (f g n : ℕ) → n ≤ f → n ≤ g → countUpTo f n ≡ countUpTo g n
@@ -130,8 +131,8 @@ writing-more out at n count (suc j) rest b c w h e =
 pub writing-fits : (out : List ℕ) (at n count left rest : ℕ) (b : List ℕ) → Writing out at n count left rest b → 0 < left → Fits w64 (length out) → Fits w64 (at + (left - 1))
 writing-fits out at n count left rest b w h f = omega (arith, w .room, w .within)
 
-pub writing-end : (out : List ℕ) (at n count left rest : ℕ) (b : List ℕ) → Writing out at n count left rest b → left ≤ 0 → Put out at (decimal n) b (at + count)
-unfolding decimal digitsOf
+pub writing-end : (out : List ℕ) (at n count left rest : ℕ) (b : List ℕ) → Writing out at n count left rest b → left ≤ 0 → WrittenTo out at (decimal n) b (at + count)
+unfolding decimal digitsOf written
 writing-end out at n count zero rest b w h =
     let e : length (digitsOf (digitCount n) n) ≡ count = length-digits (digitCount n) n ∙ sym (w .whole) in
     let m : w .written ≡ digitsOf (digitCount n) n = w .made ∙ rw (w .whole) in
@@ -143,57 +144,18 @@ behind-fits out at n count left rest b w f = omega (arith, w .room)
 
 pub ruleset writings = (writing-start, writing-room, writing-more, writing-fits, writing-end, behind-fits, needs)
 
--- i characters of a text are written
-pub record Texting (out : List ℕ) (at : ℕ) (text : List ℕ) (i : ℕ) (b : List ℕ) : Type 0 where
-  pub within : i ≤ length text
-  pub room : at + length text ≤ length out
-  pub same : b ≡ paste out at text i
-  pub kept : length b ≡ length out
-
-pub texting-start : (out : List ℕ) (at : ℕ) (text : List ℕ) → at + length text ≤ length out → Texting out at text 0 out
-texting-start out at text h = record { within = omega arith; room = h; same = paste-zero out at text; kept = refl }
-
-pub texting-room : (out : List ℕ) (at : ℕ) (text : List ℕ) (i : ℕ) (b : List ℕ) → Texting out at text i b → i < length text → at + i < length b
-texting-room out at text i b t h =
-    omega (arith, t .room, t .kept)
-
-pub texting-more : (out : List ℕ) (at : ℕ) (text : List ℕ) (i : ℕ) (b : List ℕ) → Texting out at text i b → i < length text
-    → Texting out at text (i + 1) (set b (at + i) (getD text i 0))
-texting-more out at text i b t h =
-    let r = t .room in
-    record { within = omega arith; room = r; same = rw (t .same, add-one) (paste-suc out at text i 0 (omega arith) h); kept = rw length-set (t .kept) }
-
-pub texting-fits : (out : List ℕ) (at : ℕ) (text : List ℕ) (i : ℕ) (b : List ℕ) → Texting out at text i b → Fits w64 (length out) → Fits w64 (at + i)
-texting-fits out at text i b t f = omega (arith, t .room, t .within)
-
-pub texting-end : (out : List ℕ) (at : ℕ) (text : List ℕ) (i : ℕ) (b : List ℕ) → Texting out at text i b → length text ≤ i → Put out at text b (at + i)
-texting-end out at text i b t h =
-    let w = t .within in
-    let e : i ≡ length text = omega arith in
-    record { behind = rw e; same = rw (t .same, e, take-length) (append-assoc (take at out) text (drop (at + length text) out)); kept = t .kept }
-
-pub ruleset textings = (texting-start, texting-room, texting-more, texting-fits, texting-end, needs)
-
 -- one character
-pub character-put : (out : List ℕ) (at c : ℕ) → at + 1 ≤ length out → Put out at (c ∷ []) (set out at c) (at + 1)
+pub character-put : (out : List ℕ) (at c : ℕ) → at + 1 ≤ length out → WrittenTo out at (c ∷ []) (set out at c) (at + 1)
 character-put out at c h =
-    let e : at < length out = omega arith in
-    record { behind = refl; same = rw (set-split out at c e, add-one); kept = length-set out at c }
+    record { behind = refl; same = written-one at c out (omega arith); kept = length-set out at c }
 
 -- a text and then another behind it are one text
-pub put-both : (out : List ℕ) (at : ℕ) (s a : List ℕ) (r : ℕ) (t b : List ℕ) (q : ℕ) → at + length (s ++ t) ≤ length out → Put out at s a r → Put a r t b q → Put out at (s ++ t) b q
+pub put-both : (out : List ℕ) (at : ℕ) (s a : List ℕ) (r : ℕ) (t b : List ℕ) (q : ℕ) → at + length (s ++ t) ≤ length out → WrittenTo out at s a r → WrittenTo a r t b q → WrittenTo out at (s ++ t) b q
 put-both out at s a r t b q h f g =
     let l = length-append s t in
-    let n : length (take at out) ≡ at = length-take-le at out (omega arith) in
-    let e : length (take at out ++ s) ≡ at + length s = length-append (take at out) s ∙ rw n in
-    let a′ : a ≡ (take at out ++ s) ++ drop (at + length s) out = f .same ∙ sym (append-assoc (take at out) s (drop (at + length s) out)) in
-    let isPrefix : take r a ≡ take at out ++ s = rw (f .behind, a′) (take-at (take at out ++ s) (drop (at + length s) out) (at + length s) e) in
-    let k : r + length t ≡ length (take at out ++ s) + length t = omega (arith, f .behind) in
-    let back : drop (r + length t) a ≡ drop (at + length (s ++ t)) out =
-    rw (k, a′, drop-append-add, drop-drop, l, add-assoc) in
     record {
       behind = omega (arith, f .behind, g .behind);
-      same = g .same ∙ rw (isPrefix, back) (simp append-assoc);
+      same = g .same ∙ ap (written r t) (f .same) ∙ written-behind at s t out r (f .behind) (omega arith);
       kept = g .kept ∙ f .kept;
     }
 
@@ -201,7 +163,7 @@ put-both out at s a r t b q h f g =
 pub room-first : (out : List ℕ) (at : ℕ) (s t : List ℕ) → at + length (s ++ t) ≤ length out → at + length s ≤ length out
 room-first out at s t h = omega (arith, length-append s t)
 
-pub room-second : (out : List ℕ) (at : ℕ) (s a : List ℕ) (r : ℕ) (t : List ℕ) → at + length (s ++ t) ≤ length out → Put out at s a r → r + length t ≤ length a
+pub room-second : (out : List ℕ) (at : ℕ) (s a : List ℕ) (r : ℕ) (t : List ℕ) → at + length (s ++ t) ≤ length out → WrittenTo out at s a r → r + length t ≤ length a
 room-second out at s a r t h f = omega (arith, length-append s t, f .behind, f .kept)
 
 -- a space and a number
@@ -210,12 +172,12 @@ module _ (out : List ℕ) (at n : ℕ) (h : at + length (numbered n) ≤ length 
   unfolding numbered
   number-space = omega arith
 
-  module _ (a : List ℕ) (r : ℕ) (f : Put out at (32 ∷ []) a r) where
+  module _ (a : List ℕ) (r : ℕ) (f : WrittenTo out at (32 ∷ []) a r) where
     pub number-room : r + length (decimal n) ≤ length a
     unfolding numbered
     number-room = room-second out at (32 ∷ []) a r (decimal n) h f
 
-    pub number-put : (b : List ℕ) (q : ℕ) → Put a r (decimal n) b q → Put out at (numbered n) b q
+    pub number-put : (b : List ℕ) (q : ℕ) → WrittenTo a r (decimal n) b q → WrittenTo out at (numbered n) b q
     unfolding numbered
     number-put b q g = put-both out at (32 ∷ []) a r (decimal n) b q h f g
 
@@ -227,7 +189,7 @@ module _ (out : List ℕ) (at : ℕ) (word : List ℕ) (n : ℕ) (h : at + lengt
   unfolding lineOf
   line-word = room-first out at word (numbered n ++ (10 ∷ [])) h
 
-  module _ (a : List ℕ) (r : ℕ) (f : Put out at word a r) where
+  module _ (a : List ℕ) (r : ℕ) (f : WrittenTo out at word a r) where
     line-rest : r + length (numbered n ++ (10 ∷ [])) ≤ length a
     unfolding lineOf
     line-rest = room-second out at word a r (numbered n ++ (10 ∷ [])) h f
@@ -235,11 +197,11 @@ module _ (out : List ℕ) (at : ℕ) (word : List ℕ) (n : ℕ) (h : at + lengt
     pub line-number : r + length (numbered n) ≤ length a
     line-number = room-first a r (numbered n) (10 ∷ []) line-rest
 
-    module _ (b : List ℕ) (q : ℕ) (g : Put a r (numbered n) b q) where
+    module _ (b : List ℕ) (q : ℕ) (g : WrittenTo a r (numbered n) b q) where
       pub line-newline : q + 1 ≤ length b
       line-newline = room-second a r (numbered n) b q (10 ∷ []) line-rest g
 
-      pub line-put : (c : List ℕ) (e : ℕ) → Put b q (10 ∷ []) c e → Put out at (lineOf word n) c e
+      pub line-put : (c : List ℕ) (e : ℕ) → WrittenTo b q (10 ∷ []) c e → WrittenTo out at (lineOf word n) c e
       unfolding lineOf
       line-put c e k = put-both out at word a r (numbered n ++ (10 ∷ [])) c e h f (put-both a r (numbered n) b q (10 ∷ []) c e line-rest g k)
 
@@ -251,7 +213,7 @@ module _ (out : List ℕ) (at : ℕ) (word : List ℕ) (n m : ℕ) (h : at + len
   unfolding pairLineOf
   pair-word = room-first out at word (numbered n ++ (numbered m ++ (10 ∷ []))) h
 
-  module _ (a : List ℕ) (r : ℕ) (f : Put out at word a r) where
+  module _ (a : List ℕ) (r : ℕ) (f : WrittenTo out at word a r) where
     pair-rest : r + length (numbered n ++ (numbered m ++ (10 ∷ []))) ≤ length a
     unfolding pairLineOf
     pair-rest = room-second out at word a r (numbered n ++ (numbered m ++ (10 ∷ []))) h f
@@ -259,18 +221,18 @@ module _ (out : List ℕ) (at : ℕ) (word : List ℕ) (n m : ℕ) (h : at + len
     pub pair-first : r + length (numbered n) ≤ length a
     pair-first = room-first a r (numbered n) (numbered m ++ (10 ∷ [])) pair-rest
 
-    module _ (b : List ℕ) (q : ℕ) (g : Put a r (numbered n) b q) where
+    module _ (b : List ℕ) (q : ℕ) (g : WrittenTo a r (numbered n) b q) where
       pair-rest-2 : q + length (numbered m ++ (10 ∷ [])) ≤ length b
       pair-rest-2 = room-second a r (numbered n) b q (numbered m ++ (10 ∷ [])) pair-rest g
 
       pub pair-second : q + length (numbered m) ≤ length b
       pair-second = room-first b q (numbered m) (10 ∷ []) pair-rest-2
 
-      module _ (c : List ℕ) (e : ℕ) (k : Put b q (numbered m) c e) where
+      module _ (c : List ℕ) (e : ℕ) (k : WrittenTo b q (numbered m) c e) where
         pub pair-newline : e + 1 ≤ length c
         pair-newline = room-second b q (numbered m) c e (10 ∷ []) pair-rest-2 k
 
-        pub pair-put : (d : List ℕ) (o : ℕ) → Put c e (10 ∷ []) d o → Put out at (pairLineOf word n m) d o
+        pub pair-put : (d : List ℕ) (o : ℕ) → WrittenTo c e (10 ∷ []) d o → WrittenTo out at (pairLineOf word n m) d o
         unfolding pairLineOf
         pair-put d o l =
             put-both out at word a r (numbered n ++ (numbered m ++ (10 ∷ []))) d o h f

@@ -2,7 +2,8 @@
 use Prim.Native.Nat.{ℕ, _+_}
 use mathlib.Core.List.{List, [], _∷_, _++_}
 use mathlib.Core.Path.{_≡_}
-use lib.ListN.{length, take, drop}
+use lib.ListN.{length}
+use Rattle.writing.specs.Writing.{written}
 use Rattle.lines.specs.Decimal.{decimal}
 
 -- a space and a number
@@ -18,7 +19,7 @@ unfoldable pub pairLineOf : List ℕ → ℕ → ℕ → List ℕ
 pairLineOf word n m = word ++ (numbered n ++ (numbered m ++ (10 ∷ [])))
 
 -- the text s is written over the buffer from place `at` on, and r is the place behind it
-pub record Put (out : List ℕ) (at : ℕ) (s after : List ℕ) (r : ℕ) : Type 0 where
+pub record WrittenTo (out : List ℕ) (at : ℕ) (s after : List ℕ) (r : ℕ) : Type 0 where
   pub behind : r ≡ at + length s
-  pub same : after ≡ take at out ++ (s ++ drop (at + length s) out)
+  pub same : after ≡ written at s out
   pub kept : length after ≡ length out

@@ -23,7 +23,7 @@ use Rattle.format.proofs.Readings.{equal-of, WholeAt, whole-at}
 use Rattle.comparison.specs.declared.Comparison.{Comparison}
 use Rattle.comparison.specs.State.{Ready}
 use Rattle.comparison.specs.Comparing.{comparisonOf}
-use Rattle.lines.specs.Lines.{Put, lineOf}
+use Rattle.lines.specs.Lines.{WrittenTo, lineOf}
 use Rattle.lines.proofs.Laws.{put-both, room-first, room-second}
 use Rattle.program.specs.declared.Request.{Request}
 use Rattle.program.specs.declared.Request.the-variants.{Compare, Refused}
@@ -123,7 +123,7 @@ module _ (input : List ℕ) (at : ℕ) (r : Request) (e : r ≡ requestAt input 
   asked-middle = let l = lies-of input at r e a first second end f in omega (arith, l .next, l .inside)
 
 -- nothing is written yet
-put-none : (out : List ℕ) (place : ℕ) → Put out place [] out place
+put-none : (out : List ℕ) (place : ℕ) → WrittenTo out place [] out place
 put-none out place = record { behind = sym (add-zero place); same = rw add-zero (sym (take-append-drop place out)); kept = refl }
 
 -- the lines before a position are written
@@ -134,7 +134,7 @@ pub record Lining (text table : List ℕ) (n letters : ℕ) (input : List ℕ) (
   pub enough : length input ≤ at + most
   pub written : List ℕ
   pub whole : linesUnder text table n letters input start ≡ written ++ linesFrom most letters (wordsIn text table n) input at
-  pub put : Put out place written b end
+  pub put : WrittenTo out place written b end
   pub room : place + length (linesUnder text table n letters input start) ≤ length out
 
 module _ (text table : List ℕ) (n letters : ℕ) (input : List ℕ) (start : ℕ) (out : List ℕ) (place : ℕ) where
@@ -155,9 +155,9 @@ module _ (text table : List ℕ) (n letters : ℕ) (input : List ℕ) (start : �
     pub lining-ready : Ready text table n
     lining-ready = l .ready
 
-    pub lining-end : length input ≤ at → Put out place (linesUnder text table n letters input start) b end
+    pub lining-end : length input ≤ at → WrittenTo out place (linesUnder text table n letters input start) b end
     unfolding linesFrom
-    lining-end h = subst (λ (s : List ℕ). Put out place s b end) (sym (l .whole ∙ nothing (l .most))) (l .put)
+    lining-end h = subst (λ (s : List ℕ). WrittenTo out place s b end) (sym (l .whole ∙ nothing (l .most))) (l .put)
       where
         nothing : (most : ℕ) → l .written ++ linesFrom most letters (wordsIn text table n) input at ≡ l .written
         nothing zero = append-nil (l .written)
@@ -192,9 +192,9 @@ module _ (text table : List ℕ) (n letters : ℕ) (input : List ℕ) (start : �
         pub lining-last-room : end + length (refusedLine x) ≤ length b
         lining-last-room = room-next (refusedLine x) [] (last-whole ∙ rw append-nil)
 
-        pub lining-last : (b′ : List ℕ) (end′ : ℕ) → Put b end (refusedLine x) b′ end′ → Put out place (linesUnder text table n letters input start) b′ end′
+        pub lining-last : (b′ : List ℕ) (end′ : ℕ) → WrittenTo b end (refusedLine x) b′ end′ → WrittenTo out place (linesUnder text table n letters input start) b′ end′
         lining-last b′ end′ p =
-            subst (λ (s : List ℕ). Put out place s b′ end′) (sym last-whole)
+            subst (λ (s : List ℕ). WrittenTo out place s b′ end′) (sym last-whole)
             (put-both out place (l .written) b end (refusedLine x) b′ end′ (subst (λ (s : List ℕ). place + length s ≤ length out) last-whole (l .room)) (l .put) p)
 
       module _ (a first second to : ℕ) (f : r ≡ Compare a first second to) where
@@ -213,7 +213,7 @@ module _ (text table : List ℕ) (n letters : ℕ) (input : List ℕ) (start : �
           pub lining-room : end + length (comparisonLine c) ≤ length b
           lining-room = room-next (comparisonLine c) (linesFrom (on .0) letters (wordsIn text table n) input to) next-whole
 
-          pub lining-more : (b′ : List ℕ) (end′ : ℕ) → Put b end (comparisonLine c) b′ end′ → Lining text table n letters input start out place to end′ b′
+          pub lining-more : (b′ : List ℕ) (end′ : ℕ) → WrittenTo b end (comparisonLine c) b′ end′ → Lining text table n letters input start out place to end′ b′
           lining-more b′ end′ p =
               let s = l .written in
               let t = comparisonLine c in
@@ -247,7 +247,7 @@ module _ (text table : List ℕ) (relations letters : ℕ) (input : List ℕ) (e
   pub accepted-line : 0 + length (lineOf bookText relations) ≤ length out
   accepted-line = room-first out 0 (lineOf bookText relations) (linesUnder text table (2 * relations) letters input end) room
 
-  module _ (a : List ℕ) (r : ℕ) (p : Put out 0 (lineOf bookText relations) a r) where
+  module _ (a : List ℕ) (r : ℕ) (p : WrittenTo out 0 (lineOf bookText relations) a r) where
     pub accepted-lined : Lined text table (2 * relations) letters input end a r
     accepted-lined =
         record {
@@ -256,8 +256,8 @@ module _ (text table : List ℕ) (relations letters : ℕ) (input : List ℕ) (e
           room = room-second out 0 (lineOf bookText relations) a r (linesUnder text table (2 * relations) letters input end) room p;
         }
 
-    pub accepted-put : (b : List ℕ) (q : ℕ) → Put a r (linesUnder text table (2 * relations) letters input end) b q
-        → Put out 0 (linesOfAccepted text table relations letters input end) b q
+    pub accepted-put : (b : List ℕ) (q : ℕ) → WrittenTo a r (linesUnder text table (2 * relations) letters input end) b q
+        → WrittenTo out 0 (linesOfAccepted text table relations letters input end) b q
     accepted-put b q g = put-both out 0 (lineOf bookText relations) a r (linesUnder text table (2 * relations) letters input end) b q room p g
 
 pub ruleset accepts = (accepted-words, accepted-line, accepted-lined, accepted-put, needs)

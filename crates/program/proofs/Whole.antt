@@ -20,7 +20,7 @@ use Rattle.format.specs.declared.MadeInput.the-variants as Inputs
 use Rattle.format.specs.Limits.{inputMost, inputOf}
 use Rattle.presentation.specs.Loading.{BookLoading, loadBook, Holding, BookLoaded}
 use Rattle.presentation.proofs.Laws.{load-refused}
-use Rattle.lines.specs.Lines.{Put}
+use Rattle.lines.specs.Lines.{WrittenTo}
 use Rattle.program.specs.Program.{refusedLine, bookEnd, byLoading, programOf}
 use Rattle.program.specs.Size.{outputMost}
 use Rattle.program.specs.Writing.{linesOfAccepted, Accepted, outputOf, Roomy}
@@ -45,8 +45,8 @@ module _ (input : List ℕ) (end : ℕ) (e : end ≡ bookEnd input) where
       pub refused-fits : (out : List ℕ) → Roomy input out → 0 + length (refusedLine x) ≤ length out
       refused-fits out h = omega (arith, h .room, ap length refused-whole)
 
-      pub refused-written : (out b : List ℕ) (q : ℕ) → Put out 0 (refusedLine x) b q → Put out 0 (outputOf input) b q
-      refused-written out b q p = subst (λ (s : List ℕ). Put out 0 s b q) (sym refused-whole) p
+      pub refused-written : (out b : List ℕ) (q : ℕ) → WrittenTo out 0 (refusedLine x) b q → WrittenTo out 0 (outputOf input) b q
+      refused-written out b q p = subst (λ (s : List ℕ). WrittenTo out 0 s b q) (sym refused-whole) p
 
     module _ (letters count : ℕ) (f : r ≡ Readings.Read letters count) where
       held : Holding (take end input) letters count text table
@@ -68,8 +68,8 @@ module _ (input : List ℕ) (end : ℕ) (e : end ≡ bookEnd input) where
             room = omega (arith, h .room, ap length accepted-whole);
           }
 
-      pub accepted-written : (out b : List ℕ) (q : ℕ) → Put out 0 (linesOfAccepted text table count letters input end) b q → Put out 0 (outputOf input) b q
-      accepted-written out b q p = subst (λ (s : List ℕ). Put out 0 s b q) (sym accepted-whole) p
+      pub accepted-written : (out b : List ℕ) (q : ℕ) → WrittenTo out 0 (linesOfAccepted text table count letters input end) b q → WrittenTo out 0 (outputOf input) b q
+      accepted-written out b q p = subst (λ (s : List ℕ). WrittenTo out 0 s b q) (sym accepted-whole) p
 
 pub ruleset books = (book-within, book-long, refused-fits, refused-written, accepted-fits, accepted-written, needs)
 
@@ -94,14 +94,14 @@ module _ (input : List ℕ) (made : MadeInput) (e : made ≡ inputOf (length inp
       step true q g = absurd (let z : _≡_ {A = ℕ} 0 1 = cc in omega arith)
       step false q g = rw q
 
-  pub heavy-written : made ≡ Inputs.Heavy → (out b : List ℕ) (q : ℕ) → Put out 0 (refusedLine Heavy) b q → Put out 0 (programOf input) b q
-  heavy-written f out b q p = subst (λ (s : List ℕ). Put out 0 s b q) (heavy f) p
+  pub heavy-written : made ≡ Inputs.Heavy → (out b : List ℕ) (q : ℕ) → WrittenTo out 0 (refusedLine Heavy) b q → WrittenTo out 0 (programOf input) b q
+  heavy-written f out b q p = subst (λ (s : List ℕ). WrittenTo out 0 s b q) (heavy f) p
 
   module _ (x : Input) (f : made ≡ Inputs.Good x) where
     pub light-fits : ((i : ℕ) → Fits w8 (getD input i 0)) → (out : List ℕ) → outputMost ≤ length out → Roomy input out
     light-fits b out h = record { room = omega (arith, output-fits input (λ i. omega (arith, b i)), ap length (light x f)) }
 
-    pub light-written : (out b : List ℕ) (q : ℕ) → Put out 0 (outputOf input) b q → Put out 0 (programOf input) b q
-    light-written out b q p = subst (λ (s : List ℕ). Put out 0 s b q) (light x f) p
+    pub light-written : (out b : List ℕ) (q : ℕ) → WrittenTo out 0 (outputOf input) b q → WrittenTo out 0 (programOf input) b q
+    light-written out b q p = subst (λ (s : List ℕ). WrittenTo out 0 s b q) (light x f) p
 
 pub ruleset wholes = (heavy-fits, heavy-written, light-fits, light-written, needs)

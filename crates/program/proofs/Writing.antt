@@ -8,7 +8,7 @@ use Rattle.format.specs.declared.Refusal.{Refusal}
 use Rattle.format.specs.Refusals.{numberOf, placeOf}
 use Rattle.comparison.specs.declared.Comparison.{Comparison}
 use Rattle.comparison.specs.declared.Comparison.the-variants.{Same, Different, Refused}
-use Rattle.lines.specs.Lines.{Put, lineOf, pairLineOf}
+use Rattle.lines.specs.Lines.{WrittenTo, lineOf, pairLineOf}
 use Rattle.program.specs.Program.{refusedText, sameText, differentText, refusedLine, comparisonLine}
 
 -- a refusal, by its number and its place
@@ -17,7 +17,7 @@ module _ (out : List ℕ) (at : ℕ) (refusal : Refusal) (n p : ℕ) (e : n ≡ 
   unfolding refusedLine
   refusal-room h = rw (e, f) h
 
-  pub refusal-put : (after : List ℕ) (r : ℕ) → Put out at (pairLineOf refusedText n p) after r → Put out at (refusedLine refusal) after r
+  pub refusal-put : (after : List ℕ) (r : ℕ) → WrittenTo out at (pairLineOf refusedText n p) after r → WrittenTo out at (refusedLine refusal) after r
   unfolding refusedLine
   refusal-put after r h = rw (← e, ← f) h
 
@@ -29,20 +29,20 @@ module _ (out : List ℕ) (at : ℕ) (c : Comparison) where
     pub same-room : c ≡ Same n → at + length (comparisonLine c) ≤ length out → at + length (lineOf sameText n) ≤ length out
     same-room e h = rw e at h
 
-    pub same-put : c ≡ Same n → (after : List ℕ) (r : ℕ) → Put out at (lineOf sameText n) after r → Put out at (comparisonLine c) after r
+    pub same-put : c ≡ Same n → (after : List ℕ) (r : ℕ) → WrittenTo out at (lineOf sameText n) after r → WrittenTo out at (comparisonLine c) after r
     same-put e after r h = rw e h
 
     pub different-room : c ≡ Different n → at + length (comparisonLine c) ≤ length out → at + length (lineOf differentText n) ≤ length out
     different-room e h = rw e at h
 
-    pub different-put : c ≡ Different n → (after : List ℕ) (r : ℕ) → Put out at (lineOf differentText n) after r → Put out at (comparisonLine c) after r
+    pub different-put : c ≡ Different n → (after : List ℕ) (r : ℕ) → WrittenTo out at (lineOf differentText n) after r → WrittenTo out at (comparisonLine c) after r
     different-put e after r h = rw e h
 
   module _ (x : Refusal) (e : c ≡ Refused x) where
     pub refused-room : at + length (comparisonLine c) ≤ length out → at + length (refusedLine x) ≤ length out
     refused-room h = rw e at h
 
-    pub refused-put : (after : List ℕ) (r : ℕ) → Put out at (refusedLine x) after r → Put out at (comparisonLine c) after r
+    pub refused-put : (after : List ℕ) (r : ℕ) → WrittenTo out at (refusedLine x) after r → WrittenTo out at (comparisonLine c) after r
     refused-put after r h = rw e h
 
 pub ruleset comparisons = (same-room, same-put, different-room, different-put, refused-room, refused-put, needs)

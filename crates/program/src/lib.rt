@@ -3,7 +3,7 @@ ghost use mathlib.Core.Path.{_≡_};
 ghost use Prim.Native.Nat.{_+_, _≤_, _<_};
 ghost use lib.ListN.{length};
 ghost use Rattle.reader.specs.Reads.{Payload};
-ghost use Rattle.lines.specs.Lines.{Put};
+ghost use Rattle.lines.specs.Lines.{WrittenTo};
 ghost use Rattle.program.specs.Program.{longField, bookEnd, refusedLine, comparisonLine, programOf};
 ghost use Rattle.program.specs.Requests.{fieldsOf, requestAt};
 ghost use Rattle.program.specs.Writing.{linesUnder, Lined, linesOfAccepted, Accepted, outputOf, Roomy};
@@ -133,7 +133,7 @@ pub fn request_at(input: &[u8], at: usize) -> Request
 // Writes the line of a refusal at a place of the buffer and answers the place behind it.
 pub fn put_refusal(out: &mut [u8], at: usize, refusal: Refusal) -> usize
     requires { ⌜ at + length (refusedLine refusal) ≤ length (now out) ⌝ }
-    ensures { λ r. ⌜ Put (now (out .entry)) at (refusedLine refusal) (now (out .exit)) r ⌝ }
+    ensures { λ r. ⌜ WrittenTo (now (out .entry)) at (refusedLine refusal) (now (out .exit)) r ⌝ }
 {
     put_pair_line(
         out,
@@ -147,7 +147,7 @@ pub fn put_refusal(out: &mut [u8], at: usize, refusal: Refusal) -> usize
 // Writes the line of a comparison at a place of the buffer and answers the place behind it.
 pub fn put_comparison(out: &mut [u8], at: usize, comparison: Comparison) -> usize
     requires { ⌜ at + length (comparisonLine comparison) ≤ length (now out) ⌝ }
-    ensures { λ r. ⌜ Put (now (out .entry)) at (comparisonLine comparison) (now (out .exit)) r ⌝ }
+    ensures { λ r. ⌜ WrittenTo (now (out .entry)) at (comparisonLine comparison) (now (out .exit)) r ⌝ }
 {
     match comparison {
         Comparison::Same(rounds) => put_line(out, at, b"same", rounds as u64),
@@ -168,7 +168,7 @@ pub fn write_lines(
     place: usize,
 ) -> usize
     requires { ⌜ Lined (now text) (now table) n letters (now input) start (now out) place ⌝ }
-    ensures { λ r. ⌜ Put (now (out .entry)) place (linesUnder (now (text .entry)) (now (table .entry)) n letters (now (input .entry)) start) (now (out .exit)) r ⌝ }
+    ensures { λ r. ⌜ WrittenTo (now (out .entry)) place (linesUnder (now (text .entry)) (now (table .entry)) n letters (now (input .entry)) start) (now (out .exit)) r ⌝ }
 {
     let mut at = start;
     let mut end = place;
@@ -205,7 +205,7 @@ fn write_accepted(
     out: &mut [u8],
 ) -> usize
     requires { ⌜ Accepted (now text) (now table) relations letters (now input) end (now out) ⌝ }
-    ensures { λ r. ⌜ Put (now (out .entry)) 0 (linesOfAccepted (now (text .entry)) (now (table .entry)) relations letters (now (input .entry)) end) (now (out .exit)) r ⌝ }
+    ensures { λ r. ⌜ WrittenTo (now (out .entry)) 0 (linesOfAccepted (now (text .entry)) (now (table .entry)) relations letters (now (input .entry)) end) (now (out .exit)) r ⌝ }
 {
     let place = put_line(out, 0, b"book", relations as u64);
     write_lines(text, table, 2 * relations, letters, input, end, out, place)
@@ -214,7 +214,7 @@ fn write_accepted(
 // Writes the output of an input that is not too long at the start of the buffer and answers its length. The book is loaded once for all its comparisons.
 fn write_loaded(input: &[u8], out: &mut [u8]) -> usize
     requires { ⌜ Roomy (now input) (now out) ⌝ }
-    ensures { λ r. ⌜ Put (now (out .entry)) 0 (outputOf (now (input .entry))) (now (out .exit)) r ⌝ }
+    ensures { λ r. ⌜ WrittenTo (now (out .entry)) 0 (outputOf (now (input .entry))) (now (out .exit)) r ⌝ }
 {
     let end = book_end(input);
     let mut text = [0u8; Relation::TEXT];
@@ -237,7 +237,7 @@ fn write_loaded(input: &[u8], out: &mut [u8]) -> usize
 // Writes the output at the start of the buffer and answers its length; the bytes behind it are kept.
 pub fn write_program(input: &[u8], out: &mut [u8]) -> usize
     requires { do ⌜ (← ⟦Output::MOST⟧) ≤ length (now out) ⌝ }
-    ensures { λ r. ⌜ Put (now (out .entry)) 0 (programOf (now (input .entry))) (now (out .exit)) r ⌝ }
+    ensures { λ r. ⌜ WrittenTo (now (out .entry)) 0 (programOf (now (input .entry))) (now (out .exit)) r ⌝ }
 {
     let made = Input::make(input.len());
     let MadeInput::Good(_) = made else {

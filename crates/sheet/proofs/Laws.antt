@@ -1,18 +1,18 @@
 -- The table's positions give the cuts of the relation words, and a law for each way that writing the sheet can go.
 use Prim.Native.Nat.{ℕ, zero, suc, _+_, _*_, _≤_, _<_}
-use mathlib.Core.List.{List, [], _∷_, _++_, append-assoc}
+use mathlib.Core.List.{List, [], _∷_, _++_}
 use mathlib.Core.Path.{_≡_, refl, sym, ap, _∙_}
 use native.Mathlib.Omega.{arith}
 use native.Mathlib.Numerals.{add-one}
 use borrow.Author.Needs.{needs}
-use lib.ListN.{length, take, drop, length-append}
-use lib.Seq.{take-at, drop-append-add, drop-drop}
+use lib.ListN.{length, length-append}
 use Rattle.overlap.specs.Cuts.{xlen, ylen, zlen}
 use Rattle.overlap.proofs.Facts.{rigid-of-c4}
 use Rattle.layout.specs.Layout.{wordsIn, Checked}
 use Rattle.layout.proofs.Placed.{words-length, word-length}
 use Rattle.layout.proofs.CutPlaces.{cuts-inside, xy-long}
-use Rattle.lines.specs.Lines.{Put}
+use Rattle.writing.specs.Writing.{written, over}
+use Rattle.writing.proofs.Writing.{written-zero, written-length, written-behind}
 use Rattle.sheet.specs.Sheet.{cutBytes, cutSheet, xAt, yAt, zAt, lengthsAt, sheetBytes, CutsIn, Room, SheetRoom}
 
 module _ (text table : List ℕ) (n : ℕ) (c : Checked text table n) where
@@ -57,22 +57,22 @@ length-sheet table zero = refl
 length-sheet table (suc n) = simp length-append (omega (arith, length-sheet table n))
 
 -- the lengths are written
-pub lengths-put : (table : List ℕ) (i : ℕ) (sheet : List ℕ) (x y z : ℕ) (after : List ℕ) (r : ℕ) → x ≡ xAt table i → y ≡ yAt table i → z ≡ zAt table i
-    → Put sheet (3 * i) (x ∷ y ∷ z ∷ []) after r → Put sheet (3 * i) (lengthsAt table i) after (3 * i + 3)
-lengths-put table i sheet x y z after r ex ey ez p = rw (← ex, ← ey, ← ez) (rw (p .behind) at p)
+pub lengths-written : (table : List ℕ) (i : ℕ) (sheet : List ℕ) (x y z : ℕ) (after : List ℕ) → x ≡ xAt table i → y ≡ yAt table i → z ≡ zAt table i
+    → after ≡ written (3 * i) (x ∷ y ∷ z ∷ []) sheet → after ≡ written (3 * i) (lengthsAt table i) sheet
+lengths-written table i sheet x y z after ex ey ez e = rw (← ex, ← ey, ← ez) e
 
-pub ruleset lengths = (lengths-put, needs)
+pub ruleset lengths = (lengths-written, needs)
 
 -- i relation words are on the sheet
 pub record Sheeted (table : List ℕ) (n : ℕ) (sheet : List ℕ) (i : ℕ) (b : List ℕ) : Type 0 where
   pub room : SheetRoom table n sheet
   pub within : i ≤ n
-  pub same : b ≡ sheetBytes table i ++ drop (3 * i) sheet
+  pub same : b ≡ written 0 (sheetBytes table i) sheet
   pub kept : length b ≡ length sheet
 
 pub sheeted-start : (table : List ℕ) (n : ℕ) (sheet : List ℕ) → SheetRoom table n sheet → Sheeted table n sheet 0 sheet
 unfolding sheetBytes
-sheeted-start table n sheet r = record { room = r; within = omega arith; same = refl; kept = refl }
+sheeted-start table n sheet r = record { room = r; within = omega arith; same = sym (written-zero [] sheet); kept = refl }
 
 module _ (table : List ℕ) (n : ℕ) (sheet : List ℕ) (i : ℕ) (b : List ℕ) (s : Sheeted table n sheet i b) where
   pub sheeted-room : i < n → Room table i b
@@ -80,24 +80,20 @@ module _ (table : List ℕ) (n : ℕ) (sheet : List ℕ) (i : ℕ) (b : List ℕ
       let p = s .room .place in
       record { cuts = s .room .cuts i h; place = omega (arith, s .kept); early = omega (arith, s .room .few) }
 
-  pub sheeted-more : (a : List ℕ) → i < n → Put b (3 * i) (lengthsAt table i) a (3 * i + 3) → Sheeted table n sheet (i + 1) a
+  pub sheeted-more : (a : List ℕ) → i < n → a ≡ written (3 * i) (lengthsAt table i) b → Sheeted table n sheet (i + 1) a
   unfolding sheetBytes
-  sheeted-more a h p =
+  sheeted-more a h e =
       let l = length-sheet table i in
-      let isPrefix : take (3 * i) b ≡ sheetBytes table i = rw (s .same) (take-at (sheetBytes table i) (drop (3 * i) sheet) (3 * i) l) in
-      let e : sheetBytes table (i + 1) ≡ sheetBytes table i ++ lengthsAt table i = ap (sheetBytes table) (add-one i) in
-      let k : 3 * i + 3 ≡ length (sheetBytes table i) + 3 = omega arith in
-      let m : 3 * i + 3 ≡ 3 * (i + 1) = omega arith in
-      let back : drop (3 * i + 3) b ≡ drop (3 * (i + 1)) sheet =
-      rw (s .same) (ap (λ (x : ℕ). drop x (sheetBytes table i ++ drop (3 * i) sheet)) k ∙ drop-append-add (sheetBytes table i) (drop (3 * i) sheet) 3 ∙ drop-drop 3 (3 * i) sheet ∙ rw m) in
+      let room = s .room .place in
+      let next : sheetBytes table (i + 1) ≡ sheetBytes table i ++ lengthsAt table i = ap (sheetBytes table) (add-one i) in
       record {
         room = s .room;
         within = omega arith;
-        same = p .same ∙ rw (isPrefix, back, e) (sym (append-assoc (sheetBytes table i) (lengthsAt table i) (drop (3 * (i + 1)) sheet)));
-        kept = p .kept ∙ s .kept;
+        same = e ∙ ap (written (3 * i) (lengthsAt table i)) (s .same) ∙ written-behind 0 (sheetBytes table i) (lengthsAt table i) sheet (3 * i) (omega arith) (omega arith) ∙ rw next;
+        kept = ap length e ∙ written-length (3 * i) (lengthsAt table i) b (omega (arith, s .kept)) ∙ s .kept;
       }
 
-  pub sheeted-end : n ≤ i → b ≡ sheetBytes table n ++ drop (3 * n) sheet
-  sheeted-end h = let w = s .within in let e : i ≡ n = omega arith in rw (← e) (s .same)
+  pub sheeted-end : n ≤ i → b ≡ over (sheetBytes table n) sheet
+  sheeted-end h = let w = s .within in let e : i ≡ n = omega arith in rw (← e) (s .same ∙ written-zero (sheetBytes table i) sheet)
 
 pub ruleset sheets = (sheeted-start, sheeted-room, sheeted-more, sheeted-end, needs)

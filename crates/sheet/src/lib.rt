@@ -1,9 +1,7 @@
 // The cut sheet: for each relation word in order the lengths of X, Y and Z, one byte each (document 01, "Pieces, C(4) and cuts").
 ghost use Prim.Native.Nat.{_+_, _-_, _*_, _<_, _≤_};
-ghost use mathlib.Core.List.{[], _∷_, _++_};
 ghost use mathlib.Core.Path.{_≡_};
-ghost use lib.ListN.{length, drop};
-ghost use Rattle.lines.specs.Lines.{Put};
+ghost use Rattle.writing.specs.Writing.{written, over};
 ghost use Rattle.sheet.specs.Sheet.{CutsIn, Room, SheetRoom, xAt, yAt, zAt, lengthsAt, sheetBytes};
 
 // A difference of two positions that is small.
@@ -39,16 +37,16 @@ fn z_length(table: &[u16], i: usize) -> u8
 // Writes the lengths of relation word i in their place.
 fn write_lengths(table: &[u16], i: usize, sheet: &mut [u8])
     requires { ⌜ Room (now table) i (now sheet) ⌝ }
-    ensures { λ _. ⌜ Put (now (sheet .entry)) (3 * i) (lengthsAt (now (table .entry)) i) (now (sheet .exit)) (3 * i + 3) ⌝ }
+    ensures { λ _. ⌜ now (sheet .exit) ≡ written (3 * i) (lengthsAt (now (table .entry)) i) (now (sheet .entry)) ⌝ }
 {
     let lengths = [x_length(table, i), y_length(table, i), z_length(table, i)];
-    lines::put_text(sheet, 3 * i, &lengths);
+    writing::put_bytes(&lengths, sheet, 3 * i);
 }
 
 // Writes the sheet of n relation words at the start of a lent buffer.
 pub fn write_sheet(table: &[u16], n: usize, sheet: &mut [u8])
     requires { ⌜ SheetRoom (now table) n (now sheet) ⌝ }
-    ensures { λ _. ⌜ now (sheet .exit) ≡ sheetBytes (now (table .entry)) n ++ drop (3 * n) (now (sheet .entry)) ⌝ }
+    ensures { λ _. ⌜ now (sheet .exit) ≡ over (sheetBytes (now (table .entry)) n) (now (sheet .entry)) ⌝ }
 {
     let mut i = 0;
     while i < n {
