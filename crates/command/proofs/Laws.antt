@@ -1,31 +1,47 @@
 -- Laws of the program's reading and writing: counts stay within their buffers.
 use Prim.Native.Nat.{ℕ, _+_, _-_, _≤_, _<_}
+use mathlib.Core.Bool.{Bool, true, false}
 use mathlib.Core.List.{List, _++_}
 use mathlib.Core.Path.{_≡_, refl, sym, ap, _∙_}
 use native.Mathlib.Omega.{arith}
 use borrow.Author.Needs.{needs}
 use borrow.Rule.Slice.PartMut.{same-len-mid}
+use lib.Dec.{ltb}
 use lib.ListN.{length, take, drop, length-append, length-take, length-drop}
 use lib.Seq.{length-take-le}
 use mir.Val.{Fits}
 use mir.Syntax.{w64}
-use Rattle.lines.specs.Lines.{WrittenTo}
+use Rattle.program.specs.Program.{programOf}
+use Rattle.program.specs.Size.{outputMost}
+use Rattle.entries.specs.declared.Printed.{Printed}
+use Rattle.entries.specs.declared.Printed.the-variants.{Wrote}
+use Rattle.entries.specs.Answers.{wrote, ofPrinted}
+use Rattle.entries.specs.Entries.{over, OutputOutcome, outputOf}
 use Rattle.command.specs.declared.Got.{Got}
 use Rattle.command.specs.declared.Got.the-variants.{Bytes, Failed}
 use Rattle.command.specs.Got.{GotPiece, GotWithin}
 
 -- what is written lies in the buffer
-module _ (out s b : List ℕ) (q : ℕ) (p : WrittenTo out 0 s b q) where
-  pub put-within : q ≤ length b
-  put-within =
-      let l = length-append (take 0 out) (s ++ drop (0 + length s) out) in
-      let k = length-append s (drop (0 + length s) out) in
-      omega (arith, p .behind, ap length (p .same))
+module _ (input old b : List ℕ) (printed : Printed) (n : ℕ) (p : OutputOutcome.after (ofPrinted printed) b ≡ outputOf input old) (e : printed ≡ Wrote n) where
+  pub written-within : n ≤ length b
+  unfolding outputOf
+  written-within = go (ltb (length old) outputMost) refl
+    where
+      q : OutputOutcome.after (wrote n) b ≡ outputOf input old
+      q = rw e at p
 
-  pub put-long : q ≡ length (take q b)
-  put-long = sym (length-take-le q b put-within)
+      go : (t : Bool) → ltb (length old) outputMost ≡ t → n ≤ length b
+      go true f = let h = rw f at q in absurd (let z : _≡_ {A = ℕ} 0 1 = cc in omega arith)
+      go false f =
+          let h = rw f at q in
+          let l : n ≡ length (programOf input) = cc in
+          let k : b ≡ over (programOf input) old = cc in
+          omega (arith, ap length k, length-append (programOf input) (drop (length (programOf input)) old))
 
-pub ruleset puts = (put-within, put-long, needs)
+  pub written-long : n ≡ length (take n b)
+  written-long = sym (length-take-le n b written-within)
+
+pub ruleset prints = (written-within, written-long, needs)
 
 -- a piece, read into the part of the buffer from a place on
 module _ (buf ys : List ℕ) (done k : ℕ) (e : length ys ≡ length (take k (drop done buf))) where

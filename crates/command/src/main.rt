@@ -1,13 +1,13 @@
-// The program of document 01: standard input to standard output. It reads, calls and writes; what it writes is fixed by crate `program`.
+// The program of the specification: standard input to standard output. It reads, calls the public entry `print_program` and writes what that gives.
 // Where a read fails, nothing is written to standard output, since what was read so far is not the input; the error goes to standard error.
 ghost use Prim.Native.Nat.{_≤_};
 ghost use lib.ListN.{length};
 ghost use Rattle.command.specs.Got.{GotPiece, GotWithin};
+use entries::Printed;
 use format::Input;
 use libc::STDIN_FILENO;
 use libc::STDOUT_FILENO;
 use program::Output;
-use program::write_program;
 
 // How many bytes were read, or a read failed.
 pub enum Got {
@@ -56,11 +56,19 @@ fn read_input(buf: &mut [u8]) -> Got
     Got::Bytes(done)
 }
 
-// Writes what the program gives for the input.
+// Writes to standard output.
+fn write_output(output: &[u8]) {
+    if !io::write_all(STDOUT_FILENO, output) {
+        os::fail(b"compare: standard output");
+    }
+}
+
+// Writes what the program gives for the input. The buffer has room for every output, so that the entry does not refuse it.
 fn answer(input: &[u8]) {
     let mut out = [0u8; Output::MOST];
-    let n = write_program(input, &mut out);
-    if !io::write_all(STDOUT_FILENO, &out[..n]) {
-        os::fail(b"compare: standard output");
+    let printed = entries::print_program(input, &mut out);
+    match printed {
+        Printed::Wrote(n) => write_output(&out[..n]),
+        Printed::Refused(_) => os::fail(b"compare: the output's buffer"),
     }
 }

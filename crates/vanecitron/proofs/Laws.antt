@@ -1,10 +1,9 @@
 -- A law for each case of an answer, and one for each C function that passes an answer on.
 use Prim.Native.Nat.{ℕ}
-use mathlib.Core.Bool.{Bool, true, false, cond}
+use mathlib.Core.Bool.{Bool, true, false}
 use mathlib.Core.List.{List}
 use mathlib.Core.Path.{_≡_, refl, ap, _∙_, subst}
 use borrow.Author.Needs.{needs}
-use mir.Val.{boolByte}
 use Rattle.words.specs.Words.{Word}
 use Rattle.format.specs.declared.Refusal.{Refusal}
 use Rattle.format.specs.Refusals.{numberOf, placeOf}
@@ -23,32 +22,36 @@ use Rattle.vanecitron.specs.declared.CheckResult.{CheckResult}
 use Rattle.vanecitron.specs.declared.RoundResult.{RoundResult}
 use Rattle.vanecitron.specs.declared.CompareResult.{CompareResult}
 use Rattle.vanecitron.specs.declared.ProgramResult.{ProgramResult}
-use Rattle.vanecitron.specs.Numbers.{checkResult, roundResult, compareResult, programResult, SheetNumbers, sheetNumbers, RoundNumbers, roundNumbers, ComparedNumbers, ProgramNumbers, programNumbers}
+use Rattle.vanecitron.specs.Numbers.{endOutcome, checkResult, roundResult, compareResult, programResult, SheetNumbers, sheetNumbers, RoundNumbers, roundNumbers, ComparedNumbers, ProgramNumbers, programNumbers}
 
--- a truth as a number
-bool-as-number : (b : Bool) → boolByte b ≡ cond b 1 0
-bool-as-number true = refl
-bool-as-number false = refl
+-- how a round ends
+pub ends-same : (b : Bool) → b ≡ true → 1 ≡ endOutcome b
+ends-same b f = rw f
+
+pub ends-different : (b : Bool) → b ≡ false → 2 ≡ endOutcome b
+ends-different b f = rw f
+
+pub ruleset ends = (ends-same, ends-different, needs)
 
 -- a verdict
 module _ (verdict : Verdict) where
-  pub verdict-accepted : (n : ℕ) → verdict ≡ Verdicts.Accepted n → record { refusal = 0; place = 0; relations = n } ≡ checkResult (ofVerdict verdict)
+  pub verdict-accepted : (n : ℕ) → verdict ≡ Verdicts.Accepted n → record { refusal = 0; place = 0; rules = n } ≡ checkResult (ofVerdict verdict)
   verdict-accepted n f = rw f
 
   pub verdict-refused : (r : Refusal) (n p : ℕ) → verdict ≡ Verdicts.Refused r → n ≡ numberOf r → p ≡ placeOf r
-      → record { refusal = n; place = p; relations = 0 } ≡ checkResult (ofVerdict verdict)
+      → record { refusal = n; place = p; rules = 0 } ≡ checkResult (ofVerdict verdict)
   verdict-refused r n p f g h = rw (f, g, h)
 
 pub ruleset verdicts = (verdict-accepted, verdict-refused, needs)
 
 -- a round
 module _ (round : Round) where
-  pub round-ends : (t : Bool) → round ≡ Ways.End t
-      → record { refusal = 0; place = 0; outcome = boolByte t; «u_length» = 0; «v_length» = 0; «p_length» = 0 } ≡ roundResult (ofRound round)
-  round-ends t f = rw (f, bool-as-number t)
+  pub round-ends : (t : Bool) (o : ℕ) → round ≡ Ways.End t → o ≡ endOutcome t
+      → record { refusal = 0; place = 0; outcome = o; «u_length» = 0; «v_length» = 0; «p_length» = 0 } ≡ roundResult (ofRound round)
+  round-ends t o f g = rw (f, g)
 
   pub round-goes-on : (k m n : ℕ) → round ≡ Ways.Next k m n
-      → record { refusal = 0; place = 0; outcome = 2; «u_length» = k; «v_length» = m; «p_length» = n } ≡ roundResult (ofRound round)
+      → record { refusal = 0; place = 0; outcome = 3; «u_length» = k; «v_length» = m; «p_length» = n } ≡ roundResult (ofRound round)
   round-goes-on k m n f = rw f
 
   pub round-refused : (r : Refusal) (k m : ℕ) → round ≡ Ways.Refused r → k ≡ numberOf r → m ≡ placeOf r
@@ -64,7 +67,7 @@ module _ (comparison : Comparison) where
   comparison-same n f = rw f
 
   pub comparison-different : (n : ℕ) → comparison ≡ Comparisons.Different n
-      → record { refusal = 0; place = 0; outcome = 0; rounds = n } ≡ compareResult (ofComparison comparison)
+      → record { refusal = 0; place = 0; outcome = 2; rounds = n } ≡ compareResult (ofComparison comparison)
   comparison-different n f = rw f
 
   pub comparison-refused : (r : Refusal) (n p : ℕ) → comparison ≡ Comparisons.Refused r → n ≡ numberOf r → p ≡ placeOf r

@@ -1,6 +1,7 @@
--- Which numbers the C functions give for each answer of the entries: document 01's number and place of a refusal, and beside them what an answer counts.
+-- Which numbers the C functions give for each answer of the entries: the specification's number and place of a refusal, what the
+-- answer says as an outcome, and what it counts.
 use Prim.Native.Nat.{ℕ}
-use mathlib.Core.Bool.{cond}
+use mathlib.Core.Bool.{Bool, cond}
 use mathlib.Core.List.{List}
 use mathlib.Core.Path.{_≡_}
 use Rattle.words.specs.Words.{Word}
@@ -12,7 +13,16 @@ use Rattle.vanecitron.specs.declared.RoundResult.{RoundResult}
 use Rattle.vanecitron.specs.declared.CompareResult.{CompareResult}
 use Rattle.vanecitron.specs.declared.ProgramResult.{ProgramResult}
 
--- an answer as numbers: a refusal's number and place, or 0 and 0; 0 different, 1 same, 2 next; and up to three counts
+-- the version of the C functions: 10,000 times the first part, 100 times the second, and the third
+abbrev pub version : ℕ
+version = 200
+
+-- the outcome of a round that ends, with 'same' for true
+abbrev pub endOutcome : Bool → ℕ
+endOutcome b = cond b 1 2
+
+-- an answer as numbers: a refusal's number and place, or 0 and 0; the outcome, 1 same, 2 different, 3 next; and up to three counts. The outcome 0 says nothing: no
+-- refused answer has another, and no round or comparison that is not refused has it
 pub record Numbers : Type 0 where
   pub refusal : ℕ
   pub place : ℕ
@@ -23,18 +33,18 @@ pub record Numbers : Type 0 where
 
 abbrev pub numbers : Answer → Numbers
 numbers (accepted n) = record { refusal = 0; place = 0; outcome = 0; first = n; second = 0; third = 0 }
-numbers (ended b) = record { refusal = 0; place = 0; outcome = cond b 1 0; first = 0; second = 0; third = 0 }
-numbers (next a b c) = record { refusal = 0; place = 0; outcome = 2; first = a; second = b; third = c }
+numbers (ended b) = record { refusal = 0; place = 0; outcome = endOutcome b; first = 0; second = 0; third = 0 }
+numbers (next u v p) = record { refusal = 0; place = 0; outcome = 3; first = u; second = v; third = p }
 numbers (same n) = record { refusal = 0; place = 0; outcome = 1; first = n; second = 0; third = 0 }
-numbers (different n) = record { refusal = 0; place = 0; outcome = 0; first = n; second = 0; third = 0 }
+numbers (different n) = record { refusal = 0; place = 0; outcome = 2; first = n; second = 0; third = 0 }
 numbers (wrote n) = record { refusal = 0; place = 0; outcome = 0; first = n; second = 0; third = 0 }
 numbers (refused n p) = record { refusal = n; place = p; outcome = 0; first = 0; second = 0; third = 0 }
 
 -- what the check and the cut sheet return for an answer
 abbrev pub checkResult : Answer → CheckResult
-checkResult a = record { refusal = numbers a .refusal; place = numbers a .place; relations = numbers a .first }
+checkResult a = record { refusal = numbers a .refusal; place = numbers a .place; rules = numbers a .first }
 
--- with the lent buffer
+-- what the cut sheet returns, and the lent buffer after it
 pub data SheetNumbers : Type 0 where
   after : CheckResult → List ℕ → SheetNumbers
 
@@ -53,12 +63,12 @@ roundResult a =
       «p_length» = numbers a .third;
     }
 
--- with the three lent buffers
+-- what the round returns, and the three lent buffers after it
 pub data RoundNumbers : Type 0 where
   after : RoundResult → List ℕ → List ℕ → List ℕ → RoundNumbers
 
 abbrev pub roundNumbers : RoundOutcome → RoundNumbers
-roundNumbers (RoundOutcome.after a u v p) = RoundNumbers.after (roundResult a) u v p
+roundNumbers (RoundOutcome.after a nextU nextV nextP) = RoundNumbers.after (roundResult a) nextU nextV nextP
 
 -- what the comparison returns for an answer
 abbrev pub compareResult : Answer → CompareResult
@@ -74,7 +84,7 @@ pub record ComparedNumbers (book : List ℕ) (u v : Word) (allowance : ℕ) (r :
 abbrev pub programResult : Answer → ProgramResult
 programResult a = record { refusal = numbers a .refusal; place = numbers a .place; length = numbers a .first }
 
--- with the lent buffer
+-- what the program returns, and the lent buffer after it
 pub data ProgramNumbers : Type 0 where
   after : ProgramResult → List ℕ → ProgramNumbers
 

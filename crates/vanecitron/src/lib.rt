@@ -1,44 +1,71 @@
-// The public entries as C functions, for C and Rust: document 01's numbers in plain structs. Each passes on what the entry of crate entries answers:
+// The public entries as C functions, for C and Rust: the specification's numbers in plain structs. Each passes on what the entry of crate `entries` answers:
 // specs/Numbers.antt gives the numbers of each case of the answer, and each promise is the entry's own, read through them. None has a `requires`.
+// The fields have the words of the C header, which are the specification's: a rule is a relation, a run a word.
 ghost use mathlib.Core.Path.{_≡_};
 ghost use Rattle.format.specs.Refusals.{numberOf, placeOf};
 ghost use Rattle.entries.specs.Answers.{ofVerdict, ofRound, ofComparison, ofPrinted};
 ghost use Rattle.entries.specs.Entries.{checkOf, sheetOf, roundOf, outputOf};
-ghost use Rattle.vanecitron.specs.Numbers.{checkResult, roundResult, compareResult, programResult, SheetNumbers as Sheets, sheetNumbers, RoundNumbers as Rounds, roundNumbers, ComparedNumbers, ProgramNumbers as Programs, programNumbers};
+ghost use Rattle.vanecitron.specs.Numbers.{version, endOutcome, checkResult, roundResult, compareResult, programResult, SheetNumbers as Sheets, sheetNumbers, RoundNumbers as Rounds, roundNumbers, ComparedNumbers, ProgramNumbers as Programs, programNumbers};
 use comparison::Comparison;
 use entries::Printed;
 use entries::Round;
 use entries::Verdict;
 use format::Refusal;
 
-// Of the check and of the cut sheet. In every struct: document 01's number of a refusal and its place, or 0 and 0; what an answer does not give is 0.
+// The version of these functions, as a number: 10,000 times the first part, 100 times the second, and the third.
+pub struct Version {
+    pub number: u32,
+}
+
+impl Version {
+    pub const NUMBER: u32 = 200;
+}
+
+// What a round or a comparison says, as a number. 0 says nothing, so that a refused result, and one filled with zeros, reads as no answer.
+pub struct Outcome {
+    pub code: u32,
+}
+
+impl Outcome {
+    pub const NONE: u32 = 0;
+
+    pub const SAME: u32 = 1;
+
+    pub const DIFFERENT: u32 = 2;
+
+    // Of a round alone: it goes on.
+    pub const NEXT: u32 = 3;
+}
+
+// Of the check and of the cut sheet. In every struct: the number of a refusal and its place, or 0 and 0; what an answer does not give is 0.
 #[repr(C)]
 pub struct CheckResult {
     pub refusal: u32,
     pub place: u64,
-    pub relations: u64,
+    pub rules: u64,
 }
 
+// Of a single round: its outcome, and the lengths of the next u, v and p where that is NEXT.
 #[repr(C)]
 pub struct RoundResult {
     pub refusal: u32,
     pub place: u64,
-    // 0 different, 1 same, 2 next
     pub outcome: u32,
     pub u_length: u64,
     pub v_length: u64,
     pub p_length: u64,
 }
 
+// Of a comparison: its outcome, and the rounds that it took.
 #[repr(C)]
 pub struct CompareResult {
     pub refusal: u32,
     pub place: u64,
-    // 0 different, 1 same
     pub outcome: u32,
     pub rounds: u64,
 }
 
+// Of the program: the length of what it wrote.
 #[repr(C)]
 pub struct ProgramResult {
     pub refusal: u32,
@@ -46,21 +73,21 @@ pub struct ProgramResult {
     pub length: u64,
 }
 
-// A refusal's number in the width of the structs,
+// A refusal's number, in the width of the structs.
 fn number(refusal: Refusal) -> u32
     ensures { λ r. ⌜ r ≡ numberOf refusal ⌝ }
 {
     format::number(refusal) as u32
 }
 
-// and its place.
+// A refusal's place, in the width of the structs.
 fn place(refusal: Refusal) -> u64
     ensures { λ r. ⌜ r ≡ placeOf refusal ⌝ }
 {
     format::place(refusal) as u64
 }
 
-// The numbers of a verdict,
+// The numbers of a verdict.
 fn of_verdict(verdict: Verdict) -> CheckResult
     ensures { λ r. ⌜ r ≡ checkResult (ofVerdict verdict) ⌝ }
 {
@@ -68,17 +95,27 @@ fn of_verdict(verdict: Verdict) -> CheckResult
         Verdict::Accepted(relations) => CheckResult {
             refusal: 0,
             place: 0,
-            relations: relations as u64,
+            rules: relations as u64,
         },
         Verdict::Refused(refusal) => CheckResult {
             refusal: number(refusal),
             place: place(refusal),
-            relations: 0,
+            rules: 0,
         },
     }
 }
 
-// of a round,
+// The outcome of a round that ends, with 'same' for true.
+fn of_end(same: bool) -> u32
+    ensures { λ r. ⌜ r ≡ endOutcome same ⌝ }
+{
+    if same {
+        return Outcome::SAME;
+    }
+    Outcome::DIFFERENT
+}
+
+// The numbers of a round.
 fn of_round(round: Round) -> RoundResult
     ensures { λ r. ⌜ r ≡ roundResult (ofRound round) ⌝ }
 {
@@ -86,7 +123,7 @@ fn of_round(round: Round) -> RoundResult
         Round::End(same) => RoundResult {
             refusal: 0,
             place: 0,
-            outcome: same as u32,
+            outcome: of_end(same),
             u_length: 0,
             v_length: 0,
             p_length: 0,
@@ -94,7 +131,7 @@ fn of_round(round: Round) -> RoundResult
         Round::Next(u, v, p) => RoundResult {
             refusal: 0,
             place: 0,
-            outcome: 2,
+            outcome: Outcome::NEXT,
             u_length: u as u64,
             v_length: v as u64,
             p_length: p as u64,
@@ -102,7 +139,7 @@ fn of_round(round: Round) -> RoundResult
         Round::Refused(refusal) => RoundResult {
             refusal: number(refusal),
             place: place(refusal),
-            outcome: 0,
+            outcome: Outcome::NONE,
             u_length: 0,
             v_length: 0,
             p_length: 0,
@@ -110,7 +147,7 @@ fn of_round(round: Round) -> RoundResult
     }
 }
 
-// of a comparison,
+// The numbers of a comparison.
 fn of_comparison(comparison: Comparison) -> CompareResult
     ensures { λ r. ⌜ r ≡ compareResult (ofComparison comparison) ⌝ }
 {
@@ -118,25 +155,25 @@ fn of_comparison(comparison: Comparison) -> CompareResult
         Comparison::Same(rounds) => CompareResult {
             refusal: 0,
             place: 0,
-            outcome: 1,
+            outcome: Outcome::SAME,
             rounds: rounds as u64,
         },
         Comparison::Different(rounds) => CompareResult {
             refusal: 0,
             place: 0,
-            outcome: 0,
+            outcome: Outcome::DIFFERENT,
             rounds: rounds as u64,
         },
         Comparison::Refused(refusal) => CompareResult {
             refusal: number(refusal),
             place: place(refusal),
-            outcome: 0,
+            outcome: Outcome::NONE,
             rounds: 0,
         },
     }
 }
 
-// and of the program.
+// The numbers of what the program gave.
 fn of_printed(printed: Printed) -> ProgramResult
     ensures { λ r. ⌜ r ≡ programResult (ofPrinted printed) ⌝ }
 {
@@ -152,6 +189,14 @@ fn of_printed(printed: Printed) -> ProgramResult
             length: 0,
         },
     }
+}
+
+// The version, so that a caller can hold his header to the archive that he links.
+#[no_mangle]
+pub extern "C" fn vanecitron_version() -> u32
+    ensures { λ r. ⌜ r ≡ version ⌝ }
+{
+    Version::NUMBER
 }
 
 // The check of a book.
@@ -170,7 +215,7 @@ pub extern "C" fn vanecitron_cut_sheet(book: &[u8], sheet: &mut [u8]) -> CheckRe
     of_verdict(entries::cut_sheet(book, sheet))
 }
 
-// One round, the next u, v and p in three lent buffers.
+// One round, with the next u, v and p in three lent buffers.
 #[no_mangle]
 pub extern "C" fn vanecitron_round(
     book: &[u8],

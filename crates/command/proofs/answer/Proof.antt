@@ -1,4 +1,4 @@
-use Rattle.command.proofs.Laws.{puts}
+use Rattle.command.proofs.Laws.{prints}
 use Rattle.command.proofs.answer.Statement.{statement}
 use Rattle.command.proofs.answer.Tie as tie
 
@@ -6,12 +6,14 @@ pub answer-spec : {M : Type 1} → statement M
 answer-spec =
     tie.close
     (tie.spec
-    (λ c. search puts)
-    (λ c κs. search puts)
-    (λ c. search puts)
-    (λ c. search puts)
-    (λ c κs. search puts)
-    (λ c. search puts)
-    (λ c κs. search puts)
-    (λ c. search puts)
-    (λ c. search puts))
+    (λ c. search prints)
+    (λ c κs. search prints)
+    (λ c. search prints)
+    (λ c. search prints)
+    (λ c. search prints)
+    (λ c κs. search prints)
+    (λ c. search prints)
+    (λ c. search prints)
+    (λ c κs. search prints)
+    (λ c. search prints)
+    (λ c. search prints))
