@@ -27,7 +27,7 @@ pub data Answer : Type 0 where
   -- a refusal's number and place
   refused : ℕ → ℕ → Answer
 
--- a refusal by this paper's number and place
+-- a refusal by document 01's number and place
 abbrev pub refusal : Refusal → Answer
 refusal r = refused (numberOf r) (placeOf r)
 

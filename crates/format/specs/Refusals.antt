@@ -1,10 +1,10 @@
--- This paper's number and place of each refusal (document 01, "Refusals by number"). Every promise of a public entry that speaks of a refusal uses this definition.
+-- The number and the place of each refusal (document 01, "Refusals by number"). Every promise of a public entry that speaks of a refusal uses this definition.
 use Prim.Native.Nat.{ℕ, _+_, _*_}
 use Rattle.format.specs.declared.Refusal.{Refusal}
 use Rattle.format.specs.declared.Refusal.the-variants.{Short, Kind, Length, Range, UnknownLetter, TooMany, Repeated, Loose, Long, Stranger, Spent, Narrow, Heavy}
 use Rattle.format.specs.Limits.{placeSpacing, inputMost}
 
--- a refusal as the papers write it
+-- a refusal as document 01 writes it: its number and its place
 pub record Numbered : Type 0 where
   pub number : ℕ
   pub place : ℕ
