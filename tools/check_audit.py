@@ -21,10 +21,13 @@ are headings of docs/SPECIFICATION.md. The version is that of `rt version`. No e
 
 import argparse
 import collections
+import io
 import pathlib
 import re
 import subprocess
 import sys
+import tarfile
+import tempfile
 
 PAGE = "docs/AUDIT.md"
 TABLES = "From the specification to the tree"
@@ -57,8 +60,9 @@ class Group(collections.namedtuple("Group", "kind column names places span")):
 class Tree:
     """Where names are declared. Places are written as the page writes them."""
 
-    def __init__(self, root):
+    def __init__(self, root, before=None):
         self.root = root
+        self.before = before  # the tree of an earlier commit, or None
         self.files = {}  # crate/File or crate/src to names
         self.sources = {}  # the file of a name of crate/src
         for path in sorted(root.glob("crates/*/specs/*.antt")):
@@ -103,14 +107,15 @@ class Tree:
             place = re.sub(r"^crates/(\w+)/(?:specs/(\w+)\.antt|src/.*)$", lambda m: f"{m[1]}/{m[2] or 'src'}", place)
         return name in self.files.get(place if "/" in place else f"{place}/src", ())
 
-    def found(self, kind, name, column=0):
-        """All places of a name; of its own kind where there is one of that kind: definitions for the second column, code for the third."""
+    def found(self, kind, name):
+        """All places of a name."""
         if kind == "edit":
             return sorted(crate for crate in self.edits if name in self.edits[crate])
-        places = sorted(place for place, names in self.files.items() if name in names)
-        code = [place for place in places if place.endswith("/src")]
-        own = {2: [place for place in places if place not in code], 3: code}.get(column)
-        return own or places
+        return sorted(place for place, names in self.files.items() if name in names)
+
+    def came(self, kind, name):
+        """The places of a name that it did not have before."""
+        return [place for place in self.found(kind, name) if not self.before or not self.before.has(kind, name, place)]
 
     def calls(self):
         return [line.split()[0] for line in self.read("crates/cases/stdin").splitlines() if line and not line.startswith("#")]
@@ -217,9 +222,9 @@ def groups_of(page):
 # --- the checks; each yields (place in the page or None, what is wrong, [(from, to, text)] that would mend it) ---
 
 
-def found_in(tree, kind, name, column=0):
+def found_in(tree, kind, name):
     """Where a name is, for a message."""
-    files = [tree.file(kind, name, place) for place in tree.found(kind, name, column)]
+    files = [tree.file(kind, name, place) for place in tree.found(kind, name)]
     return f"found in {' and in '.join(files)}" if files else "found nowhere"
 
 
@@ -239,14 +244,17 @@ def names_with_places(tree, page):
 
 def mended(tree, group, name):
     """Where the name is, as the page would write it, and what is wrong with what is written. Places stay as they are where it is not clear what would be right."""
-    found = tree.found(group.kind, name, group.column)
     written = group.places or []
     wrong = [place for place in written if not tree.has(group.kind, name, place)]
     if written and not wrong:
         return written, None
     missed = f"not in {' nor in '.join(tree.path(group.kind, place) for place in wrong)}" if written else "no place beside it"
-    fault = f"`{name}`: {missed}, {found_in(tree, group.kind, name, group.column)}"
-    others = [place for place in found if not any(same_place(tree, group.kind, place, old) for old in written)]
+    fault = f"`{name}`: {missed}, {found_in(tree, group.kind, name)}"
+    # code stays code and a definition a definition; a table has definitions in its second column, and first of all code in its third
+    code = is_code(wrong[0]) if wrong else group.column != 2
+    others = [place for place in tree.came(group.kind, name) if tree.path(group.kind, place) not in [tree.path(group.kind, old) for old in written]]
+    own = others if group.kind == "edit" else [place for place in others if is_code(place) == code]
+    others = own if written else own or others
     if len(others) != 1 or len(wrong) > 1:
         return written, fault
     new = others[0]
@@ -257,8 +265,8 @@ def mended(tree, group, name):
     return [new if place in wrong else place for place in written] or [new], fault
 
 
-def same_place(tree, kind, one, other):
-    return tree.path(kind, one) == tree.path(kind, other)
+def is_code(place):
+    return "/src" in place or "/" not in place
 
 
 def regrouped(group, places):
@@ -503,10 +511,21 @@ def mend(text, faults):
 def main(argv=None):
     parser = argparse.ArgumentParser(description=__doc__, formatter_class=argparse.RawDescriptionHelpFormatter)
     parser.add_argument("--fix", action="store_true", help="rewrite places where a name is found at exactly one other, add missing ones, and correct counts and the version")
+    parser.add_argument("--since", metavar="COMMIT", help="with --fix: a place counts only where it did not declare the name at COMMIT, so that a namesake is not taken for it")
     parser.add_argument("--tree", action="store_true", help="only what the tree shows: neither the version nor the logs of rt ci")
     parser.add_argument("--root", default=pathlib.Path(__file__).resolve().parent.parent, type=pathlib.Path, help=argparse.SUPPRESS)
     options = parser.parse_args(argv)
-    tree, wrong = Tree(options.root), 0
+    if not options.since:
+        return check(Tree(options.root), options)
+    with tempfile.TemporaryDirectory() as folder:
+        archive = subprocess.run(["git", "-C", str(options.root), "archive", options.since], capture_output=True, check=True).stdout
+        with tarfile.open(fileobj=io.BytesIO(archive)) as files:
+            files.extractall(folder, filter="data")
+        return check(Tree(options.root, Tree(pathlib.Path(folder))), options)
+
+
+def check(tree, options):
+    wrong = 0
     for name, checks in OF_TREE.items():
         checks = checks + (OF_TOOLCHAIN if name == PAGE and not options.tree else [])
         text = tree.read(name)

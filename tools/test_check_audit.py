@@ -5,6 +5,7 @@ import importlib.util
 import io
 import os
 import pathlib
+import subprocess
 import sys
 import tempfile
 import unittest
@@ -182,6 +183,33 @@ class Names(Small):
         before = self.read("docs/AUDIT.md")
         self.run_tool("--fix")
         self.assertEqual(self.read("docs/AUDIT.md"), before)
+
+    def test_code_is_not_taken_for_a_definition(self):
+        self.change("docs/AUDIT.md", "constants of `Head` (format/src)", "constants of `Head` (entries/src), `make` (format/Limits)")
+        self.faults(
+            "docs/AUDIT.md:N: `Head`: not in crates/entries/src, found in crates/format/src/lib.rt",
+            "docs/AUDIT.md:N: `make`: not in crates/format/specs/Limits.antt, found in crates/format/src/lib.rt",
+        )
+        self.assertEqual(self.run_tool("--fix")[0], 1)
+        self.assertIn("constants of `Head` (format/src), `make` (format/Limits) |", self.read("docs/AUDIT.md"))
+
+    def test_a_namesake_that_was_there_before(self):
+        def git(*arguments):
+            subprocess.run(["git", "-C", str(self.root), "-c", "user.name=x", "-c", "user.email=x", *arguments], check=True, capture_output=True)
+
+        self.write("crates/a/specs/X.antt", "abbrev pub starred : ℕ\n")
+        git("init", "-q")
+        git("add", ".")
+        git("commit", "-qm", "x")
+        self.change("crates/congruence/specs/Starred.antt", "abbrev pub starred", "abbrev pub marked")
+        self.change("crates/format/specs/Refusals.antt", "unfoldable pub numbered : ℕ → ℕ\nnumbered n = n\n\n", "")
+        self.write("crates/a/specs/Y.antt", "unfoldable pub numbered : ℕ → ℕ\nnumbered n = n\n")
+        code, out = self.run_tool("--fix", "--since", "HEAD")
+        self.assertEqual(code, 1)
+        self.assertTrue(any(line.endswith("`starred`: not in crates/congruence/specs/Starred.antt, found in crates/a/specs/X.antt") for line in out), out)
+        page = self.read("docs/AUDIT.md")
+        self.assertIn("| `starred` (congruence/Starred) | constants", page)
+        self.assertIn("`numbered` (a/Y), `other` (format/Refusals) |", page)
 
     def test_a_name_without_a_place(self):
         self.change("docs/AUDIT.md", "| `starred` (congruence/Starred) | constants", "| `starred`, `most` | constants")
