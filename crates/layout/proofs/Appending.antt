@@ -12,8 +12,8 @@ use lib.Seq.{length-take-le, getD-take, getD-append-add, getD-set-same, getD-set
 use mir.Syntax.{w8}
 use mir.Val.{Fits}
 use Rattle.words.specs.Words.{Word}
-use Rattle.layout.specs.Places.{wordMost, textRoom, tableRoom, lettersBound, fenceOf, startCell, endCell, firstCell}
-use Rattle.layout.specs.Layout.{startOf, endOf, part, wordsIn, firstOf, Laid}
+use Rattle.layout.specs.Places.{wordMost, textRoom, tableRoom, lettersBound, fenceOf, startCell, endCell}
+use Rattle.layout.specs.Layout.{startOf, endOf, part, wordsIn, Laid}
 use Rattle.layout.proofs.Placed.{start-bound, end-before, same-words}
 use Rattle.layout.specs.Appending.{written, WordRoom, Appended}
 
@@ -243,9 +243,3 @@ module _ (word text table : List ℕ) (i : ℕ) (r : WordRoom word text table i)
     room-appended b f x y g h = rw (f, g, h, e) (appended word text table i r)
 
 pub ruleset rooms = (room-read, room-fence, room-write, room-write-next, room-text, room-end, room-next, room-appended, needs)
-
--- the first letter of a word says where it is listed
-pub first-at : (table : List ℕ) (c i r : ℕ) → i ≡ c → r ≡ getD table (firstCell i) 0 → r ≡ firstOf table c
-first-at table c i r e f = f ∙ ap (firstOf table) e
-
-pub ruleset firsts = (first-at, needs)

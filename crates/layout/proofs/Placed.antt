@@ -12,24 +12,24 @@ use Rattle.words.proofs.Lists.{part-length, part-at}
 use Rattle.overlap.specs.Pieces.{word}
 use Rattle.overlap.specs.Cuts.{len}
 use Rattle.layout.specs.Places.{wordMost, fenceOf}
-use Rattle.layout.specs.Layout.{startOf, endOf, part, Span, wordsIn, Laid}
+use Rattle.layout.specs.Layout.{startOf, endOf, Span, wordAt, wordsIn, Laid}
 use Rattle.layout.proofs.Parts.{same-part}
 
 pub words-length : (text table : List ℕ) (n : ℕ) → length (wordsIn text table n) ≡ n
 unfolding wordsIn
 words-length text table zero = refl
 words-length text table (suc n) =
-    length-append (wordsIn text table n) (part text (startOf table n) (endOf table n) ∷ []) ∙ rw (words-length text table n) (omega arith)
+    length-append (wordsIn text table n) (wordAt text table n ∷ []) ∙ rw (words-length text table n) (omega arith)
 
 -- word i is the text from its start to its end
-pub word-part : (text table : List ℕ) (n i : ℕ) → i < n → word (wordsIn text table n) i ≡ part text (startOf table i) (endOf table i)
+pub word-part : (text table : List ℕ) (n i : ℕ) → i < n → word (wordsIn text table n) i ≡ wordAt text table i
 unfolding wordsIn
 word-part text table zero i h = absurd (omega arith)
 word-part text table (suc n) i h =
     let l = words-length text table n in
     by-cases (ℕ-discrete i n)
-    (λ e. rw e (getD-at (wordsIn text table n) (part text (startOf table n) (endOf table n)) [] [] n l))
-    (λ e. List·getD-append (wordsIn text table n) (part text (startOf table n) (endOf table n) ∷ []) [] i (omega (arith, l, e, h))
+    (λ e. rw e (getD-at (wordsIn text table n) (wordAt text table n) [] [] n l))
+    (λ e. List·getD-append (wordsIn text table n) (wordAt text table n ∷ []) [] i (omega (arith, l, e, h))
     ∙ word-part text table n i (omega (arith, e, h)))
 
 module _ (text table : List ℕ) (n : ℕ) (f : Laid text table n) where

@@ -6,7 +6,7 @@ use mathlib.Core.List.{List, [], _∷_, _++_}
 use mathlib.Core.Path.{_≡_}
 use lib.ListN.{length, getD, take, drop}
 use Rattle.words.specs.Words.{Word, commonPrefix}
-use Rattle.overlap.specs.Pieces.{word, C4}
+use Rattle.overlap.specs.Pieces.{C4}
 use Rattle.overlap.specs.Cuts.{xlen, zlen}
 use Rattle.layout.specs.Places.{wordsMost, wordMost, lettersBound, fenceOf, startCell, xEndCell, zStartCell, endCell, firstCell, orderCell, sharedCell, tableRoom}
 
@@ -31,10 +31,14 @@ pub record Span (text : List ℕ) (a b : ℕ) : Type 0 where
   pub upwards : a ≤ b
   pub inside : b ≤ length text
 
+-- relation word i of the text
+abbrev pub wordAt : List ℕ → List ℕ → ℕ → Word
+wordAt text table i = part text (startOf table i) (endOf table i)
+
 -- the first n relation words of the text
 unfoldable pub wordsIn : List ℕ → List ℕ → ℕ → List Word
 wordsIn text table zero = []
-wordsIn text table (suc n) = wordsIn text table n ++ (part text (startOf table n) (endOf table n) ∷ [])
+wordsIn text table (suc n) = wordsIn text table n ++ (wordAt text table n ∷ [])
 
 -- n relation words are laid out; the positions of cuts are not spoken of
 pub record Laid (text table : List ℕ) (n : ℕ) : Type 0 where
@@ -73,7 +77,7 @@ pub record Indexed (text table : List ℕ) (n : ℕ) : Type 0 where
   pub found : (k : ℕ) → k < n
       → (j : ℕ) × (firstOf table (getD text (startOf table k) 0) ≤ j) × (j < firstOf table (getD text (startOf table k) 0 + 1)) × (orderOf table j ≡ k)
   pub alike : (j : ℕ) → 0 < j → j < n
-      → sharedOf table j ≡ commonPrefix (word (wordsIn text table n) (orderOf table (j - 1))) (word (wordsIn text table n) (orderOf table j))
+      → sharedOf table j ≡ commonPrefix (wordAt text table (orderOf table (j - 1))) (wordAt text table (orderOf table j))
 
 -- the relation words of a book that meets C(4), with their cuts and their index: what every round works on
 pub record Checked (text table : List ℕ) (n : ℕ) : Type 0 where

@@ -8,7 +8,6 @@ ghost use Rattle.layout.specs.Appending.{written, WordRoom, Appended};
 use format::Head;
 use format::Relation;
 use numbers::narrow;
-use numbers::wide;
 use numbers::wide16;
 
 // The text: the relation words one after the other, each with a fence behind it.
@@ -111,11 +110,11 @@ pub fn end_of(table: &[u16], k: usize) -> usize
 }
 
 // The place from which the relation words that begin with letter c are listed.
-pub fn first_of(table: &[u16], c: u8) -> usize
+pub fn first_of(table: &[u16], c: usize) -> usize
     requires { ⌜ firstCell c < length (now table) ⌝ }
     ensures { λ r. ⌜ r ≡ firstOf (now (table .entry)) c ⌝ }
 {
-    wide16(table[Table::FIRST + wide(c)])
+    wide16(table[Table::FIRST + c])
 }
 
 // The relation word that is listed at place j.

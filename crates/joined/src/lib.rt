@@ -1,0 +1,75 @@
+// A word that is given as two slices, a and b, and is a followed by b: its letters, and what a part of the text has in common with it.
+ghost use mathlib.Core.Path.{_≡_};
+ghost use Prim.Native.Nat.{_+_, _-_, _<_, _≤_, min};
+ghost use mathlib.Core.List.{_++_};
+ghost use lib.ListN.{length, getD, drop};
+ghost use Rattle.words.specs.Words.{isPrefix, commonPrefix};
+ghost use Rattle.layout.specs.Layout.{part, Span};
+ghost use Rattle.joined.specs.Joined.{hasPlace, Agreed};
+use numbers::smaller;
+
+// Whether the word has a letter at place q.
+pub fn has_place(a: &[u8], b: &[u8], q: usize) -> bool
+    ensures { λ r. ⌜ r ≡ hasPlace (now (a .entry) ++ now (b .entry)) q ⌝ }
+{
+    if q < a.len() {
+        return true;
+    }
+    q - a.len() < b.len()
+}
+
+pub fn letter_at(a: &[u8], b: &[u8], q: usize) -> u8
+    requires { ⌜ q < length (now a) + length (now b) ⌝ }
+    ensures { λ r. ⌜ r ≡ getD (now (a .entry) ++ now (b .entry)) q 0 ⌝ }
+{
+    if q < a.len() {
+        return a[q];
+    }
+    b[q - a.len()]
+}
+
+// How many letters of text[from..to) agree with s at place q, where m are known to.
+pub fn common_prefix_in(text: &[u8], from: usize, to: usize, s: &[u8], q: usize, m: usize) -> usize
+    requires { ⌜ Agreed (now text) from to (now s) q m ⌝ }
+    ensures { λ r. ⌜ r ≡ commonPrefix (part (now (text .entry)) from to) (drop q (now (s .entry))) ⌝ }
+{
+    if s.len() <= q {
+        return 0;
+    }
+    let n = smaller(to - from, s.len() - q);
+    let mut i = m;
+    while i < n {
+        if text[from + i] != s[q + i] {
+            return i;
+        }
+        i += 1;
+    }
+    i
+}
+
+// How many letters of text[from..to) agree with the word at place q, where m are known to.
+pub fn common_prefix(text: &[u8], from: usize, to: usize, a: &[u8], b: &[u8], q: usize, m: usize) -> usize
+    requires { ⌜ Agreed (now text) from to (now a ++ now b) q m ⌝ }
+    ensures { λ r. ⌜ r ≡ commonPrefix (part (now (text .entry)) from to) (drop q (now (a .entry) ++ now (b .entry))) ⌝ }
+{
+    if a.len() <= q {
+        return common_prefix_in(text, from, to, b, q - a.len(), m);
+    }
+    let room = a.len() - q;
+    if room <= m {
+        return room + common_prefix_in(text, from + room, to, b, 0, m - room);
+    }
+    let r = common_prefix_in(text, from, to, a, q, m);
+    if r < room {
+        return r;
+    }
+    room + common_prefix_in(text, from + room, to, b, 0, 0)
+}
+
+// Whether text[from..to) stands in the word at place q.
+pub fn begins(text: &[u8], from: usize, to: usize, a: &[u8], b: &[u8], q: usize) -> bool
+    requires { ⌜ Span (now text) from to ⌝ }
+    ensures { λ r. ⌜ r ≡ isPrefix (part (now (text .entry)) from to) (drop q (now (a .entry) ++ now (b .entry))) ⌝ }
+{
+    common_prefix(text, from, to, a, b, q, 0) == to - from
+}
