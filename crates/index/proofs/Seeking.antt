@@ -1,6 +1,6 @@
 -- The walk through the words of one letter: where each parts from the word that is compared, and that at most one X and Y stand at a place.
 use Prim.Native.Nat.{ℕ, _+_, _*_, _-_, _≤_, _<_}
-use mathlib.Core.Bool.{Bool, true, false, true≢false}
+use mathlib.Core.Bool.{Bool, true, false, cond, true≢false}
 use mathlib.Core.List.{List, _++_}
 use mathlib.Core.Path.{_≡_, refl, sym, ap, _∙_, subst}
 use mathlib.Core.Logic.{by-cases}
@@ -21,14 +21,24 @@ use Rattle.overlap.specs.Cuts.{xlen, xylen, xyOf}
 use Rattle.overlap.proofs.Rigid.{Rigid}
 use Rattle.overlap.proofs.Facts.{length-xy}
 use Rattle.congruence.proofs.RowTests.{one-prefix}
-use Rattle.layout.specs.Layout.{startOf, zStartOf, part, wordsIn, firstOf, orderOf, sharedOf, Checked}
-use Rattle.layout.proofs.Placed.{words-length}
-use Rattle.layout.proofs.CutPlaces.{xy-long, xy-part}
+use Rattle.layout.specs.Places.{lettersBound, startCell, zStartCell, firstCell, orderCell, sharedCell}
+use Rattle.layout.specs.Layout.{startOf, zStartOf, part, wordAt, wordsIn, firstOf, orderOf, sharedOf, Checked}
+use Rattle.layout.proofs.Placed.{words-length, word-part}
+use Rattle.layout.proofs.CutPlaces.{xy-span, xy-long, xy-part, checked-rigid}
 use Rattle.index.specs.declared.Meeting.{Meeting}
 use Rattle.index.specs.declared.Meeting.the-variants.{Here, Past}
-use Rattle.index.specs.Index.{relationPrefixAt, hasPlace, Agreed}
-use Rattle.index.specs.Seek.{metOf, sharedFrom, Meets, AtLetter, Bucket, Turn}
-use Rattle.index.proofs.Laying.{xy-span, checked-rigid}
+use Rattle.joined.specs.Joined.{hasPlace, Agreed}
+use Rattle.index.specs.Index.{relationPrefixAt}
+use Rattle.index.specs.Seek.{metAt, sharedUnder, Meets, AtLetter, Bucket, Turn}
+
+-- relation word k of B met with v
+unfoldable pub metOf : List Word → ℕ → Word → Meeting
+metOf B k v = cond (isPrefix (xyOf B k) v) (Here k) (Past (commonPrefix (word B k) v))
+
+-- by its positions in the table it is met just so
+met-at : (text table : List ℕ) (n : ℕ) → Checked text table n → (k : ℕ) → k < n → (v : Word) → metAt text table k v ≡ metOf (wordsIn text table n) k v
+unfolding metAt metOf
+met-at text table n c k h v = rw (xy-part text table n (c .laid) (c .cut) k h, word-part text table n k h)
 
 -- where the front marker of words is rigid
 module _ (B : List Word) (g : Rigid B (xlen B) (xylen B)) where
@@ -101,11 +111,11 @@ module _ (B : List Word) (g : Rigid B (xlen B) (xylen B)) where
         by-cases (decLt (commonPrefix (word B i) v) (xylen B k)) (λ b. omega arith) (λ b. absurd (not-all (omega arith) (omega arith)))
 
 -- one word met: what of its X and Y agrees says how it meets the word
-module _ (text table : List ℕ) (n : ℕ) (w : Word) (q k m : ℕ) (g : Meets text table n w q k m) where
-  pub meets-start : 4 * k < length table
+module _ (text table : List ℕ) (w : Word) (q k m : ℕ) (g : Meets text table w q k m) where
+  pub meets-start : startCell k < length table
   meets-start = omega (arith, g .known, g .checked .laid .few, g .checked .indexed .room)
 
-  pub meets-cut : 4 * k + 2 < length table
+  pub meets-cut : zStartCell k < length table
   meets-cut = omega (arith, g .known, g .checked .laid .few, g .checked .indexed .room)
 
   module _ (from : ℕ) (e : from ≡ startOf table k) (to : ℕ) (f : to ≡ zStartOf table k) where
@@ -117,114 +127,124 @@ module _ (text table : List ℕ) (n : ℕ) (w : Word) (q k m : ℕ) (g : Meets t
 
     module _ (r : ℕ) (c : r ≡ commonPrefix (part text from to) (drop q w)) where
       -- what is common of X and Y, and how many letters these are
-      counted : (r ≡ commonPrefix (xyOf (wordsIn text table n) k) (drop q w)) × (xylen (wordsIn text table n) k ≡ to - from)
+      counted : (r ≡ commonPrefix (xyOf (wordsIn text table (g .number)) k) (drop q w)) × (xylen (wordsIn text table (g .number)) k ≡ to - from)
       counted =
           let l = g .checked .laid in
           let t = g .checked .cut in
-          let p = xy-part text table n l t k (g .known) in
-          let i = xy-long text table n l t k (g .known) in
+          let p = xy-part text table (g .number) l t k (g .known) in
+          let i = xy-long text table (g .number) l t k (g .known) in
           (c ∙ rw (e, f, ← p), omega arith)
 
-      pub meets-here : r ≡ to - from → Here k ≡ metOf (wordsIn text table n) k (drop q w)
+      met : metOf (wordsIn text table (g .number)) k (drop q w) ≡ metAt text table k (drop q w)
+      met = sym (met-at text table (g .number) (g .checked) k (g .known) (drop q w))
+
+      pub meets-here : r ≡ to - from → Here k ≡ metAt text table k (drop q w)
       unfolding metOf
       meets-here d =
           let x = counted in
-          let b = common-within (xyOf (wordsIn text table n) k) (drop q w) in
-          let y = length-take (xylen (wordsIn text table n) k) (word (wordsIn text table n) k) in
-          rw (common-prefix (xyOf (wordsIn text table n) k) (drop q w) (omega arith))
+          let b = common-within (xyOf (wordsIn text table (g .number)) k) (drop q w) in
+          let y = length-take (xylen (wordsIn text table (g .number)) k) (word (wordsIn text table (g .number)) k) in
+          let o : Here k ≡ metOf (wordsIn text table (g .number)) k (drop q w) = rw (common-prefix (xyOf (wordsIn text table (g .number)) k) (drop q w) (omega arith)) in
+          o ∙ met
 
-      pub meets-past : (r ≡ to - from → ⊥) → Past r ≡ metOf (wordsIn text table n) k (drop q w)
+      pub meets-past : (r ≡ to - from → ⊥) → Past r ≡ metAt text table k (drop q w)
       unfolding metOf
       meets-past d =
           let x = counted in
-          let B = wordsIn text table n in
+          let B = wordsIn text table (g .number) in
           let t = common-take (xylen B k) (word B k) (drop q w) (omega arith) in
           let z : r ≡ commonPrefix (word B k) (drop q w) = omega arith in
-          rw (common-not-xy B (checked-rigid text table n (g .checked)) k (drop q w) (omega arith), z)
+          let o : Past r ≡ metOf B k (drop q w) = rw (common-not-xy B (checked-rigid text table (g .number) (g .checked)) k (drop q w) (omega arith), z) in
+          o ∙ met
 
 pub ruleset meetings = (meets-start, meets-cut, meets-agreed, meets-up, meets-here, meets-past, needs)
 
-pub shared-first : (table : List ℕ) (from j : ℕ) → j ≡ from → 0 ≡ sharedFrom table from j
-unfolding sharedFrom
+pub shared-first : (table : List ℕ) (from j : ℕ) → j ≡ from → 0 ≡ sharedUnder table from j
+unfolding sharedUnder
 shared-first table from j e = rw (eq-eqb j from e)
 
-pub shared-next : (table : List ℕ) (from j r : ℕ) → (j ≡ from → ⊥) → r ≡ sharedOf table j → r ≡ sharedFrom table from j
-unfolding sharedFrom
+pub shared-next : (table : List ℕ) (from j r : ℕ) → (j ≡ from → ⊥) → r ≡ sharedOf table j → r ≡ sharedUnder table from j
+unfolding sharedUnder
 shared-next table from j r d e = rw (ne-eqb j from d) e
 
 pub ruleset shareds = (shared-first, shared-next, needs)
 
 -- the word listed at place j
-module _ (text table : List ℕ) (n : ℕ) (w : Word) (q from j m : ℕ) (g : Turn text table n w q from j m) where
-  pub turn-order : 322 + j < length table
+module _ (text table : List ℕ) (w : Word) (q from j m : ℕ) (g : Turn text table w q from j m) where
+  pub turn-order : orderCell j < length table
   turn-order = omega (arith, g .known, g .checked .laid .few, g .checked .indexed .room)
 
-  pub turn-shared : 386 + j < length table
+  pub turn-shared : sharedCell j < length table
   turn-shared = omega (arith, g .known, g .checked .laid .few, g .checked .indexed .room)
 
   -- where it is not the first of its letter
   module _ (b : from < j) where
-    two : (orderOf table (j - 1) < length (wordsIn text table n)) × (orderOf table j < length (wordsIn text table n))
+    two : (orderOf table (j - 1) < length (wordsIn text table (g .number))) × (orderOf table j < length (wordsIn text table (g .number)))
     two =
-        let l = words-length text table n in
+        let l = words-length text table (g .number) in
         let x = g .checked .indexed .known (j - 1) (omega (arith, g .known)) in
         let y = g .checked .indexed .known j (g .known) in
         omega arith
 
-    shares : (l : ℕ) → l ≡ sharedFrom table from j → l ≡ commonPrefix (word (wordsIn text table n) (orderOf table (j - 1))) (word (wordsIn text table n) (orderOf table j))
-    unfolding sharedFrom
+    shares : (l : ℕ) → l ≡ sharedUnder table from j → l ≡ commonPrefix (word (wordsIn text table (g .number)) (orderOf table (j - 1))) (word (wordsIn text table (g .number)) (orderOf table j))
+    unfolding sharedUnder
     shares l e =
-        let d : sharedFrom table from j ≡ sharedOf table j = rw (ne-eqb j from (λ z. omega arith)) in
-        e ∙ d ∙ g .checked .indexed .alike j (omega arith) (g .known)
+        let d : sharedUnder table from j ≡ sharedOf table j = rw (ne-eqb j from (λ z. omega arith)) in
+        let f = word-part text table (g .number) (orderOf table (j - 1)) (g .checked .indexed .known (j - 1) (omega (arith, g .known))) in
+        let h = word-part text table (g .number) (orderOf table j) (g .checked .indexed .known j (g .known)) in
+        e ∙ d ∙ rw (f, h) (g .checked .indexed .alike j (omega arith) (g .known))
 
-    rigid-here : Rigid (wordsIn text table n) (xlen (wordsIn text table n)) (xylen (wordsIn text table n))
-    rigid-here = checked-rigid text table n (g .checked)
+    rigid-here : Rigid (wordsIn text table (g .number)) (xlen (wordsIn text table (g .number))) (xylen (wordsIn text table (g .number)))
+    rigid-here = checked-rigid text table (g .number) (g .checked)
+
+  met-listed : metOf (wordsIn text table (g .number)) (orderOf table j) (drop q w) ≡ metAt text table (orderOf table j) (drop q w)
+  met-listed = sym (met-at text table (g .number) (g .checked) (orderOf table j) (g .checked .indexed .known j (g .known)) (drop q w))
 
   -- the first of its letter shares nothing that is known
-  first-shares : (l : ℕ) → l ≡ sharedFrom table from j → j ≡ from → (l ≡ 0) × (m ≡ 0)
-  unfolding sharedFrom
+  first-shares : (l : ℕ) → l ≡ sharedUnder table from j → j ≡ from → (l ≡ 0) × (m ≡ 0)
+  unfolding sharedUnder
   first-shares l e z = (e ∙ rw (eq-eqb j from z), g .start z)
 
-  module _ (l : ℕ) (e : l ≡ sharedFrom table from j) where
-    pub turn-later : m < l → Past m ≡ metOf (wordsIn text table n) (orderOf table j) (drop q w)
+  module _ (l : ℕ) (e : l ≡ sharedUnder table from j) where
+    pub turn-later : m < l → Past m ≡ metAt text table (orderOf table j) (drop q w)
     turn-later h =
         by-cases (decLt from j)
         (λ b.
         let o = two b in
         let s = shares b l e in
         let t = g .same b in
-        rw t (met-later (wordsIn text table n) (rigid-here b) (drop q w) (orderOf table (j - 1)) (orderOf table j) (o .0) (o .1) (g .none b) (omega arith)))
+        rw t (met-later (wordsIn text table (g .number)) (rigid-here b) (drop q w) (orderOf table (j - 1)) (orderOf table j) (o .0) (o .1) (g .none b) (omega arith)) ∙ met-listed)
         (λ b. let f = first-shares l e (omega (arith, g .low)) in absurd (omega arith))
 
-    pub turn-sooner : l < m → Past l ≡ metOf (wordsIn text table n) (orderOf table j) (drop q w)
+    pub turn-sooner : l < m → Past l ≡ metAt text table (orderOf table j) (drop q w)
     turn-sooner h =
         by-cases (decLt from j)
         (λ b.
         let o = two b in
         let s = shares b l e in
         let t = g .same b in
-        rw s (met-sooner (wordsIn text table n) (rigid-here b) (drop q w) (orderOf table (j - 1)) (orderOf table j) (o .0) (o .1) (g .none b) (omega arith)))
+        rw s (met-sooner (wordsIn text table (g .number)) (rigid-here b) (drop q w) (orderOf table (j - 1)) (orderOf table j) (o .0) (o .1) (g .none b) (omega arith)) ∙ met-listed)
         (λ b. let f = first-shares l e (omega (arith, g .low)) in absurd (omega arith))
 
-    on : l ≤ m → m ≤ l → m ≤ commonPrefix (xyOf (wordsIn text table n) (orderOf table j)) (drop q w)
+    on : l ≤ m → m ≤ l → m ≤ commonPrefix (xyOf (wordsIn text table (g .number)) (orderOf table j)) (drop q w)
     on h i =
         by-cases (decLt from j)
         (λ b.
         let o = two b in
         let s = shares b l e in
         let t = g .same b in
-        let c = met-on (wordsIn text table n) (rigid-here b) (drop q w) (orderOf table (j - 1)) (orderOf table j) (o .0) (o .1) (g .none b) (omega arith) in
+        let c = met-on (wordsIn text table (g .number)) (rigid-here b) (drop q w) (orderOf table (j - 1)) (orderOf table j) (o .0) (o .1) (g .none b) (omega arith) in
         omega arith)
         (λ b. let f = first-shares l e (omega (arith, g .low)) in omega arith)
 
-    pub turn-meets : (k : ℕ) → k ≡ orderOf table j → l ≤ m → m ≤ l → Meets text table n w q k m
+    pub turn-meets : (k : ℕ) → k ≡ orderOf table j → l ≤ m → m ≤ l → Meets text table w q k m
     turn-meets k f h i =
         let y = g .checked .indexed .known j (g .known) in
-        let a = xy-span text table n (g .checked .laid) (g .checked .cut) (orderOf table j) y in
-        let p = xy-part text table n (g .checked .laid) (g .checked .cut) (orderOf table j) y in
-        rw f (record { checked = g .checked; known = y; agreed = record { span = a; passed = rw (← p) (on h i) } })
+        let a = xy-span text table (g .number) (g .checked .laid) (g .checked .cut) (orderOf table j) y in
+        let p = xy-part text table (g .number) (g .checked .laid) (g .checked .cut) (orderOf table j) y in
+        rw f (record { number = g .number; checked = g .checked; known = y; agreed = record { span = a; passed = rw (← p) (on h i) } })
 
-  pub turn-met : (k : ℕ) → k ≡ orderOf table j → (x : Meeting) → x ≡ metOf (wordsIn text table n) k (drop q w) → x ≡ metOf (wordsIn text table n) (orderOf table j) (drop q w)
+  pub turn-met : (k : ℕ) → k ≡ orderOf table j → (x : Meeting) → x ≡ metAt text table k (drop q w) → x ≡ metAt text table (orderOf table j) (drop q w)
   turn-met k f x e = rw (← f) e
 
 pub ruleset turns = (turn-order, turn-shared, turn-later, turn-sooner, turn-meets, turn-met, needs)
@@ -310,9 +330,10 @@ seek-start text table n w q from to b =
     }
 
 module _ (text table : List ℕ) (n : ℕ) (w : Word) (q from to j m : ℕ) (s : Seeking text table n w q from to j m) where
-  pub seek-turn : j < to → Turn text table n w q from j m
+  pub seek-turn : j < to → Turn text table w q from j m
   seek-turn h =
       record {
+        number = n;
         checked = s .bucket .checked;
         low = s .low;
         known = omega (arith, s .most);
@@ -333,17 +354,20 @@ module _ (text table : List ℕ) (n : ℕ) (w : Word) (q from to j m : ℕ) (s :
           let z = s .none (f .0) f1 (omega arith) in
           true≢false (sym e ∙ rw (f .3) at z)
 
-  module _ (h : j < to) (x : Meeting) (e : x ≡ metOf (wordsIn text table n) (orderOf table j) (drop q w)) where
+  module _ (h : j < to) (x : Meeting) (e : x ≡ metAt text table (orderOf table j) (drop q w)) where
+    met-word : x ≡ metOf (wordsIn text table n) (orderOf table j) (drop q w)
+    met-word = e ∙ met-at text table n (s .bucket .checked) (orderOf table j) (s .bucket .checked .indexed .known j (omega (arith, s .most))) (drop q w)
+
     pub seek-found : (k : ℕ) → x ≡ Here k → k ≡ relationPrefixAt (wordsIn text table n) w q
     seek-found k f =
-        let p = met-here (wordsIn text table n) (orderOf table j) k (drop q w) (sym f ∙ e) in
+        let p = met-here (wordsIn text table n) (orderOf table j) k (drop q w) (sym f ∙ met-word) in
         let y = s .bucket .checked .indexed .known j (omega (arith, s .most)) in
         let l = words-length text table n in
         p .0 ∙ found-one (wordsIn text table n) (checked-rigid text table n (s .bucket .checked)) w q (orderOf table j) (omega arith) (p .1)
 
     pub seek-more : (l : ℕ) → x ≡ Past l → Seeking text table n w q from to (j + 1) l
     seek-more l f =
-        let p = met-past (wordsIn text table n) (orderOf table j) l (drop q w) (sym f ∙ e) in
+        let p = met-past (wordsIn text table n) (orderOf table j) l (drop q w) (sym f ∙ met-word) in
         record {
           bucket = s .bucket;
           low = omega (arith, s .low);
@@ -359,7 +383,7 @@ pub ruleset seeks = (seek-start, seek-turn, seek-none, seek-found, seek-more, ne
 
 -- the letter at place q says where to look
 module _ (text table : List ℕ) (n : ℕ) (w : Word) (q c : ℕ) (g : AtLetter text table n w q c) where
-  pub letter-high : 63 < c → n ≡ relationPrefixAt (wordsIn text table n) w q
+  pub letter-high : lettersBound ≤ c → n ≡ relationPrefixAt (wordsIn text table n) w q
   letter-high h =
       none-found text table n (g .checked) w q
       (λ k l e.
@@ -367,13 +391,13 @@ module _ (text table : List ℕ) (n : ℕ) (w : Word) (q c : ℕ) (g : AtLetter 
       let b = g .checked .laid .letters k (startOf table k) l (omega arith) (g .checked .laid .some k l) in
       omega (arith, g .letter))
 
-  pub letter-low : c ≤ 63 → 257 + c < length table
+  pub letter-low : c < lettersBound → firstCell c < length table
   letter-low h = omega (arith, g .checked .indexed .room)
 
-  pub letter-next : c ≤ 63 → 257 + (c + 1) < length table
+  pub letter-next : c < lettersBound → firstCell (c + 1) < length table
   letter-next h = omega (arith, g .checked .indexed .room)
 
-  pub letter-bucket : c ≤ 63 → (from : ℕ) → from ≡ firstOf table c → (to : ℕ) → to ≡ firstOf table (c + 1) → Bucket text table n w q from to
+  pub letter-bucket : c < lettersBound → (from : ℕ) → from ≡ firstOf table c → (to : ℕ) → to ≡ firstOf table (c + 1) → Bucket text table n w q from to
   letter-bucket h from e to f =
       let l = g .letter in
       record { checked = g .checked; placed = g .placed; letter = omega arith; first = e ∙ ap (firstOf table) l; last = f ∙ ap (λ i. firstOf table (i + 1)) l }
@@ -388,9 +412,9 @@ module _ (text table : List ℕ) (n : ℕ) (g : Checked text table n) (a b : Wor
       let p = ltb-false q (length (a ++ b)) (sym e ∙ f) in
       none-found text table n g (a ++ b) q (λ k l d. let z = stands-placed text table n g (a ++ b) q k l d in omega arith)
 
-  pub a-place : r ≡ true → (c : ℕ) → c ≡ getD (a ++ b) q 0 → AtLetter text table n (a ++ b) q c
+  pub a-place : r ≡ true → (x : ℕ) → x ≡ getD (a ++ b) q 0 → (c : ℕ) → c ≡ x → AtLetter text table n (a ++ b) q c
   unfolding hasPlace
-  a-place f c d = record { checked = g; placed = ltb-true q (length (a ++ b)) (sym e ∙ f); letter = d }
+  a-place f x d c i = record { checked = g; placed = ltb-true q (length (a ++ b)) (sym e ∙ f); letter = i ∙ d }
 
 pub place-fits : (a b : Word) (q : ℕ) (r : Bool) → r ≡ hasPlace (a ++ b) q → r ≡ true → q < length a + length b
 unfolding hasPlace
@@ -400,8 +424,3 @@ place-fits a b q r e f =
     omega arith
 
 pub ruleset places = (no-place, a-place, place-fits, needs)
-
-pub first-at : (table : List ℕ) (c i r : ℕ) → i ≡ c → r ≡ getD table (257 + i) 0 → r ≡ firstOf table c
-first-at table c i r e f = f ∙ ap (firstOf table) e
-
-pub ruleset firsts = (first-at, needs)

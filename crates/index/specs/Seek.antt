@@ -8,23 +8,25 @@ use lib.ListN.{length, getD, drop}
 use Rattle.words.specs.Words.{Word, isPrefix, commonPrefix}
 use Rattle.overlap.specs.Pieces.{word}
 use Rattle.overlap.specs.Cuts.{xyOf}
-use Rattle.layout.specs.Layout.{startOf, zStartOf, wordsIn, firstOf, orderOf, sharedOf, Checked}
+use Rattle.layout.specs.Places.{lettersBound}
+use Rattle.layout.specs.Layout.{startOf, zStartOf, part, wordAt, wordsIn, firstOf, orderOf, sharedOf, Checked}
 use Rattle.index.specs.declared.Meeting.{Meeting}
 use Rattle.index.specs.declared.Meeting.the-variants.{Here, Past}
-use Rattle.index.specs.Index.{Agreed}
+use Rattle.joined.specs.Joined.{Agreed}
 
--- relation word k met with v: its X and Y stand in front of v, or it has some letters in common with v
-unfoldable pub metOf : List Word → ℕ → Word → Meeting
-metOf B k v = cond (isPrefix (xyOf B k) v) (Here k) (Past (commonPrefix (word B k) v))
+-- relation word k met with v: its X and Y are a prefix of v, or it has some letters in common with v
+unfoldable pub metAt : List ℕ → List ℕ → ℕ → Word → Meeting
+metAt text table k v = cond (isPrefix (part text (startOf table k) (zStartOf table k)) v) (Here k) (Past (commonPrefix (wordAt text table k) v))
 
 -- how much the word listed at place j shares with the one listed before it under the same letter, which has its list from place `from` on
-unfoldable pub sharedFrom : List ℕ → ℕ → ℕ → ℕ
-sharedFrom table from j = cond (eqb j from) 0 (sharedOf table j)
+unfoldable pub sharedUnder : List ℕ → ℕ → ℕ → ℕ
+sharedUnder table from j = cond (eqb j from) 0 (sharedOf table j)
 
 -- relation word k has m letters, none of them in its Z, in common with w at place q
-pub record Meets (text table : List ℕ) (n : ℕ) (w : Word) (q k m : ℕ) : Type 0 where
-  pub checked : Checked text table n
-  pub known : k < n
+pub record Meets (text table : List ℕ) (w : Word) (q k m : ℕ) : Type 0 where
+  pub number : ℕ
+  pub checked : Checked text table number
+  pub known : k < number
   pub agreed : Agreed text (startOf table k) (zStartOf table k) w q m
 
 -- c is the letter of w at place q
@@ -37,15 +39,16 @@ pub record AtLetter (text table : List ℕ) (n : ℕ) (w : Word) (q c : ℕ) : T
 pub record Bucket (text table : List ℕ) (n : ℕ) (w : Word) (q from to : ℕ) : Type 0 where
   pub checked : Checked text table n
   pub placed : q < length w
-  pub letter : getD w q 0 < 64
+  pub letter : getD w q 0 < lettersBound
   pub first : from ≡ firstOf table (getD w q 0)
   pub last : to ≡ firstOf table (getD w q 0 + 1)
 
 -- the word listed at place j is next, and the one before it, if it is of the same letter, has m letters in common with w at place q, and not all of its X and Y
-pub record Turn (text table : List ℕ) (n : ℕ) (w : Word) (q from j m : ℕ) : Type 0 where
-  pub checked : Checked text table n
+pub record Turn (text table : List ℕ) (w : Word) (q from j m : ℕ) : Type 0 where
+  pub number : ℕ
+  pub checked : Checked text table number
   pub low : from ≤ j
-  pub known : j < n
-  pub none : from < j → isPrefix (xyOf (wordsIn text table n) (orderOf table (j - 1))) (drop q w) ≡ false
+  pub known : j < number
+  pub none : from < j → isPrefix (xyOf (wordsIn text table number) (orderOf table (j - 1))) (drop q w) ≡ false
   pub start : j ≡ from → m ≡ 0
-  pub same : from < j → m ≡ commonPrefix (word (wordsIn text table n) (orderOf table (j - 1))) (drop q w)
+  pub same : from < j → m ≡ commonPrefix (word (wordsIn text table number) (orderOf table (j - 1))) (drop q w)

@@ -9,5 +9,6 @@ prefix-at-spec =
     (λ c κs. search places)
     (λ c κs. search places)
     (λ c κs. search places)
+    (λ c κs. search places)
     (λ c. search places)
     (λ c. search places))
