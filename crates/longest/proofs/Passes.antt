@@ -14,7 +14,9 @@ use lib.ListN.{length, getD, drop, set, replicate, length-set, length-replicate,
 use lib.Seq.{drop-cons, getD-set-same, getD-set-other}
 use Rattle.words.specs.Words.{commonPrefix}
 use Rattle.words.proofs.Commons.{common-empty}
-use Rattle.pieces.specs.Longest.{most, shared, longestAt, next, entry, Room, Passed, RowOf, Ready, Advanced, Space, Tabled}
+use Rattle.layout.specs.Places.{textRoom}
+use Rattle.longest.specs.Longest.{most, shared, longestAt, next, entry, PassRoom, Passed, RowOf, Ready, Advanced, Space, Tabled}
+use Rattle.longest.proofs.Shared.{shared-next, shared-past, shared-from-past}
 
 -- one letter more, or none
 
@@ -46,13 +48,13 @@ most-more f a n h =
 
 -- one pass has come to place q
 pub record Passing (text row : List ℕ) (x from to q : ℕ) (b : List ℕ) (best : ℕ) : Type 0 where
-  pub room : Room text row x from to
+  pub room : PassRoom text row x from to
   pub low : from ≤ q
   pub high : q ≤ to
   pub long : length b ≡ length row
   pub done : Passed text row x from q b best
 
-pub pass-start : (text row : List ℕ) (x from to : ℕ) → Room text row x from to → Passing text row x from to from row 0
+pub pass-start : (text row : List ℕ) (x from to : ℕ) → PassRoom text row x from to → Passing text row x from to from row 0
 unfolding most
 pass-start text row x from to r =
     let e : from - from ≡ 0 = omega arith in
@@ -104,19 +106,6 @@ module _ (text row : List ℕ) (x from to q : ℕ) (b : List ℕ) (best : ℕ) (
 
 pub ruleset passes = (pass-start, pass-small, pass-more, pass-end, needs)
 
--- common prefixes by the letters at their places
-pub shared-next : (text : List ℕ) (p q : ℕ) → p < length text → q < length text → shared text p q ≡ next (getD text p 0) (getD text q 0) (shared text (p + 1) (q + 1))
-unfolding shared next commonPrefix
-shared-next text p q h k = rw (add-one p, add-one q, add-one (commonPrefix (drop (suc p) text) (drop (suc q) text)), drop-cons text p 0 h, drop-cons text q 0 k)
-
-pub shared-past : (text : List ℕ) (p q : ℕ) → length text ≤ q → shared text p q ≡ 0
-unfolding shared
-shared-past text p q h = rw (drop-of-length-le text h) (common-empty (drop p text))
-
-pub shared-from-past : (text : List ℕ) (p q : ℕ) → length text ≤ p → shared text p q ≡ 0
-unfolding shared commonPrefix
-shared-from-past text p q h = rw (drop-of-length-le text h)
-
 -- one place of the text
 module _ (text row : List ℕ) (x p : ℕ) (r : Ready text p row) (e : x ≡ getD text p 0) where
   entry-shared : (q : ℕ) → q < length text → (q ≡ p → ⊥) → entry text row x q ≡ shared text p q
@@ -125,9 +114,9 @@ module _ (text row : List ℕ) (x p : ℕ) (r : Ready text p row) (e : x ≡ get
       (λ g. r .behind .at (q + 1) (omega (arith, g, h)) (λ i. ne (omega (arith, i))))))
 
   entry-small : (q : ℕ) → q < length text → (q ≡ p → ⊥) → entry text row x q ≤ 255
-  entry-small q h ne = let l = r .bounded .most64 p q (λ i. ne (sym i)) in rw (entry-shared q h ne) (omega (arith, l))
+  entry-small q h ne = let l = r .bounded .short p q (λ i. ne (sym i)) in rw (entry-shared q h ne) (omega (arith, l))
 
-  pub room-before : Room text row x 0 p
+  pub room-before : PassRoom text row x 0 p
   room-before =
       record {
         upwards = omega arith;
@@ -140,13 +129,13 @@ module _ (text row : List ℕ) (x p : ℕ) (r : Ready text p row) (e : x ≡ get
     entry-after : (q : ℕ) → p < q → q < length text → entry text row₁ x q ≡ shared text p q
     entry-after q l h = rw (s .above (q + 1) (omega (arith, l))) (entry-shared q h (λ i. absurd (omega (arith, i, l))))
 
-    pub room-behind : Room text row₁ x (p + 1) (length text)
+    pub room-behind : PassRoom text row₁ x (p + 1) (length text)
     room-behind =
         record {
           upwards = omega (arith, r .inside);
           inside = omega arith;
           further = rw (s .long) (r .behind .further);
-          small = λ q l h. let m = r .bounded .most64 p q (λ i. absurd (omega (arith, i, l))) in rw (entry-after q (omega (arith, l)) h) (omega (arith, m));
+          small = λ q l h. let m = r .bounded .short p q (λ i. absurd (omega (arith, i, l))) in rw (entry-after q (omega (arith, l)) h) (omega (arith, m));
         }
 
     pub place-done : (row₂ : List ℕ) (best₂ best : ℕ) → Passed text row₁ x (p + 1) (length text) row₂ best₂ → best ≡ max best₁ best₂ → Advanced text p row row₂ best
@@ -179,14 +168,14 @@ pub ruleset placing = (place-done)
 pub record Tabling (text old : List ℕ) (row : List ℕ) (p : ℕ) (longest : List ℕ) : Type 0 where
   pub long : length longest ≡ length old
   pub space : Space text longest
-  pub wide : length row ≡ 4161
+  pub wide : length row ≡ textRoom + 1
   pub within : p ≤ length text
   pub here : RowOf text p row
   pub done : (q : ℕ) → p ≤ q → q < length text → getD longest q 0 ≡ longestAt text q
 
-pub tabling-start : (text longest : List ℕ) → Space text longest → Tabling text longest (replicate 4161 0) (length text) longest
+pub tabling-start : (text longest : List ℕ) → Space text longest → Tabling text longest (replicate (textRoom + 1) 0) (length text) longest
 tabling-start text longest s =
-    let l = length-replicate {A = ℕ} 4161 0 in
+    let l = length-replicate {A = ℕ} (textRoom + 1) 0 in
     record {
       long = refl;
       space = s;
@@ -194,8 +183,8 @@ tabling-start text longest s =
       within = omega arith;
       here = record {
         further = omega (arith, l, s .short);
-        end = getD-replicate 4161 (length text) 0 0 (omega (arith, s .short));
-        at = λ q h ne. getD-replicate 4161 q 0 0 (omega (arith, s .short, h)) ∙ sym (shared-from-past text (length text) q (omega arith));
+        end = getD-replicate (textRoom + 1) (length text) 0 0 (omega (arith, s .short));
+        at = λ q h ne. getD-replicate (textRoom + 1) q 0 0 (omega (arith, s .short, h)) ∙ sym (shared-from-past text (length text) q (omega arith));
       };
       done = λ q h k. absurd (omega (arith, h, k));
     }

@@ -1,6 +1,6 @@
-use Rattle.pieces.proofs.Passes.{Tabling, tablings}
-use Rattle.pieces.proofs.fill_longest.Statement.{statement}
-use Rattle.pieces.proofs.fill_longest.Tie as tie
+use Rattle.longest.proofs.Passes.{Tabling, tablings}
+use Rattle.longest.proofs.fill_longest.Statement.{statement}
+use Rattle.longest.proofs.fill_longest.Tie as tie
 
 abbrev Inv-loop : tie.InvT-loop
 Inv-loop text longest₀ row₀ p₀ longest row p = Tabling text longest₀ row p longest

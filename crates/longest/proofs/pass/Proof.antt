@@ -1,7 +1,7 @@
 use Prim.Native.Nat.{_-_}
-use Rattle.pieces.proofs.Passes.{Passing, passes}
-use Rattle.pieces.proofs.pass.Statement.{statement}
-use Rattle.pieces.proofs.pass.Tie as tie
+use Rattle.longest.proofs.Passes.{Passing, passes}
+use Rattle.longest.proofs.pass.Statement.{statement}
+use Rattle.longest.proofs.pass.Tie as tie
 
 abbrev Inv-loop : tie.InvT-loop
 Inv-loop text row₀ x from to best₀ q₀ row best q = Passing text row₀ x from to q row best

@@ -1,6 +1,6 @@
-use Rattle.pieces.proofs.Passes.{places, placing}
-use Rattle.pieces.proofs.longest_at.Statement.{statement}
-use Rattle.pieces.proofs.longest_at.Tie as tie
+use Rattle.longest.proofs.Passes.{places, placing}
+use Rattle.longest.proofs.longest_at.Statement.{statement}
+use Rattle.longest.proofs.longest_at.Tie as tie
 
 pub longest-at-spec : {M : Type 1} → statement M
 longest-at-spec =

@@ -1,12 +1,13 @@
 -- The longest piece at each place of a text, and what the loops that fill its table keep (document 01, "Pieces, C(4) and cuts").
 -- The loops know nothing of relation words: a piece at place p is a common prefix of the text at p and at some other place.
 use Prim.Native.Nat.{ℕ, zero, suc, _+_, _-_, _<_, _≤_, max}
-use mathlib.Core.Bool.{Bool, cond}
+use mathlib.Core.Bool.{cond}
 use mathlib.Core.List.{List}
 use mathlib.Core.Path.{_≡_}
-use lib.Dec.{eqb, leb}
+use lib.Dec.{eqb}
 use lib.ListN.{length, getD, drop}
 use Rattle.words.specs.Words.{commonPrefix}
+use Rattle.layout.specs.Places.{wordMost, textRoom}
 
 -- the greatest of the n values of f from a on, or 0
 unfoldable pub most : (ℕ → ℕ) → ℕ → ℕ → ℕ
@@ -30,13 +31,13 @@ abbrev pub entry : List ℕ → List ℕ → ℕ → ℕ → ℕ
 entry text row x q = next x (getD text q 0) (getD row (q + 1) 0)
 
 -- the pass over places `from` to `to` stays in the row, and its numbers in a byte
-pub record Room (text row : List ℕ) (x from to : ℕ) : Type 0 where
+pub record PassRoom (text row : List ℕ) (x from to : ℕ) : Type 0 where
   pub upwards : from ≤ to
   pub inside : to ≤ length text
   pub further : length text < length row
   pub small : (q : ℕ) → from ≤ q → q < to → entry text row x q ≤ 255
 
--- the pass has put the next runs at places `from` to `to`, has kept the others, and the greatest of them is `best`
+-- the pass has put the common prefixes of the letter x at places `from` to `to`, of which the greatest is `best`, and has kept the other numbers
 pub record Passed (text row : List ℕ) (x from to : ℕ) (after : List ℕ) (best : ℕ) : Type 0 where
   pub long : length after ≡ length row
   pub made : (q : ℕ) → from ≤ q → q < to → getD after q 0 ≡ entry text row x q
@@ -44,9 +45,9 @@ pub record Passed (text row : List ℕ) (x from to : ℕ) (after : List ℕ) (be
   pub above : (q : ℕ) → to ≤ q → getD after q 0 ≡ getD row q 0
   pub greatest : best ≡ most (entry text row x) from (to - from)
 
--- no common prefix of two places is longer than 64 letters
+-- no common prefix of two places is longer than a relation word can be
 pub record Bounded (text : List ℕ) : Type 0 where
-  pub most64 : (p q : ℕ) → (p ≡ q → ⊥) → shared text p q ≤ 64
+  pub short : (p q : ℕ) → (p ≡ q → ⊥) → shared text p q ≤ wordMost
 
 -- the row has the common prefix of the text at p and at each other place
 pub record RowOf (text : List ℕ) (p : ℕ) (row : List ℕ) : Type 0 where
@@ -69,24 +70,10 @@ pub record Advanced (text : List ℕ) (p : ℕ) (row after : List ℕ) (best : �
 -- the text is short enough for the loops' row, and the table long enough for the text
 pub record Space (text longest : List ℕ) : Type 0 where
   pub bounded : Bounded text
-  pub short : length text ≤ 4160
+  pub short : length text ≤ textRoom
   pub room : length text ≤ length longest
 
 -- the table has the longest piece at each place of the text
 pub record Tabled (text longest : List ℕ) : Type 0 where
   pub room : length text ≤ length longest
   pub at : (p : ℕ) → p < length text → getD longest p 0 ≡ longestAt text p
-
--- the test for a piece by the table: m letters, from place a of the word that starts at `start`
-abbrev pub held : List ℕ → ℕ → ℕ → ℕ → Bool
-held longest start a m = leb m (getD longest (start + a) 0)
-
--- the table has a place for each letter of a word of n letters, and for its fence
-pub record Span (longest : List ℕ) (start n : ℕ) : Type 0 where
-  pub inside : start + n < length longest
-
--- two cut points of that word
-pub record Parts (longest : List ℕ) (start n i j : ℕ) : Type 0 where
-  pub inside : start + n < length longest
-  pub low : i ≤ j
-  pub high : j ≤ n
