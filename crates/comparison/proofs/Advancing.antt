@@ -14,8 +14,8 @@ use Rattle.congruence.proofs.Heads.{Facts}
 use Rattle.congruence.proofs.ShapeNoPrefix.{quiet-nil, quiet-drop, quiet-z, prefix-past-quiet}
 use Rattle.layout.specs.Layout.{part}
 use Rattle.layout.proofs.Parts.{part-none, part-drop}
-use Rattle.rounds.specs.declared.Change.{Change}
-use Rattle.rounds.specs.Plans.{applied, Fit, MarkFit}
+use Rattle.plans.specs.declared.Change.{Change}
+use Rattle.plans.specs.Plans.{applied, Fit, MarkFit}
 use Rattle.comparison.specs.declared.Held.{Held}
 use Rattle.comparison.specs.declared.Mark.{Mark}
 use Rattle.comparison.specs.State.{heldWord, markWord, HeldFit, MarkHeld, advancedOf, advancedMark}

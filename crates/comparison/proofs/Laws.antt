@@ -18,11 +18,12 @@ use Rattle.congruence.specs.Rounds.Answer.{same}
 use Rattle.congruence.proofs.Heads.{Facts}
 use Rattle.congruence.proofs.ShapeNoPrefix.{quiet-nil}
 use Rattle.layout.specs.Layout.{part, wordsIn}
-use Rattle.rounds.specs.declared.Change.{Change}
-use Rattle.rounds.specs.declared.Plan.{Plan}
-use Rattle.rounds.specs.declared.Plan.the-variants as Plans
-use Rattle.rounds.specs.Plans.{planned, Fit, MarkFit, PlanFit, Decided, Paired}
-use Rattle.rounds.specs.Plans.PlanFit.{goes}
+use Rattle.plans.specs.declared.Change.{Change}
+use Rattle.plans.specs.declared.Plan.{Plan}
+use Rattle.plans.specs.declared.Plan.the-variants as Plans
+use Rattle.rows.specs.Sites.{Paired}
+use Rattle.plans.specs.Plans.{planned, Fit, MarkFit, PlanFit, PlansRound}
+use Rattle.plans.specs.Plans.PlanFit.{goes}
 use Rattle.format.specs.declared.Refusal.{Refusal}
 use Rattle.format.specs.declared.Refusal.the-variants.{Spent}
 use Rattle.given.specs.declared.Given.{Given}
@@ -66,11 +67,11 @@ pub rest-lent : (source : Word) (from : ℕ) → take (length source - from) (dr
 rest-lent source from = take-all (length source - from) (drop from source) (omega (arith, length-drop from source))
 
 pub plan-held : (text table : List ℕ) (n : ℕ) (first second : Word) (s : State) (r : Plan)
-    → Decided text table n
+    → PlansRound text table n
     (part text (s .u .at) (s .u .to) ++ take (length first - s .u .from) (drop (s .u .from) first))
     (part text (s .v .at) (s .v .to) ++ take (length second - s .v .from) (drop (s .v .from) second))
     (part text (s .mark .at) (s .mark .to)) r
-    → Decided text table n (heldWord text first (s .u)) (heldWord text second (s .v)) (markWord text (s .mark)) r
+    → PlansRound text table n (heldWord text first (s .u)) (heldWord text second (s .v)) (markWord text (s .mark)) r
 plan-held text table n first second s r d = rw (rest-lent first (s .u .from), rest-lent second (s .v .from)) at d
 
 -- the lent parts lie in what they are parts of
@@ -174,7 +175,7 @@ module _ (text table : List ℕ) (n : ℕ) (first second : Word) (s : State) (p 
       let hm = mark-advanced text (wordsIn text table n) (s .mark) (p .standing .mark) cp c in
       record { same = rw (hu .same, hv .same, hm .same) e; stands = record { u = hu .fit; v = hv .fit; mark = hm .fit } }
 
-  module _ (plan : Plan) (d : Decided text table n (heldWord text first (s .u)) (heldWord text second (s .v)) (markWord text (s .mark)) plan) where
+  module _ (plan : Plan) (d : PlansRound text table n (heldWord text first (s .u)) (heldWord text second (s .v)) (markWord text (s .mark)) plan) where
     pub move-applicable : Applicable s plan
     unfolding words
     move-applicable = applicable plan (d .fits)

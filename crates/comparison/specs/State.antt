@@ -10,10 +10,10 @@ use Rattle.congruence.specs.Rows.{Next, round}
 use Rattle.congruence.specs.Rows.Next.{end, go}
 use Rattle.congruence.specs.NoRelationPrefix.{NoRelationPrefix}
 use Rattle.layout.specs.Layout.{part, wordsIn}
-use Rattle.rounds.specs.declared.Change.{Change}
-use Rattle.rounds.specs.declared.Plan.{Plan}
-use Rattle.rounds.specs.declared.Plan.the-variants as Plans
-use Rattle.rounds.specs.Plans.{Paired}
+use Rattle.plans.specs.declared.Change.{Change}
+use Rattle.plans.specs.declared.Plan.{Plan}
+use Rattle.plans.specs.declared.Plan.the-variants as Plans
+use Rattle.rows.specs.Sites.{Paired}
 use Rattle.comparison.specs.declared.Held.{Held}
 use Rattle.comparison.specs.declared.Mark.{Mark}
 use Rattle.comparison.specs.declared.State.{State}

@@ -3,15 +3,15 @@
 ghost use mathlib.Core.Path.{_≡_};
 ghost use Prim.Native.Nat.{_+_, _-_, _<_, _≤_};
 ghost use mathlib.Core.List.{[]};
-ghost use Rattle.rounds.specs.Plans.{Decided};
+ghost use Rattle.plans.specs.Plans.{PlansRound};
 ghost use Rattle.layout.specs.Layout.{wordsIn};
 ghost use Rattle.comparison.specs.State.{beyondOf, Movable, advancedOf, MarkMovable, advancedMark, heldWord, markWord, Ready, Fitting, Poised, Applicable, movedOf, Moving};
 ghost use Rattle.comparison.specs.Runs.{Progressed};
 ghost use Rattle.comparison.specs.Comparing.{comparisonOf, answerOf};
 use format::Refusal;
 use given::Given;
-use rounds::Change;
-use rounds::Plan;
+use plans::Change;
+use plans::Plan;
 
 // A word: text[at..to], then the given word from `from` on.
 pub struct Held {
@@ -110,7 +110,7 @@ fn advance_mark(m: Mark, c: Change) -> Mark
 // What the round of a state does, over its words as they are held.
 fn plan_of(text: &[u8], table: &[u16], n: usize, first: &[u8], second: &[u8], s: State) -> Plan
     requires { ⌜ Poised (now text) (now table) n (now first) (now second) s ⌝ }
-    ensures { λ r. ⌜ Decided (now (text .entry)) (now (table .entry)) n (heldWord (now (text .entry)) (now (first .entry)) (s .u)) (heldWord (now (text .entry)) (now (second .entry)) (s .v)) (markWord (now (text .entry)) (s .mark)) r ⌝ }
+    ensures { λ r. ⌜ PlansRound (now (text .entry)) (now (table .entry)) n (heldWord (now (text .entry)) (now (first .entry)) (s .u)) (heldWord (now (text .entry)) (now (second .entry)) (s .v)) (markWord (now (text .entry)) (s .mark)) r ⌝ }
 {
     let u = s.u;
     let v = s.v;
@@ -123,7 +123,7 @@ fn plan_of(text: &[u8], table: &[u16], n: usize, first: &[u8], second: &[u8], s:
     let v_from = v.from;
     let mark_at = mark.at;
     let mark_to = mark.to;
-    rounds::decide(
+    plans::decide(
         text,
         table,
         n,

@@ -4,6 +4,7 @@ use Prim.Native.Nat.{ℕ, _≤_, _<_}
 use mathlib.Core.Bool.{Bool, true, false, _&&_, _||_, not, true≢false, and-eq-true-iff, and-assoc}
 use mathlib.Core.List.{List, [], _∷_, _++_}
 use mathlib.Core.Path.{_≡_, refl, sym, ap, _∙_}
+use native.Mathlib.Omega.{arith}
 use lib.Dec.{eqb, leb}
 use borrow.Author.Tests.{leb-true, leb-false, not-true, not-false}
 use lib.ListN.{length, drop, take-append-drop}
@@ -115,3 +116,36 @@ module _ (B : List Word) (i j : ℕ) (u v p : Word) where
 pub fits : (B : List Word) (u v p : Word) → Fits B (cleanRelationPrefix B u) (otherWord B u) u v p (firstRow B u v p)
 unfolding firstRow
 fits B u v p = fits-row B (cleanRelationPrefix B u) (otherWord B u) u v p (cleanRelationPrefix-passes B u)
+
+-- what the number says of u and v: below row 3 none of the relation words matters, and from row 3 on u has a clean relation prefix
+module _ {B : List Word} {i j : ℕ} {u v p : Word} where
+  pub prefix-of-fits : {row : ℕ} → Fits B i j u v p row → 2 < row → CleanPrefix B u i
+  prefix-of-fits (fits1 e) h = absurd (omega arith)
+  prefix-of-fits (fits2 a b l) h = absurd (omega arith)
+  prefix-of-fits (fits3 c q) h = c
+  prefix-of-fits (fits4 c m q r) h = c
+  prefix-of-fits (fits5 c m q w) h = c
+  prefix-of-fits (fits6 c m a z w) h = c
+  prefix-of-fits (fits7 c m a w y z) h = c
+  prefix-of-fits (fits8 c m a w y z) h = c
+
+  pub row-of-prefix : {row : ℕ} → Fits B i j u v p row → isEmpty u ≡ false → isEmpty v ≡ false → i < length B → 2 < row
+  row-of-prefix (fits1 e) a b l = absurd (true≢false (sym e ∙ rw (a, b)))
+  row-of-prefix (fits2 x y k) a b l = absurd (omega arith)
+  row-of-prefix (fits3 c q) a b l = omega arith
+  row-of-prefix (fits4 c m q r) a b l = omega arith
+  row-of-prefix (fits5 c m q w) a b l = omega arith
+  row-of-prefix (fits6 c m x z w) a b l = omega arith
+  row-of-prefix (fits7 c m x w y z) a b l = omega arith
+  row-of-prefix (fits8 c m x w y z) a b l = omega arith
+
+  -- row 8 is the last one
+  pub row-eight : {row : ℕ} → Fits B i j u v p row → (row ≡ 1 → ⊥) → (row ≡ 2 → ⊥) → (row ≡ 3 → ⊥) → (row ≡ 4 → ⊥) → (row ≡ 5 → ⊥) → (row ≡ 6 → ⊥) → (row ≡ 7 → ⊥) → row ≡ 8
+  row-eight (fits1 e) h1 h2 h3 h4 h5 h6 h7 = absurd (h1 refl)
+  row-eight (fits2 a b l) h1 h2 h3 h4 h5 h6 h7 = absurd (h2 refl)
+  row-eight (fits3 c q) h1 h2 h3 h4 h5 h6 h7 = absurd (h3 refl)
+  row-eight (fits4 c m q r) h1 h2 h3 h4 h5 h6 h7 = absurd (h4 refl)
+  row-eight (fits5 c m q w) h1 h2 h3 h4 h5 h6 h7 = absurd (h5 refl)
+  row-eight (fits6 c m a z w) h1 h2 h3 h4 h5 h6 h7 = absurd (h6 refl)
+  row-eight (fits7 c m a w y z) h1 h2 h3 h4 h5 h6 h7 = absurd (h7 refl)
+  row-eight (fits8 c m a w y z) h1 h2 h3 h4 h5 h6 h7 = refl

@@ -11,7 +11,7 @@ use Rattle.words.specs.Words.{Word}
 use Rattle.words.proofs.Segments.{Same, same-sym, same-sub}
 use Rattle.overlap.specs.Cuts.{xlen, xylen}
 use Rattle.congruence.proofs.Heads.{Facts, Head, Prefix, Whole, Clean, head-shorter, head-move, one-word, reach, behind, clear}
-use Rattle.congruence.proofs.RowTests.{clean-or-crowded}
+use Rattle.congruence.proofs.RowTests.{clean-or-between}
 
 -- a head, X and one letter, begins inside XY of k at d and ends before p
 pub record Marked (B : List Word) (u : Word) (d k p : ℕ) : Type 0 where
@@ -71,7 +71,7 @@ module _ {B : List Word} where
               within = omega arith;
               at = head-shorter (x .4) (suc (xlen B (x .1))) (omega arith);
             })
-            (clean-or-crowded R f)
+            (clean-or-between R f)
 
     -- a guard goes on to a relation word behind XY, where a prefix that begins inside XY reaches past the relation word's beginning
     pub guard-further : {u : Word} {p i q j b l : ℕ} → Guard B u p → Prefix B u p i → Prefix B u q j → (p < q) × (q < p + xylen B i) → Whole B u b l → p + xylen B i ≤ b

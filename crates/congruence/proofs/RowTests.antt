@@ -82,29 +82,29 @@ module _ {B : List Word} where
     pub stands-of-prefix : {u : Word} {q j : ℕ} → Prefix B u q j → hasRelationPrefixAt B u q ≡ true
     stands-of-prefix {u} {q} {j} h = stands-of-test B u q j (h .there) (test-of-head h)
 
-    -- crowded: some XY begins from lo on and below hi
-    pub crowded-found : (u : Word) (lo hi : ℕ) → hasRelationPrefixBetween B u lo hi ≡ true → (q : ℕ) × (j : ℕ) × (lo ≤ q) × (q < hi) × Prefix B u q j
+    -- between: some XY begins from lo on and below hi
+    pub between-found : (u : Word) (lo hi : ℕ) → hasRelationPrefixBetween B u lo hi ≡ true → (q : ℕ) × (j : ℕ) × (lo ≤ q) × (q < hi) × Prefix B u q j
     unfolding hasRelationPrefixBetween
-    crowded-found u lo hi e =
+    between-found u lo hi e =
         let f = any-found hi (λ q. leb lo q && hasRelationPrefixAt B u q) e in
         let r = simp and-eq-true-iff at (f .2) in
         let s = stands-found u (f .0) (r .1) in
         (f .0, s .0, leb-true lo (f .0) (r .0), f .1, s .1)
 
-    pub crowded-of-prefix : {u : Word} {q j : ℕ} (lo hi : ℕ) → (lo ≤ q) × (q < hi) → Prefix B u q j → hasRelationPrefixBetween B u lo hi ≡ true
+    pub between-of-prefix : {u : Word} {q j : ℕ} (lo hi : ℕ) → (lo ≤ q) × (q < hi) → Prefix B u q j → hasRelationPrefixBetween B u lo hi ≡ true
     unfolding hasRelationPrefixBetween
-    crowded-of-prefix {u} {q} {j} lo hi c h = any-of hi (λ q. leb lo q && hasRelationPrefixAt B u q) q (c .1) (simp and-eq-true-iff (le-leb lo q (c .0), stands-of-prefix h))
+    between-of-prefix {u} {q} {j} lo hi c h = any-of hi (λ q. leb lo q && hasRelationPrefixAt B u q) q (c .1) (simp and-eq-true-iff (le-leb lo q (c .0), stands-of-prefix h))
 
-    pub crowded-none : (u : Word) (lo hi : ℕ) → hasRelationPrefixBetween B u lo hi ≡ false → (q j : ℕ) → (lo ≤ q) × (q < hi) → Prefix B u q j → ⊥
-    crowded-none u lo hi e q j c h = true≢false (sym (crowded-of-prefix lo hi c h) ∙ e)
+    pub between-none : (u : Word) (lo hi : ℕ) → hasRelationPrefixBetween B u lo hi ≡ false → (q j : ℕ) → (lo ≤ q) × (q < hi) → Prefix B u q j → ⊥
+    between-none u lo hi e q j c h = true≢false (sym (between-of-prefix lo hi c h) ∙ e)
 
     -- XY at a place is clean, or another XY begins inside it
-    pub clean-or-crowded : {u : Word} {p i : ℕ} → Prefix B u p i → Clean B u p i ⊎ ((q : ℕ) × (j : ℕ) × (p < q) × (q < p + xylen B i) × Prefix B u q j)
-    clean-or-crowded {u} {p} {i} h = go (hasRelationPrefixBetween B u (p + 1) (p + xylen B i)) refl
+    pub clean-or-between : {u : Word} {p i : ℕ} → Prefix B u p i → Clean B u p i ⊎ ((q : ℕ) × (j : ℕ) × (p < q) × (q < p + xylen B i) × Prefix B u q j)
+    clean-or-between {u} {p} {i} h = go (hasRelationPrefixBetween B u (p + 1) (p + xylen B i)) refl
       where
         go : (b : Bool) → hasRelationPrefixBetween B u (p + 1) (p + xylen B i) ≡ b → Clean B u p i ⊎ ((q : ℕ) × (j : ℕ) × (p < q) × (q < p + xylen B i) × Prefix B u q j)
-        go true e = let f = crowded-found u (p + 1) (p + xylen B i) e in inr (f .0, f .1, omega (arith, f .2), f .3, f .4)
-        go false e = inl (record { at = h; only = λ q j a b f. crowded-none u (p + 1) (p + xylen B i) e q j (omega arith) f })
+        go true e = let f = between-found u (p + 1) (p + xylen B i) e in inr (f .0, f .1, omega (arith, f .2), f .3, f .4)
+        go false e = inl (record { at = h; only = λ q j a b f. between-none u (p + 1) (p + xylen B i) e q j (omega arith) f })
 
     -- clean: document 01 looks behind X only, and nothing can begin before
     pub clean-of-test : (u : Word) (i : ℕ) → i < length B → clean B u i ≡ true → Clean B u 0 i
@@ -112,14 +112,14 @@ module _ {B : List Word} where
     clean-of-test u i h e =
         let r = simp and-eq-true-iff at e in
         let f = prefix-of-test u 0 i h (r .0) in
-        record { at = f; only = λ q j a b g. let c = behind R f g a in crowded-none u (xlen B i + 1) (xylen B i) (not-true (hasRelationPrefixBetween B u (xlen B i + 1) (xylen B i)) (r .1)) q j (omega arith) g }
+        record { at = f; only = λ q j a b g. let c = behind R f g a in between-none u (xlen B i + 1) (xylen B i) (not-true (hasRelationPrefixBetween B u (xlen B i + 1) (xylen B i)) (r .1)) q j (omega arith) g }
 
     pub test-of-clean : {u : Word} {i : ℕ} → Clean B u 0 i → clean B u i ≡ true
     unfolding clean
     test-of-clean {u} {i} h = simp and-eq-true-iff (test-of-head (h .at), ap not (false-of (hasRelationPrefixBetween B u (xlen B i + 1) (xylen B i)) none))
       where
         none : hasRelationPrefixBetween B u (xlen B i + 1) (xylen B i) ≡ true → ⊥
-        none e = let f = crowded-found u (xlen B i + 1) (xylen B i) e in h .only (f .0) (f .1) (omega (arith, f .2)) (omega (arith, f .3)) (f .4)
+        none e = let f = between-found u (xlen B i + 1) (xylen B i) e in h .only (f .0) (f .1) (omega (arith, f .2)) (omega (arith, f .3)) (f .4)
 
     -- cleanFront: the one clean relation prefix, if there is one
     pub cleanRelationPrefix-clean : (u : Word) → cleanRelationPrefix B u < length B → Clean B u 0 (cleanRelationPrefix B u)
@@ -135,8 +135,8 @@ module _ {B : List Word} where
     -- active: some XY begins in z t before the end of z
     pub active-found : (z t : Word) → active B z t ≡ true → (d : ℕ) × (j : ℕ) × (d < length z) × Prefix B (z ++ t) d j
     unfolding active
-    active-found z t e = let f = crowded-found (z ++ t) 0 (length z) e in (f .0, f .1, f .3, f .4)
+    active-found z t e = let f = between-found (z ++ t) 0 (length z) e in (f .0, f .1, f .3, f .4)
 
     pub active-none : (z t : Word) → active B z t ≡ false → (d j : ℕ) → d < length z → Prefix B (z ++ t) d j → ⊥
     unfolding active
-    active-none z t e d j h f = crowded-none (z ++ t) 0 (length z) e d j (omega arith) f
+    active-none z t e d j h f = between-none (z ++ t) 0 (length z) e d j (omega arith) f

@@ -11,7 +11,7 @@ use Rattle.words.specs.Words.{Word}
 use Rattle.overlap.specs.Cuts.{xylen, xyOf}
 use Rattle.congruence.specs.Rows.{hasRelationPrefixAt}
 use Rattle.congruence.proofs.Heads.{Facts, Prefix, Whole, Clean, one-word, prefix-of-whole}
-use Rattle.congruence.proofs.RowTests.{stands-found, stands-of-prefix, clean-or-crowded}
+use Rattle.congruence.proofs.RowTests.{stands-found, stands-of-prefix, clean-or-between}
 use Rattle.congruence.proofs.Places.{split-longer, product-of-prefix, whole-in-product}
 use Rattle.congruence.proofs.Chains.{Chain, chain-behind, chain-from}
 use Rattle.congruence.proofs.Chains.Chain.{stop, step}
@@ -42,7 +42,7 @@ module _ {B : List Word} (R : Facts B) where
           let f = stands-found R u p e in
           ⊎-elim (λ c. inl (f .0, c))
           (λ x. inr (λ i c. c .only (x .0) (x .1) (x .2) (subst (λ (n : ℕ). x .0 < p + xylen B n) (one-word R (f .1) (c .at)) (x .3)) (x .4)))
-          (clean-or-crowded R (f .1))
+          (clean-or-between R (f .1))
       go false e = inr (λ i c. true≢false (sym (stands-of-prefix R (c .at)) ∙ e))
 
   pub first-below : (u : Word) (n : ℕ) → First B u ⊎ ((d k : ℕ) → d < n → Clean B u d k → ⊥)
@@ -62,7 +62,7 @@ module _ {B : List Word} (R : Facts B) where
       go (suc n) p i f h = ⊎-elim
           (λ c. (p, i, c))
           (λ x. go n (x .0) (x .1) (x .4) (let a = x .2 in let b = x .4 .fits in let s = R .some (x .1) (x .4 .there) in omega arith))
-          (clean-or-crowded R f)
+          (clean-or-between R f)
 
   -- the first clean relation prefix, or no XY at all (Corollary 1)
   pub first-or-none : (u : Word) → First B u ⊎ ((d k : ℕ) → Prefix B u d k → ⊥)

@@ -13,7 +13,7 @@ use Rattle.overlap.specs.Pieces.{word}
 use Rattle.overlap.specs.Cuts.{xylen, xyOf, zOf}
 use Rattle.overlap.proofs.Facts.{length-xy}
 use Rattle.congruence.proofs.Heads.{Facts, Prefix, Whole, Clean, head-move, one-word, clean-of-whole, prefix-of-whole}
-use Rattle.congruence.proofs.RowTests.{clean-or-crowded}
+use Rattle.congruence.proofs.RowTests.{clean-or-between}
 use Rattle.congruence.proofs.Places.{split-longer, split-same, same-lefts, xy-z, whole-in-product}
 use Rattle.congruence.proofs.Chains.{Kin, Step, Chain, kin-refl, kin-trans, chain-join, chain-behind, chain-from, chain-to, chain-turn, chain-of-eq}
 use Rattle.congruence.proofs.Chains.Chain.{stop, step}
@@ -91,7 +91,7 @@ module _ {B : List Word} {fam : ℕ → ℕ} where
           go (c .0) (c .1) (c .2) (head-move (h .at) (same-sub agree (omega arith)) (omega arith)) (guard-move g (same-sub agree (omega arith)) (omega arith))
         where
           go : (m : Word) → x .before ≡ (w ++ xyOf B i) ++ m → s ≡ m ++ (word B (x .by) ++ x .after) → Prefix B u₁ (length w) i → Guard B u₁ (length w) → Kept B fam w i s v
-          go m a b f g₁ = ⊎-elim still-clean now-crowded (clean-or-crowded R f)
+          go m a b f g₁ = ⊎-elim still-clean now-between (clean-or-between R f)
             where
               moved : (t : Word) → x .before ++ t ≡ w ++ (xyOf B i ++ (m ++ t))
               moved t = ap (_++ t) a ∙ append-assoc (w ++ xyOf B i) m t ∙ append-assoc w (xyOf B i) (m ++ t)
@@ -126,8 +126,8 @@ module _ {B : List Word} {fam : ℕ → ℕ} where
                     track = quit refl (chain-join inside (chain-behind m (chain-from (sym (xy-z B (x .into) (x .after))) (chain-of-track (done .track)))));
                   }
 
-              now-crowded : (q : ℕ) × (j : ℕ) × (length w < q) × (q < length w + xylen B i) × Prefix B u₁ q j → Kept B fam w i s v
-              now-crowded c = beyond
+              now-between : (q : ℕ) × (j : ℕ) × (length w < q) × (q < length w + xylen B i) × Prefix B u₁ q j → Kept B fam w i s v
+              now-between c = beyond
                   (later (x .before) (x .into) (zOf B (x .into) ++ x .after)
                   (sym (x .to) ∙ ap (x .before ++_) (sym (xy-z B (x .into) (x .after))))
                   (guard-further R g₁ f (c .4) (c .2, c .3) now l past)

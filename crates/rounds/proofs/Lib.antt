@@ -1,10 +1,1 @@
-pub mod Sites
-pub mod RowNumbers
-pub mod Cleans
-pub mod Carried
-pub mod Decides
-pub mod Laws
-pub mod Ends
-pub mod PlanLaws
-pub mod Finals
 pub mod Writes

@@ -14,13 +14,14 @@ use Rattle.words.specs.Words.{Word}
 use Rattle.words.proofs.Lists.{part-length}
 use Rattle.congruence.specs.Rows.{round}
 use Rattle.layout.specs.Layout.{part, wordsIn}
-use Rattle.rounds.specs.declared.Change.{Change}
-use Rattle.rounds.specs.declared.Plan.{Plan}
-use Rattle.rounds.specs.declared.Plan.the-variants.{End, Go}
+use Rattle.plans.specs.declared.Change.{Change}
+use Rattle.plans.specs.declared.Plan.{Plan}
+use Rattle.plans.specs.declared.Plan.the-variants.{End, Go}
 use Rattle.rounds.specs.declared.RoundLengths.{RoundLengths}
 use Rattle.rounds.specs.declared.RoundLengths.the-variants as S
-use Rattle.rounds.specs.Plans.{planned, Fit, MarkFit, PlanFit, Paired, Decided}
-use Rattle.rounds.specs.Plans.PlanFit.{goes}
+use Rattle.rows.specs.Sites.{Paired}
+use Rattle.plans.specs.Plans.{planned, Fit, MarkFit, PlanFit, PlansRound}
+use Rattle.plans.specs.Plans.PlanFit.{goes}
 use Rattle.rounds.specs.Writing.{over, writtenBy, copied, Writable, Written, Changes, Planned, Lent}
 use Rattle.rounds.specs.Writing.Outcome.{after}
 
@@ -160,7 +161,7 @@ mark-writable text B p d c f h r =
     record { up = f .up; inside = f .inside; within = f .within; room = omega arith }
 
 -- the single round
-module _ (text table : List ℕ) (n : ℕ) (u v p a c d : List ℕ) (h : Lent text table n u v p a c d) (plan : Plan) (q : Decided text table n u v p plan) where
+module _ (text table : List ℕ) (n : ℕ) (u v p a c d : List ℕ) (h : Lent text table n u v p a c d) (plan : Plan) (q : PlansRound text table n u v p plan) where
   pub round-planned : Planned text plan u v p a c d
   round-planned = record {
     changes = λ cu cv cp e.

@@ -1,3 +1,1 @@
-pub mod Plans
-pub mod Numbers
 pub mod Writing

@@ -7,12 +7,13 @@ use lib.Seq.{paste}
 use Rattle.words.specs.Words.{Word}
 use Rattle.congruence.specs.Rows.{Next}
 use Rattle.congruence.specs.Rows.Next.{end, go}
-use Rattle.rounds.specs.declared.Change.{Change}
-use Rattle.rounds.specs.declared.Plan.{Plan}
-use Rattle.rounds.specs.declared.Plan.the-variants.{Go}
+use Rattle.plans.specs.declared.Change.{Change}
+use Rattle.plans.specs.declared.Plan.{Plan}
+use Rattle.plans.specs.declared.Plan.the-variants.{Go}
 use Rattle.rounds.specs.declared.RoundLengths.{RoundLengths}
 use Rattle.rounds.specs.declared.RoundLengths.the-variants as S
-use Rattle.rounds.specs.Plans.{applied, Paired}
+use Rattle.rows.specs.Sites.{Paired}
+use Rattle.plans.specs.Plans.{applied}
 
 -- an outcome, and the buffers for u, v and p after it
 pub data Outcome : Type 0 where

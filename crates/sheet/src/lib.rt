@@ -17,21 +17,21 @@ fn x_length(table: &[u16], i: usize) -> u8
     requires { ⌜ CutsIn (now table) i ⌝ }
     ensures { λ r. ⌜ r ≡ xAt (now (table .entry)) i ⌝ }
 {
-    between(index::start_of(table, i), index::x_end_of(table, i))
+    between(layout::start_of(table, i), layout::x_end_of(table, i))
 }
 
 fn y_length(table: &[u16], i: usize) -> u8
     requires { ⌜ CutsIn (now table) i ⌝ }
     ensures { λ r. ⌜ r ≡ yAt (now (table .entry)) i ⌝ }
 {
-    between(index::x_end_of(table, i), index::z_start_of(table, i))
+    between(layout::x_end_of(table, i), layout::z_start_of(table, i))
 }
 
 fn z_length(table: &[u16], i: usize) -> u8
     requires { ⌜ CutsIn (now table) i ⌝ }
     ensures { λ r. ⌜ r ≡ zAt (now (table .entry)) i ⌝ }
 {
-    between(index::z_start_of(table, i), index::end_of(table, i))
+    between(layout::z_start_of(table, i), layout::end_of(table, i))
 }
 
 // Writes the lengths of relation word i in their place.

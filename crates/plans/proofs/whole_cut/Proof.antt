@@ -1,0 +1,13 @@
+use Rattle.plans.proofs.Laws.{wholes}
+use Rattle.plans.proofs.whole_cut.Statement.{statement}
+use Rattle.plans.proofs.whole_cut.Tie as tie
+
+pub whole-cut-spec : {M : Type 1} → statement M
+whole-cut-spec =
+    tie.close
+    (tie.spec
+    (λ c κs. search wholes)
+    (λ c. search wholes)
+    (λ c. search wholes)
+    (λ c. search wholes)
+    (λ c. search wholes))

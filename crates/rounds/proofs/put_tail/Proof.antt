@@ -1,9 +1,0 @@
-use Rattle.rounds.proofs.PlanLaws.{changesMade}
-use Rattle.rounds.proofs.put_tail.Statement.{statement}
-use Rattle.rounds.proofs.put_tail.Tie as tie
-
-pub put-tail-spec : {M : Type 1} → statement M
-put-tail-spec =
-    tie.close
-    (tie.spec
-    (λ c. search changesMade))

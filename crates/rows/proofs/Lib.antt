@@ -1,0 +1,4 @@
+pub mod Sites
+pub mod CleanPrefixes
+pub mod Shapes
+pub mod Laws

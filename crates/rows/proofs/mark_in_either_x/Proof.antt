@@ -1,0 +1,12 @@
+use Rattle.rows.proofs.Laws.{eitherMarks}
+use Rattle.rows.proofs.mark_in_either_x.Statement.{statement}
+use Rattle.rows.proofs.mark_in_either_x.Tie as tie
+
+pub mark-in-either-x-spec : {M : Type 1} → statement M
+mark-in-either-x-spec =
+    tie.close
+    (tie.spec
+    (λ c κs. search eitherMarks)
+    (λ c. search eitherMarks)
+    (λ c κs. search eitherMarks)
+    (λ c. search eitherMarks))
