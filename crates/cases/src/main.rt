@@ -14,8 +14,8 @@ use comparison::Comparison;
 use entries::Round;
 use entries::Verdict;
 use format::Reading;
-use format::Refusal;
-use format::Relation;
+use refusals::Refusal;
+use limits::Relation;
 use libc::STDIN_FILENO;
 use libc::STDOUT_FILENO;
 

@@ -24,13 +24,13 @@ use Rattle.plans.specs.declared.Plan.the-variants as Plans
 use Rattle.rows.specs.Sites.{Paired}
 use Rattle.plans.specs.Plans.{planned, Fit, MarkFit, PlanFit, PlansRound}
 use Rattle.plans.specs.Plans.PlanFit.{goes}
-use Rattle.format.specs.declared.Refusal.{Refusal}
-use Rattle.format.specs.declared.Refusal.the-variants.{Spent}
+use Rattle.refusals.specs.declared.Refusal.{Refusal}
+use Rattle.refusals.specs.declared.Refusal.the-variants.{Spent}
 use Rattle.given.specs.declared.Given.{Given}
 use Rattle.given.specs.declared.Given.the-variants as Words
 use Rattle.given.specs.Given.{givenOf, pairOf}
 use Rattle.given.proofs.Laws.{fine-short, fine-both}
-use Rattle.format.specs.Limits.{comparedMost}
+use Rattle.limits.specs.Limits.{comparedMost}
 use Rattle.comparison.specs.declared.Held.{Held}
 use Rattle.comparison.specs.declared.Mark.{Mark}
 use Rattle.comparison.specs.declared.State.{State}

@@ -5,7 +5,7 @@ use mathlib.Core.List.{List}
 use Rattle.words.specs.Words.{Word}
 use Rattle.congruence.specs.Rounds.{Answer, compareUnder}
 use Rattle.congruence.specs.Rounds.Answer.{same, different, spent}
-use Rattle.format.specs.declared.Refusal.the-variants.{Spent}
+use Rattle.refusals.specs.declared.Refusal.the-variants.{Spent}
 use Rattle.given.specs.declared.Given.{Given}
 use Rattle.given.specs.declared.Given.the-variants as Words
 use Rattle.given.specs.Given.{pairOf}

@@ -8,7 +8,7 @@ ghost use Rattle.layout.specs.Layout.{wordsIn};
 ghost use Rattle.comparison.specs.State.{beyondOf, Movable, advancedOf, MarkMovable, advancedMark, heldWord, markWord, Ready, Fitting, Poised, Applicable, movedOf, Moving};
 ghost use Rattle.comparison.specs.Runs.{Progressed};
 ghost use Rattle.comparison.specs.Comparing.{comparisonOf, answerOf};
-use format::Refusal;
+use refusals::Refusal;
 use given::Given;
 use plans::Change;
 use plans::Plan;

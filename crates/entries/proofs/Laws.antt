@@ -13,13 +13,13 @@ use mir.Syntax.{w64}
 use Rattle.words.specs.Words.{Word}
 use Rattle.words.specs.Relations.{relationWords}
 use Rattle.layout.specs.Layout.{wordsIn}
-use Rattle.format.specs.declared.Refusal.{Refusal}
-use Rattle.format.specs.declared.Refusal.the-variants.{Narrow}
+use Rattle.refusals.specs.declared.Refusal.{Refusal}
+use Rattle.refusals.specs.declared.Refusal.the-variants.{Narrow}
 use Rattle.format.specs.declared.Reading.{Reading}
 use Rattle.format.specs.declared.Reading.the-variants.{Read, Refused}
 use Rattle.congruence.specs.Rows.{Next, round}
 use Rattle.congruence.specs.Rows.Next.{end, go}
-use Rattle.format.specs.Limits.{roundMost, markMost, nextRoom}
+use Rattle.limits.specs.Limits.{roundMost, markMost, nextRoom}
 use Rattle.rounds.specs.Writing as Writing
 use Rattle.rounds.specs.Writing.{writtenBy, Lent}
 use Rattle.presentation.specs.Loading.{Holding, Memory, BookLoaded}

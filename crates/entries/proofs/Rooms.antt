@@ -3,8 +3,8 @@ use Prim.Native.Nat.{ℕ, _<_, _≤_}
 use mathlib.Core.Path.{_≡_}
 use borrow.Author.Needs.{needs}
 use borrow.Author.Tests.{lt-ltb, le-ltb}
-use Rattle.format.specs.declared.Refusal.the-variants.{Narrow}
-use Rattle.format.specs.Limits.{nextRoom, markMost}
+use Rattle.refusals.specs.declared.Refusal.the-variants.{Narrow}
+use Rattle.limits.specs.Limits.{nextRoom, markMost}
 use Rattle.given.specs.declared.Given.the-variants as Words
 use Rattle.entries.specs.Entries.{roomOf}
 

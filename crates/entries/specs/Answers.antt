@@ -1,8 +1,8 @@
 -- What the entries answer, in document 01's words and numbers; and which answer each case of the code's enums is.
 use Prim.Native.Nat.{ℕ}
 use mathlib.Core.Bool.{Bool}
-use Rattle.format.specs.declared.Refusal.{Refusal}
-use Rattle.format.specs.Refusals.{numberOf, placeOf}
+use Rattle.refusals.specs.declared.Refusal.{Refusal}
+use Rattle.refusals.specs.Refusals.{numberOf, placeOf}
 use Rattle.comparison.specs.declared.Comparison.{Comparison}
 use Rattle.comparison.specs.declared.Comparison.the-variants as Comparisons
 use Rattle.entries.specs.declared.Verdict.{Verdict}

@@ -6,7 +6,7 @@ use lib.Dec.{ltb}
 use lib.ListN.{length}
 use Rattle.words.specs.Words.{Word}
 use Rattle.congruence.specs.Rows.{round}
-use Rattle.format.specs.declared.Refusal.the-variants.{Narrow}
+use Rattle.refusals.specs.declared.Refusal.the-variants.{Narrow}
 use Rattle.rounds.specs.declared.RoundLengths.{RoundLengths}
 use Rattle.rounds.specs.declared.RoundLengths.the-variants as Lengths
 use Rattle.sheet.specs.Sheet.{sheetBytes, CutsIn}

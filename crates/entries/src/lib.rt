@@ -12,9 +12,9 @@ ghost use Rattle.entries.specs.Parts.{SheetReady, acceptedSheet, answere
 ghost use Rattle.entries.specs.Demands.{Acceptance, CutsReported, Compared};
 use comparison::Comparison;
 use format::Reading;
-use format::Refusal;
-use format::Relation;
-use format::Word;
+use refusals::Refusal;
+use limits::Relation;
+use limits::Word;
 use given::Given;
 use program::Output;
 use rounds::RoundLengths;

@@ -1,4 +1,4 @@
--- Reading the bytes of relations within the limits gives them back.
+-- Reading the bytes of a presentation within the limits gives it back.
 use Prim.Native.Nat.{ℕ, zero, suc, _+_, _-_, _/_, _%_, _≤_, _<_}
 use mathlib.Core.Bool.{Bool, true, false, cond}
 use mathlib.Core.List.{List, [], _∷_, _++_, append-assoc, append-nil}
@@ -8,14 +8,15 @@ use lib.Dec.{ltb}
 use lib.ListN.{length, drop, length-append}
 use lib.Seq.{getD-append-add, drop-append-add, drop-append-seam, take-at}
 use borrow.Author.Tests.{eq-eqb, le-ltb, le-leb, lt-leb}
-use Rattle.words.specs.Words.{Word}
 use Rattle.words.specs.Relations.{Relation}
-use Rattle.format.specs.declared.Record.the-variants.{Whole}
-use Rattle.format.specs.declared.Reading.the-variants.{Read}
-use Rattle.format.specs.Limits.{lettersMost, relationsMost, outside}
-use Rattle.format.specs.Book.{read, byte, field, between, recordAt, differs, firstUnknown, unknownIn, headAt, fieldsAt, relationAt, relationIn, relationsFrom, readBook}
+use Rattle.limits.specs.declared.Record.the-variants.{Whole}
+use Rattle.limits.specs.Limits.{lettersMost, relationsMost, outside}
+use Rattle.letters.specs.Letters.{firstUnknown, unknownIn}
+use Rattle.letters.proofs.Letters.{of-known, unknown-append}
+use Rattle.format.specs.declared.HeadReading.the-variants as Heads
+use Rattle.format.specs.declared.RelationReading.the-variants as Relations
+use Rattle.format.specs.Book.{Presentation, read, byte, field, between, recordAt, differs, headAt, fieldsAt, relationAt, relationIn, relationsFrom, readBook}
 use Rattle.format.specs.Bytes.{recordBytes, headBytes, relationBytes, relationsBytes, bookBytes, RelationWithin, AllWithin, none, more, ReadBytes}
-use Rattle.format.proofs.Readings.{of-known}
 
 -- a check that passes
 same-passes : (m n : ℕ) → m ≡ n → differs m n ≡ false
@@ -63,18 +64,6 @@ module _ (pre : List ℕ) (kind : ℕ) (payload rest book : List ℕ) (e : book 
       let d : drop (length pre + 4 + i) book ≡ a ++ b = rw (y, e) (drop-append-add pre (recordBytes kind payload ++ rest) (suc (suc (suc (suc i)))) ∙ f) in
       rw (z, d) (take-at a b n (sym l))
 
--- a word with no unknown letter before another
-unknown-append : (letters : ℕ) (u v : Word) → firstUnknown letters u ≡ length u → firstUnknown letters v ≡ length v → firstUnknown letters (u ++ v) ≡ length (u ++ v)
-unfolding firstUnknown
-unknown-append letters [] v e f = f
-unknown-append letters (x ∷ u) v e f = go (ltb x letters) refl e (λ g. unknown-append letters u v g f)
-  where
-    go : (b : Bool) → ltb x letters ≡ b → cond b (suc (firstUnknown letters u)) 0 ≡ suc (length u)
-        → (firstUnknown letters u ≡ length u → firstUnknown letters (u ++ v) ≡ length (u ++ v))
-        → cond (ltb x letters) (suc (firstUnknown letters (u ++ v))) 0 ≡ suc (length (u ++ v))
-    go true q e k = rw q (ap suc (k (omega arith)))
-    go false q e k = absurd (omega arith)
-
 -- a relation within the limits, behind other bytes, is read back
 module _ (letters count : ℕ) (r : Relation) (w : RelationWithin letters r) (pre rest book : List ℕ) (e : book ≡ pre ++ (relationBytes r ++ rest)) where
   abbrev payload : List ℕ
@@ -96,9 +85,10 @@ module _ (letters count : ℕ) (r : Relation) (w : RelationWithin letters r) (pr
       let k = unknown-append letters (r .left) (r .right) (of-known letters (r .left) (w .left .known)) (of-known letters (r .right) (w .right .known)) in
       rw letters-part (le-ltb (firstUnknown letters (r .left ++ r .right)) (length (r .left ++ r .right)) (omega arith))
 
-  fields-there : fieldsAt letters book (length pre) (length pre + 4) (length pre + 4 + length payload) ≡ Read (length (r .left)) (length pre + 4 + length payload)
+  fields-there : (place : ℕ) → fieldsAt letters place book (length pre + 4) (length pre + 4 + length payload)
+      ≡ Relations.Read (length pre + 4 + 2) (length pre + 4 + 2 + length (r .left)) (length pre + 4 + length payload)
   unfolding fieldsAt
-  fields-there =
+  fields-there place =
       let l = length-append (r .left) (r .right) in
       let a : differs (length pre + 4 + length payload - (length pre + 4)) (2 + length (r .left) + length (r .right)) ≡ false
       = same-passes (length pre + 4 + length payload - (length pre + 4)) (2 + length (r .left) + length (r .right)) (omega arith) in
@@ -111,28 +101,29 @@ module _ (letters count : ℕ) (r : Relation) (w : RelationWithin letters r) (pr
         letters-known,
       )
 
-  pub relation-there : count < relationsMost → relationAt letters count book (length pre) ≡ Read (length (r .left)) (length pre + 4 + length payload)
+  pub relation-there : (place : ℕ) → count < relationsMost → relationAt letters count place book (length pre)
+      ≡ Relations.Read (length pre + 4 + 2) (length pre + 4 + 2 + length (r .left)) (length pre + 4 + length payload)
   unfolding relationAt
-  relation-there h = rw (record-there pre 2 payload rest book e, lt-leb 32 count h) fields-there
+  relation-there place h = rw (record-there pre 2 payload rest book e, lt-leb 32 count h) (fields-there place)
 
-  pub relation-same : relationIn book (length pre) (length (r .left)) (length pre + 4 + length payload) ≡ r
+  pub relation-same : relationIn book (length pre + 4 + 2) (length pre + 4 + 2 + length (r .left)) (length pre + 4 + length payload) ≡ r
   relation-same =
       let l = length-append (r .left) (r .right) in
       let z : length pre + 4 + length payload ≡ length pre + 4 + suc (suc (length (r .left))) + length (r .right) = omega arith in
-      let x : length pre + 6 ≡ length pre + 4 + 2 = omega arith in
-      let y : length pre + 6 + length (r .left) ≡ length pre + 4 + suc (suc (length (r .left))) = omega arith in
+      let y : length pre + 4 + 2 + length (r .left) ≡ length pre + 4 + suc (suc (length (r .left))) = omega arith in
       let f : drop 2 (payload ++ rest) ≡ r .left ++ (r .right ++ rest) = append-assoc (r .left) (r .right) rest in
       let g : drop (suc (suc (length (r .left)))) (payload ++ rest) ≡ r .right ++ rest
       = rw (append-assoc (r .left) (r .right) rest) (drop-append-seam (r .left) (r .right ++ rest)) in
-      let a : between book (length pre + 6) (length pre + 6 + length (r .left)) ≡ r .left
-      = rw x (payload-part pre 2 payload rest book e 2 (length (r .left)) (r .left) (r .right ++ rest) refl f) in
-      let b : between book (length pre + 6 + length (r .left)) (length pre + 4 + length payload) ≡ r .right
+      let a : between book (length pre + 4 + 2) (length pre + 4 + 2 + length (r .left)) ≡ r .left
+      = payload-part pre 2 payload rest book e 2 (length (r .left)) (r .left) (r .right ++ rest) refl f in
+      let b : between book (length pre + 4 + 2 + length (r .left)) (length pre + 4 + length payload) ≡ r .right
       = rw (y, z) (payload-part pre 2 payload rest book e (suc (suc (length (r .left)))) (length (r .right)) (r .right) rest refl g) in
       rw (a, b)
 
 -- so are all relations, behind others
 from-bytes : (letters fuel : ℕ) (done rs : List Relation) (pre book : List ℕ) → AllWithin letters rs → length done + length rs ≤ relationsMost
-    → book ≡ pre ++ relationsBytes rs → length (relationsBytes rs) ≤ fuel → relationsFrom fuel letters done book (length pre) ≡ read letters (done ++ rs)
+    → book ≡ pre ++ relationsBytes rs → length (relationsBytes rs) ≤ fuel
+    → relationsFrom fuel (record { letters = letters; relations = done }) book (length pre) ≡ read (record { letters = letters; relations = done ++ rs })
 unfolding relationsFrom relationsBytes
 from-bytes letters zero done [] pre book none h e f = rw append-nil
 from-bytes letters (suc fuel) done [] pre book none h e f =
@@ -140,16 +131,18 @@ from-bytes letters (suc fuel) done [] pre book none h e f =
     rw (le-leb (length book) (length pre) (omega arith), append-nil)
 from-bytes letters zero done (r ∷ rs) pre book (more w all) h e f = absurd (omega arith)
 from-bytes letters (suc fuel) done (r ∷ rs) pre book (more w all) h e f =
-    let a = relation-there letters (length done) r w pre (relationsBytes rs) book e (omega arith) in
+    let a = relation-there letters (length done) r w pre (relationsBytes rs) book e (length pre) (omega arith) in
     let b = relation-same letters (length done) r w pre (relationsBytes rs) book e in
     let l : length book ≡ length pre + (length (relationBytes r) + length (relationsBytes rs)) = rw (e, length-append pre (relationBytes r ++ relationsBytes rs), length-append (relationBytes r) (relationsBytes rs)) in
     let q : length pre + 4 + suc (suc (length (r .left ++ r .right))) ≡ length (pre ++ relationBytes r) = rw (length-append pre (relationBytes r)) (omega arith) in
     let g : length (relationBytes r ++ relationsBytes rs) ≡ length (relationBytes r) + length (relationsBytes rs) = length-append (relationBytes r) (relationsBytes rs) in
     let c = from-bytes letters fuel (done ++ (r ∷ [])) rs (pre ++ relationBytes r) book all (simp length-append (omega arith)) (e ∙ sym (append-assoc pre (relationBytes r) (relationsBytes rs))) (omega arith) in
-    rw (lt-leb (length book) (length pre) (omega arith), a, b, q) (c ∙ ap (read letters) (append-assoc done (r ∷ []) rs))
+    rw (lt-leb (length book) (length pre) (omega arith), a, b, q)
+    (c ∙ ap (λ (l : List Relation). read (record { letters = letters; relations = l })) (append-assoc done (r ∷ []) rs))
 
 -- the head
-head-there : (letters : ℕ) (rest book : List ℕ) → 1 ≤ letters → letters ≤ lettersMost → book ≡ headBytes letters ++ rest → headAt lettersMost book 0 ≡ Read letters 5
+head-there : (letters : ℕ) (rest book : List ℕ) → 1 ≤ letters → letters ≤ lettersMost → book ≡ headBytes letters ++ rest
+    → headAt lettersMost 0 book 0 ≡ Heads.Read letters 5
 unfolding headAt
 head-there letters rest book h k e =
     let a = record-there [] 1 (letters ∷ []) rest book e in
@@ -158,8 +151,9 @@ head-there letters rest book h k e =
 
 pub read-bytes : ReadBytes
 unfolding readBook bookBytes
-read-bytes letters relations w =
-    let book = bookBytes letters relations in
-    let a = head-there letters (relationsBytes relations) book (w .some) (w .few) refl in
-    let b = from-bytes letters (length book) [] relations (headBytes letters) book (w .all) (omega arith) refl (omega arith) in
+read-bytes presentation w =
+    let book = bookBytes presentation in
+    let letters = presentation .letters in
+    let a = head-there letters (relationsBytes (presentation .relations)) book (w .some) (w .few) refl in
+    let b = from-bytes letters (length book) [] (presentation .relations) (headBytes letters) book (w .all) (omega (arith, w .fewRelations)) refl (omega arith) in
     rw a b

@@ -1,6 +1,7 @@
 -- The worked examples hold, by computation.
 use mathlib.Core.Path.{refl}
-use Rattle.format.specs.Book.{recordAt, firstUnknown, headAt, fieldsAt, relationAt, relationsFrom, readBook}
+use Rattle.letters.specs.Letters.{firstUnknown}
+use Rattle.format.specs.Book.{recordAt, headAt, fieldsAt, relationAt, relationsFrom, readBook}
 use Rattle.format.specs.Examples.{Hold, none, more, examples, times}
 
 pub examples-hold : Hold examples

@@ -5,8 +5,8 @@ use mathlib.Core.Path.{_≡_}
 use lib.ListN.{length, getD}
 use Rattle.words.specs.Words.{Word}
 use Rattle.words.specs.Relations.{Relation}
-use Rattle.format.specs.Limits.{headKind, relationKind, lettersMost, relationsMost, sideMost}
-use Rattle.format.specs.Book.{read, readBook}
+use Rattle.limits.specs.Limits.{headKind, relationKind, lettersMost, relationsMost, sideMost}
+use Rattle.format.specs.Book.{Presentation, read, readBook}
 
 -- a two-byte field, little-endian
 abbrev pub fieldBytes : ℕ → List ℕ
@@ -27,8 +27,8 @@ relationsBytes [] = []
 relationsBytes (r ∷ rs) = relationBytes r ++ relationsBytes rs
 
 -- the bytes of a book
-unfoldable pub bookBytes : ℕ → List Relation → List ℕ
-bookBytes letters relations = headBytes letters ++ relationsBytes relations
+unfoldable pub bookBytes : Presentation → List ℕ
+bookBytes presentation = headBytes (presentation .letters) ++ relationsBytes (presentation .relations)
 
 -- a relation word within the limits: 1 to 64 letters, each below the number of letters
 pub record WordWithin (letters : ℕ) (w : Word) : Type 0 where
@@ -44,17 +44,17 @@ pub data AllWithin (letters : ℕ) : List Relation → Type 0 where
   none : AllWithin letters []
   more : {r : Relation} {rs : List Relation} → RelationWithin letters r → AllWithin letters rs → AllWithin letters (r ∷ rs)
 
--- a number of letters and relations within the limits
-pub record Within (letters : ℕ) (relations : List Relation) : Type 0 where
-  pub some : 1 ≤ letters
-  pub few : letters ≤ lettersMost
-  pub fewRelations : length relations ≤ relationsMost
-  pub all : AllWithin letters relations
+-- a presentation within the limits
+pub record Within (presentation : Presentation) : Type 0 where
+  pub some : 1 ≤ presentation .letters
+  pub few : presentation .letters ≤ lettersMost
+  pub fewRelations : length (presentation .relations) ≤ relationsMost
+  pub all : AllWithin (presentation .letters) (presentation .relations)
 
--- reading the bytes of relations within the limits gives them back
+-- reading the bytes of a presentation within the limits gives it back
 abbrev pub ReadBytes : Type 0
-ReadBytes = (letters : ℕ) (relations : List Relation) → Within letters relations → readBook (bookBytes letters relations) ≡ read letters relations
+ReadBytes = (presentation : Presentation) → Within presentation → readBook (bookBytes presentation) ≡ read presentation
 
 -- what is read is within the limits
 abbrev pub ReadWithin : Type 0
-ReadWithin = (book : List ℕ) (letters : ℕ) (relations : List Relation) → readBook book ≡ read letters relations → Within letters relations
+ReadWithin = (book : List ℕ) (presentation : Presentation) → readBook book ≡ read presentation → Within presentation

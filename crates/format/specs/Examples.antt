@@ -4,7 +4,7 @@ use mathlib.Core.List.{List, [], _∷_, _++_}
 use mathlib.Core.Path.{_≡_}
 use lib.ListN.{take, replicate}
 use Rattle.words.specs.Relations.{Relation}
-use Rattle.format.specs.declared.Refusal.the-variants.{Short, Kind, Length, Range, UnknownLetter, TooMany}
+use Rattle.refusals.specs.declared.Refusal.the-variants.{Short, Kind, Length, Range, UnknownLetter, TooMany}
 use Rattle.format.specs.Book.{BookReading, read, refused, readBook}
 
 pub record Example : Type 0 where
@@ -14,6 +14,10 @@ pub record Example : Type 0 where
 infixl 2 _gives_
 abbrev pub _gives_ : List ℕ → BookReading → Example
 book gives reading = record { book = book; gives = reading }
+
+-- the book is read: so many letters, and these relations
+abbrev reads : ℕ → List Relation → BookReading
+reads letters relations = read (record { letters = letters; relations = relations })
 
 -- the head of four letters
 abbrev pub four : List ℕ
@@ -39,9 +43,9 @@ unfoldable pub examples : List Example
 examples =
     -- the empty book, a head alone, and Q
     ([] gives refused (Short 0))
-    ∷ (four gives read 4 [])
-    ∷ ((four ++ abdc-cadb) gives read 4 (Q ∷ []))
-    ∷ ((four ++ (abdc-cadb ++ abdc-cadb)) gives read 4 (Q ∷ Q ∷ []))
+    ∷ (four gives reads 4 [])
+    ∷ ((four ++ abdc-cadb) gives reads 4 (Q ∷ []))
+    ∷ ((four ++ (abdc-cadb ++ abdc-cadb)) gives reads 4 (Q ∷ Q ∷ []))
     -- cut off inside the head, inside the relation's length, its kind, its payload
     ∷ (take 3 four gives refused (Short 0))
     ∷ (take 4 four gives refused (Short 0))
@@ -64,14 +68,14 @@ examples =
     ∷ ((four ++ (2 ∷ 0 ∷ 2 ∷ 0 ∷ 255 ∷ 1 ∷ [])) gives refused (Length 5))
     -- ranges: A, m and n; the length comes first
     ∷ ((1 ∷ 0 ∷ 1 ∷ 0 ∷ 0 ∷ []) gives refused (Range 0))
-    ∷ ((1 ∷ 0 ∷ 1 ∷ 0 ∷ 1 ∷ []) gives read 1 [])
-    ∷ ((1 ∷ 0 ∷ 1 ∷ 0 ∷ 64 ∷ []) gives read 64 [])
+    ∷ ((1 ∷ 0 ∷ 1 ∷ 0 ∷ 1 ∷ []) gives reads 1 [])
+    ∷ ((1 ∷ 0 ∷ 1 ∷ 0 ∷ 64 ∷ []) gives reads 64 [])
     ∷ ((1 ∷ 0 ∷ 1 ∷ 0 ∷ 65 ∷ []) gives refused (Range 0))
     ∷ ((four ++ (3 ∷ 0 ∷ 2 ∷ 0 ∷ 0 ∷ 1 ∷ 9 ∷ [])) gives refused (Range 5))
     ∷ ((four ++ (3 ∷ 0 ∷ 2 ∷ 0 ∷ 1 ∷ 0 ∷ 9 ∷ [])) gives refused (Range 5))
     ∷ ((four ++ (4 ∷ 0 ∷ 2 ∷ 0 ∷ 0 ∷ 1 ∷ 9 ∷ 9 ∷ [])) gives refused (Length 5))
-    ∷ ((four ++ (67 ∷ 0 ∷ 2 ∷ 0 ∷ 64 ∷ 1 ∷ (sixtyFour ++ (0 ∷ [])))) gives read 4 (record { left = sixtyFour; right = 0 ∷ [] } ∷ []))
-    ∷ ((four ++ (67 ∷ 0 ∷ 2 ∷ 0 ∷ 1 ∷ 64 ∷ (0 ∷ sixtyFour))) gives read 4 (record { left = 0 ∷ []; right = sixtyFour } ∷ []))
+    ∷ ((four ++ (67 ∷ 0 ∷ 2 ∷ 0 ∷ 64 ∷ 1 ∷ (sixtyFour ++ (0 ∷ [])))) gives reads 4 (record { left = sixtyFour; right = 0 ∷ [] } ∷ []))
+    ∷ ((four ++ (67 ∷ 0 ∷ 2 ∷ 0 ∷ 1 ∷ 64 ∷ (0 ∷ sixtyFour))) gives reads 4 (record { left = 0 ∷ []; right = sixtyFour } ∷ []))
     ∷ ((four ++ (68 ∷ 0 ∷ 2 ∷ 0 ∷ 65 ∷ 1 ∷ (sixtyFour ++ (0 ∷ 0 ∷ [])))) gives refused (Range 5))
     ∷ ((four ++ (68 ∷ 0 ∷ 2 ∷ 0 ∷ 1 ∷ 65 ∷ (sixtyFour ++ (0 ∷ 0 ∷ [])))) gives refused (Range 5))
     -- a letter that is not below A, in the left word, in the right, in a second relation

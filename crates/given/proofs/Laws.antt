@@ -10,13 +10,13 @@ use lib.ListN.{length}
 use mir.Val.{Fits}
 use mir.Syntax.{w16}
 use Rattle.words.specs.Words.{Word}
-use Rattle.format.specs.declared.Refusal.{Refusal}
-use Rattle.format.specs.declared.Refusal.the-variants.{Long, Stranger}
-use Rattle.format.specs.declared.MadeWord.{MadeWord}
-use Rattle.format.specs.declared.MadeWord.the-variants as Made
-use Rattle.format.specs.declared.Word.{Word as Record}
-use Rattle.format.specs.Limits.{comparedMost, roundMost, markMost, wordOf}
-use Rattle.format.specs.Book.{firstUnknown}
+use Rattle.refusals.specs.declared.Refusal.{Refusal}
+use Rattle.refusals.specs.declared.Refusal.the-variants.{Long, Stranger}
+use Rattle.limits.specs.declared.MadeWord.{MadeWord}
+use Rattle.limits.specs.declared.MadeWord.the-variants as Made
+use Rattle.limits.specs.declared.Word.{Word as Record}
+use Rattle.limits.specs.Limits.{comparedMost, roundMost, markMost, wordOf}
+use Rattle.letters.specs.Letters.{firstUnknown}
 use Rattle.given.specs.declared.Given.{Given}
 use Rattle.given.specs.declared.Given.the-variants.{Fine, Refused}
 use Rattle.given.specs.Given.{givenOf, andThen, pairOf, tripleOf}

@@ -4,9 +4,9 @@ use mathlib.Core.Bool.{cond}
 use lib.Dec.{ltb}
 use lib.ListN.{length}
 use Rattle.words.specs.Words.{Word}
-use Rattle.format.specs.declared.Refusal.the-variants.{Long, Stranger}
-use Rattle.format.specs.Limits.{comparedMost, roundMost, markMost}
-use Rattle.format.specs.Book.{firstUnknown}
+use Rattle.refusals.specs.declared.Refusal.the-variants.{Long, Stranger}
+use Rattle.limits.specs.Limits.{comparedMost, roundMost, markMost}
+use Rattle.letters.specs.Letters.{firstUnknown}
 use Rattle.given.specs.declared.Given.{Given}
 use Rattle.given.specs.declared.Given.the-variants.{Fine, Refused}
 

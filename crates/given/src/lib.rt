@@ -2,9 +2,9 @@
 ghost use mathlib.Core.Path.{_≡_};
 ghost use Prim.Native.Nat.{_≤_};
 ghost use Rattle.given.specs.Given.{givenOf, pairOf, tripleOf};
-use format::MadeWord;
-use format::Refusal;
-use format::Word;
+use limits::MadeWord;
+use refusals::Refusal;
+use limits::Word;
 
 // A given word is fine, or refused.
 pub enum Given {
@@ -21,7 +21,7 @@ fn check_word(number: u8, most: usize, letters: u8, word: &[u8]) -> Given
     let MadeWord::Good(_) = made else {
         return Given::Refused(Refusal::Long(number));
     };
-    let at = format::first_unknown(word, letters);
+    let at = letters::first_unknown(word, letters);
     if at < word.len() {
         return Given::Refused(Refusal::Stranger(number, at as u16));
     }

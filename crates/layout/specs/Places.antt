@@ -2,7 +2,7 @@
 -- `layout::fixed_places` promises that the constants of the code are these numbers.
 use Prim.Native.Nat.{ℕ, _+_, _*_}
 use mathlib.Core.List.{List, [], _∷_}
-use Rattle.format.specs.Limits.{lettersMost, relationsMost, sideMost}
+use Rattle.limits.specs.Limits.{lettersMost, relationsMost, sideMost}
 
 -- relation words (document 01: sides) are at most
 abbrev pub wordsMost : ℕ

@@ -5,8 +5,8 @@ ghost use lib.ListN.{length};
 ghost use Rattle.layout.specs.Places.{startCell, xEndCell, zStartCell, endCell, firstCell, orderCell, sharedCell, fixedPlaces};
 ghost use Rattle.layout.specs.Layout.{startOf, xEndOf, zStartOf, endOf, firstOf, orderOf, sharedOf};
 ghost use Rattle.layout.specs.Appending.{written, WordRoom, Appended};
-use format::Head;
-use format::Relation;
+use limits::Head;
+use limits::Relation;
 use numbers::narrow;
 use numbers::wide16;
 

@@ -10,7 +10,7 @@ ghost use Rattle.overlap.specs.Verdict.{sameWord, firstRepeated, judge};
 ghost use Rattle.words.specs.Words.{isPrefix};
 ghost use Rattle.pieces.specs.Judging.{Placed, AllPlaced, looseBy, lowestLoose, Measurable, Measured, Tail, tailBy, xBy, zBy, CutBy, BothLying, AllLying, sameParts, repeatedIn, Fenced, Judging, looseVerdict};
 ghost use Rattle.pieces.specs.Longest.{next, Room, Passed, Ready, Advanced, Space, Tabled, held, Span, Parts};
-use format::Relation;
+use limits::Relation;
 use numbers::larger;
 use numbers::narrow;
 use numbers::wide;

@@ -7,39 +7,37 @@ use borrow.Author.Needs.{needs}
 use lib.ListN.{length}
 use mir.Val.{Fits}
 use mir.Syntax.{w64}
-use Rattle.words.specs.Relations.{Relation, relationWords}
+use Rattle.words.specs.Relations.{relationWords}
 use Rattle.overlap.specs.Verdict.{judge}
 use Rattle.layout.specs.Layout.{Laid, wordsIn}
-use Rattle.format.specs.declared.Refusal.{Refusal}
-use Rattle.format.specs.declared.Refusal.the-variants.{Repeated, Loose}
+use Rattle.refusals.specs.declared.Refusal.{Refusal}
+use Rattle.refusals.specs.declared.Refusal.the-variants.{Repeated, Loose}
 use Rattle.format.specs.declared.Reading.{Reading}
 use Rattle.format.specs.declared.Reading.the-variants.{Read, Refused}
-use Rattle.format.specs.Book as Book
-use Rattle.format.specs.Book.{BookReading, readBook}
-use Rattle.reader.specs.Laying as Laying
-use Rattle.reader.specs.Laying.{Arrays, BookRead}
+use Rattle.format.specs.Book.{Presentation, BookReading, read, refused, readBook, readingOf}
+use Rattle.reader.specs.Laying.{Arrays, Stored, BookRead}
 use Rattle.pieces.specs.declared.Judged.{Judged}
 use Rattle.pieces.specs.declared.Judged.the-variants as Judges
 use Rattle.pieces.specs.Judging.{verdictOf, Judging}
 use Rattle.pieces.proofs.Verdicts.{accepted-laid, accepted-words, accepted-c4}
 use Rattle.index.specs.Making.{Unlisted, IndexMade}
 use Rattle.index.proofs.Keeping.{words-kept, made-checked}
-use Rattle.presentation.specs.Loading.{BookLoading, loaded, refused, byVerdict, loadBook, told, Settled, answerOf, Holding, Memory, BookLoaded}
+use Rattle.presentation.specs.Loading.{byVerdict, loadBook, WordsChecked, byJudged, Holding, Memory, BookLoaded}
 
 -- the verdict stands, and an accepted book's words are checked
 module _ (text table : List ℕ) (n : ℕ) (u : Unlisted text table n) (after : List ℕ) (r : Judged) (j : Judging (judge (wordsIn text table n)) text table n after r) where
-  pub settle-laid : Laid text table n
-  settle-laid = u .laid
+  pub checks-laid : Laid text table n
+  checks-laid = u .laid
 
-  pub settled-repeated : (i : ℕ) → r ≡ Judges.Repeated i → Settled text table n after r
-  settled-repeated i e =
+  pub checks-repeated : (i : ℕ) → r ≡ Judges.Repeated i → WordsChecked text table n after r
+  checks-repeated i e =
       record { verdict = j .verdict; checked = λ a. absurd (never a); words = λ a. absurd (never a); long = ap length (j .repeats i e) }
     where
       never : r ≡ Judges.Accepted → ⊥
       never a = let z : _≡_ {A = ℕ} 0 1 = cc in omega arith
 
-  pub settled-loose : (i : ℕ) → r ≡ Judges.Loose i → Settled text table n after r
-  settled-loose i e =
+  pub checks-loose : (i : ℕ) → r ≡ Judges.Loose i → WordsChecked text table n after r
+  checks-loose i e =
       record { verdict = j .verdict; checked = λ a. absurd (never a); words = λ a. absurd (never a); long = ap length (j .looses i e) }
     where
       never : r ≡ Judges.Accepted → ⊥
@@ -50,8 +48,8 @@ module _ (text table : List ℕ) (n : ℕ) (u : Unlisted text table n) (after : 
     accepted-unlisted =
         record { laid = accepted-laid text table n after r j e (u .laid); room = j .cuts e .kept .long ∙ u .room }
 
-    pub settled-accepted : (last : List ℕ) → IndexMade text after n last → Settled text table n last r
-    settled-accepted last m =
+    pub checks-accepted : (last : List ℕ) → IndexMade text after n last → WordsChecked text table n last r
+    checks-accepted last m =
         let laid = accepted-unlisted .laid in
         record {
           verdict = j .verdict;
@@ -60,24 +58,26 @@ module _ (text table : List ℕ) (n : ℕ) (u : Unlisted text table n) (after : 
           long = m .kept .long ∙ j .cuts e .kept .long;
         }
 
-pub ruleset settles = (settle-laid, settled-repeated, settled-loose, accepted-unlisted, settled-accepted, needs)
+pub ruleset checks = (checks-laid, checks-repeated, checks-loose, accepted-unlisted, checks-accepted, needs)
 
--- a book that is read has relations
-read-relations : (x : BookReading) (letters count : ℕ) → Read letters count ≡ Book.told x → (relations : List Relation) × (x ≡ BookReading.read letters relations) × (count ≡ length relations)
-read-relations (BookReading.read a relations) letters count e =
-    let f : letters ≡ a = cc in
-    let g : count ≡ length relations = cc in
-    (relations, rw f, g)
-read-relations (BookReading.refused r) letters count e = let z : _≡_ {A = ℕ} 0 1 = cc in absurd (omega arith)
+-- a book that is read has a presentation
+read-presentation : (x : BookReading) (letters count : ℕ) → Read letters count ≡ readingOf x
+    → (p : Presentation) × (x ≡ read p) × (letters ≡ p .letters) × (count ≡ length (p .relations))
+read-presentation (BookReading.read p) letters count e =
+    let f : letters ≡ p .letters = cc in
+    let g : count ≡ length (p .relations) = cc in
+    (p, refl, f, g)
+read-presentation (BookReading.refused r) letters count e = let z : _≡_ {A = ℕ} 0 1 = cc in absurd (omega arith)
 
-refused-reading : (x : BookReading) (r : Refusal) → Refused r ≡ Book.told x → x ≡ BookReading.refused r
-refused-reading (BookReading.read a relations) r e = let z : _≡_ {A = ℕ} 0 1 = cc in absurd (omega arith)
+-- a book whose answer is a refusal is refused by it
+refused-reading : (x : BookReading) (r : Refusal) → Refused r ≡ readingOf x → x ≡ refused r
+refused-reading (BookReading.read p) r e = let z : _≡_ {A = ℕ} 0 1 = cc in absurd (omega arith)
 refused-reading (BookReading.refused s) r e = let f : r ≡ s = cc in rw f
 
--- a reading that is no answer of an accepted book
-not-read : (book text table : List ℕ) (reading : Reading) (r : Refusal) (text′ table′ : List ℕ) → reading ≡ Refused r → (letters count : ℕ) → reading ≡ Read letters count
-    → Holding book letters count text′ table′
-not-read book text table reading r text′ table′ e letters count f = let z : _≡_ {A = ℕ} 0 1 = cc in absurd (omega arith)
+-- an answer that is none of an accepted book
+not-read : (book : List ℕ) (reading : Reading) (r : Refusal) (text table : List ℕ) → reading ≡ Refused r → (letters count : ℕ) → reading ≡ Read letters count
+    → Holding book letters count text table
+not-read book reading r text table e letters count f = let z : _≡_ {A = ℕ} 0 1 = cc in absurd (omega arith)
 
 pub memory-arrays : (text table : List ℕ) → Memory text table → Arrays text table
 memory-arrays text table m = record { text4160 = omega (arith, m .text4160); table450 = m .table450 }
@@ -90,100 +90,81 @@ module _ (book text table : List ℕ) (memory : Memory text table) (reading : Re
       let q = refused-reading (readBook book) r (sym e ∙ d .answer) in
       record {
         answer = rw (q, e);
-        held = not-read book text table reading r text′ table′ e;
+        held = not-read book reading r text′ table′ e;
         memory = record { text4160 = d .textLong ∙ memory .text4160; table450 = d .tableLong ∙ memory .table450 };
       }
 
   module _ (letters count : ℕ) (e : reading ≡ Read letters count) where
-    relations-of : (relations : List Relation) × (readBook book ≡ BookReading.read letters relations) × (count ≡ length relations)
-    relations-of = read-relations (readBook book) letters count (sym e ∙ d .answer)
+    presented : (p : Presentation) × (readBook book ≡ read p) × (letters ≡ p .letters) × (count ≡ length (p .relations))
+    presented = read-presentation (readBook book) letters count (sym e ∙ d .answer)
 
-    held-of : Laying.Held letters (relations-of .0) text′ table′
-    held-of = d .held letters (relations-of .0) (relations-of .1)
+    stored : Stored (presented .0) text′ table′
+    stored = d .stored (presented .0) (presented .1)
 
     pub count-fits : Fits w64 (2 * count)
-    count-fits = omega (arith, held-of .within .fewRelations, relations-of .2)
+    count-fits = omega (arith, stored .within .fewRelations, presented .3)
 
-    same-number : 2 * count ≡ 2 * length (relations-of .0)
-    same-number = omega (arith, relations-of .2)
+    same-number : 2 * count ≡ 2 * length (presented .0 .relations)
+    same-number = omega (arith, presented .3)
 
     pub load-unlisted : Unlisted text′ table′ (2 * count)
-    load-unlisted = record { laid = rw same-number (held-of .laid); room = d .tableLong ∙ memory .table450 }
+    load-unlisted = record { laid = rw same-number (stored .laid); room = d .tableLong ∙ memory .table450 }
 
     -- the verdict on the words of the book
-    module _ (last : List ℕ) (j : Judged) (s : Settled text′ table′ (2 * count) last j) where
-      words-of : wordsIn text′ table′ (2 * count) ≡ relationWords (relations-of .0)
-      words-of = rw same-number (held-of .words)
+    module _ (last : List ℕ) (j : Judged) (s : WordsChecked text′ table′ (2 * count) last j) where
+      words-of : wordsIn text′ table′ (2 * count) ≡ relationWords (presented .0 .relations)
+      words-of = rw same-number (stored .words)
 
-      settled-memory : Memory text′ last
-      settled-memory = record { text4160 = d .textLong ∙ memory .text4160; table450 = s .long ∙ d .tableLong ∙ memory .table450 }
+      checked-memory : Memory text′ last
+      checked-memory = record { text4160 = d .textLong ∙ memory .text4160; table450 = s .long ∙ d .tableLong ∙ memory .table450 }
 
       -- loading gives what the verdict says
-      by-verdict : loadBook book ≡ byVerdict letters (relations-of .0) (verdictOf j)
+      by-verdict : loadBook book ≡ byVerdict (presented .0) (verdictOf j)
       unfolding loadBook
-      by-verdict = let v = s .verdict in rw (relations-of .1, v, words-of)
+      by-verdict = let v = s .verdict in rw (presented .1, v, words-of)
 
       load-accepted : j ≡ Judges.Accepted → BookLoaded book (Read letters count) text′ last
       unfolding verdictOf
       load-accepted a =
-          let q : loadBook book ≡ loaded letters (relations-of .0) = by-verdict ∙ rw a in
+          let q : loadBook book ≡ read (presented .0) = by-verdict ∙ rw a in
           record {
-            answer = rw (q, ← relations-of .2);
+            answer = rw (q, ← presented .2, ← presented .3);
             held = λ l c f.
                 let fl : letters ≡ l = cc in
                 let fc : count ≡ c = cc in
                 subst (λ (x : ℕ). Holding book x c text′ last) fl
                 (subst (λ (x : ℕ). Holding book letters x text′ last) fc
                 (record {
-                  relations = relations-of .0;
+                  presentation = presented .0;
                   is = q;
-                  many = relations-of .2;
+                  lettered = presented .2;
+                  many = presented .3;
                   checked = s .checked a;
                   words = s .words a ∙ words-of;
-                  within = held-of .within;
+                  within = stored .within;
                 }));
-            memory = settled-memory;
+            memory = checked-memory;
           }
 
       refused-loaded : (r : Refusal) → loadBook book ≡ refused r → BookLoaded book (Refused r) text′ last
-      refused-loaded r q =
-          record { answer = rw q; held = not-read book text table (Refused r) r text′ last refl; memory = settled-memory }
+      refused-loaded r q = record { answer = rw q; held = not-read book (Refused r) r text′ last refl; memory = checked-memory }
 
-      load-repeated : (i : ℕ) → j ≡ Judges.Repeated i → BookLoaded book (Refused (Repeated i)) text′ last
+      by-judged : (k : Judged) → j ≡ k → BookLoaded book (byJudged letters count k) text′ last
       unfolding verdictOf
-      load-repeated i a = refused-loaded (Repeated i) (by-verdict ∙ rw a)
-
-      load-loose : (i : ℕ) → j ≡ Judges.Loose i → BookLoaded book (Refused (Loose i)) text′ last
-      unfolding verdictOf
-      load-loose i a = refused-loaded (Loose i) (by-verdict ∙ rw a)
-
-      by-judged : (k : Judged) → j ≡ k → BookLoaded book (answerOf letters count k) text′ last
       by-judged Judges.Accepted a = load-accepted a
-      by-judged (Judges.Repeated i) a = load-repeated i a
-      by-judged (Judges.Loose i) a = load-loose i a
+      by-judged (Judges.Repeated i) a = refused-loaded (Repeated i) (by-verdict ∙ rw a)
+      by-judged (Judges.Loose i) a = refused-loaded (Loose i) (by-verdict ∙ rw a)
 
-      pub load-judged : (r : Reading) → r ≡ answerOf letters count j → BookLoaded book r text′ last
+      pub load-judged : (r : Reading) → r ≡ byJudged letters count j → BookLoaded book r text′ last
       load-judged r a = rw a (by-judged j refl)
 
 pub ruleset loads = (memory-arrays, load-unread, count-fits, load-unlisted, load-judged, needs)
 
 -- the answer by the verdict
-module _ (letters count : ℕ) (j : Judged) where
-  pub answer-accepted : j ≡ Judges.Accepted → Read letters count ≡ answerOf letters count j
-  answer-accepted e = rw e
+pub answer-case : (letters count : ℕ) (j k : Judged) (r : Reading) → j ≡ k → r ≡ byJudged letters count k → r ≡ byJudged letters count j
+answer-case letters count j k r e f = rw e f
 
-  pub answer-repeated : (i : ℕ) → j ≡ Judges.Repeated i → Refused (Repeated i) ≡ answerOf letters count j
-  answer-repeated i e = rw e
-
-  pub answer-loose : (i : ℕ) → j ≡ Judges.Loose i → Refused (Loose i) ≡ answerOf letters count j
-  answer-loose i e = rw e
-
-pub ruleset answers = (answer-accepted, answer-repeated, answer-loose, needs)
-
--- a book whose answer is a refusal is refused by it
-refused-loading : (x : BookLoading) (r : Refusal) → Refused r ≡ told x → x ≡ refused r
-refused-loading (loaded letters relations) r e = let z : _≡_ {A = ℕ} 0 1 = cc in absurd (omega arith)
-refused-loading (refused s) r e = let f : r ≡ s = cc in rw f
+pub ruleset answers = (answer-case, needs)
 
 pub load-refused : (book : List ℕ) (reading : Reading) (text table : List ℕ) → BookLoaded book reading text table → (r : Refusal) → reading ≡ Refused r → loadBook book ≡ refused r
-load-refused book reading text table d r e = refused-loading (loadBook book) r (sym e ∙ d .answer)
+load-refused book reading text table d r e = refused-reading (loadBook book) r (sym e ∙ d .answer)

@@ -2,15 +2,15 @@
 // table. Every round and every comparison works on these two arrays.
 ghost use mathlib.Core.Path.{_≡_};
 ghost use Rattle.index.specs.Making.{Unlisted};
-ghost use Rattle.presentation.specs.Loading.{Settled, answerOf, Memory, BookLoaded};
+ghost use Rattle.presentation.specs.Loading.{WordsChecked, byJudged, Memory, BookLoaded};
 use format::Reading;
-use format::Refusal;
+use refusals::Refusal;
 use pieces::Judged;
 
 // Refusals 7 and 8 over laid relation words; those of an accepted book get their cuts and their index.
-fn settle(text: &[u8], table: &mut [u16], n: usize) -> Judged
+fn check_words(text: &[u8], table: &mut [u16], n: usize) -> Judged
     requires { ⌜ Unlisted (now text) (now table) n ⌝ }
-    ensures { λ r. ⌜ Settled (now (text .entry)) (now (table .entry)) n (now (table .exit)) r ⌝ }
+    ensures { λ r. ⌜ WordsChecked (now (text .entry)) (now (table .entry)) n (now (table .exit)) r ⌝ }
 {
     let judged = pieces::judge(text, table, n);
     match judged {
@@ -25,7 +25,7 @@ fn settle(text: &[u8], table: &mut [u16], n: usize) -> Judged
 
 // The answer for a book that was read, by the verdict on its relation words.
 fn answer(letters: u8, relations: usize, judged: Judged) -> Reading
-    ensures { λ r. ⌜ r ≡ answerOf letters relations judged ⌝ }
+    ensures { λ r. ⌜ r ≡ byJudged letters relations judged ⌝ }
 {
     match judged {
         Judged::Accepted => Reading::Read(letters, relations),
@@ -43,6 +43,6 @@ pub fn load(book: &[u8], text: &mut [u8], table: &mut [u16]) -> Reading
     let Reading::Read(letters, relations) = reading else {
         return reading;
     };
-    let judged = settle(text, table, 2 * relations);
+    let judged = check_words(text, table, 2 * relations);
     answer(letters, relations, judged)
 }

@@ -9,8 +9,9 @@ use Rattle.overlap.specs.Cuts.{twin, pieceAt, three, loose, firstLoose, xlen, z
 use Rattle.overlap.specs.Verdict.{judge, firstRepeated, isRepeated, sameWord}
 use Rattle.congruence.specs.Rows.{hasRelationPrefixAt, hasRelationPrefixBetween, clean, cleanRelationPrefix, active, row1, row2, row4, row5, row6, row7, row8, makes, fitting, firstRow, round}
 use Rattle.congruence.specs.Rounds.{answerFrom}
-use Rattle.format.specs.Limits.{inputMost}
-use Rattle.format.specs.Book.{recordAt, firstUnknown, headAt, fieldsAt, relationAt, relationsFrom, readBook}
+use Rattle.limits.specs.Limits.{inputMost}
+use Rattle.letters.specs.Letters.{firstUnknown}
+use Rattle.format.specs.Book.{recordAt, headAt, fieldsAt, relationAt, relationsFrom, readBook}
 use Rattle.presentation.specs.Loading.{loadBook}
 use Rattle.given.specs.Given.{givenOf, pairOf}
 use Rattle.comparison.specs.Comparing.{answerOf, comparisonOf}

@@ -13,11 +13,11 @@ use mir.Val.{Fits}
 use mir.Syntax.{w64}
 use Rattle.words.specs.Words.{Word}
 use Rattle.layout.specs.Layout.{wordsIn}
-use Rattle.format.specs.declared.Refusal.{Refusal}
-use Rattle.format.specs.declared.Refusal.the-variants.{Kind, Length}
-use Rattle.format.specs.declared.Record.{Record}
-use Rattle.format.specs.declared.Record.the-variants.{Whole, CutOff}
-use Rattle.format.specs.Limits.{comparisonKind, comparisonLength}
+use Rattle.refusals.specs.declared.Refusal.{Refusal}
+use Rattle.refusals.specs.declared.Refusal.the-variants.{Kind, Length}
+use Rattle.limits.specs.declared.Record.{Record}
+use Rattle.limits.specs.declared.Record.the-variants.{Whole, CutOff}
+use Rattle.limits.specs.Limits.{comparisonKind, comparisonLength}
 use Rattle.format.specs.Book.{field, between, recordAt, differs}
 use Rattle.format.proofs.Readings.{equal-of, WholeAt, whole-at}
 use Rattle.comparison.specs.declared.Comparison.{Comparison}

@@ -10,10 +10,10 @@ use lib.Dec.{eqb, ltb}
 use lib.ListN.{length}
 use mir.Val.{Fits}
 use mir.Syntax.{w64}
-use Rattle.format.specs.declared.Refusal.the-variants.{Short, Kind, Length}
-use Rattle.format.specs.declared.Record.{Record}
-use Rattle.format.specs.declared.Record.the-variants.{Whole, CutOff}
-use Rattle.format.specs.Limits.{comparisonKind}
+use Rattle.refusals.specs.declared.Refusal.the-variants.{Short, Kind, Length}
+use Rattle.limits.specs.declared.Record.{Record}
+use Rattle.limits.specs.declared.Record.the-variants.{Whole, CutOff}
+use Rattle.limits.specs.Limits.{comparisonKind}
 use Rattle.format.specs.Book.{field, recordAt}
 use Rattle.format.proofs.Readings.{WholeAt, whole-at}
 use Rattle.reader.specs.Reads.{Payload}

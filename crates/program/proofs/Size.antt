@@ -16,15 +16,16 @@ use Rattle.congruence.specs.Rows.{Next, round}
 use Rattle.congruence.specs.Rows.Next.{end, go}
 use Rattle.congruence.specs.Rounds.{Answer, answerFrom, compareUnder}
 use Rattle.congruence.specs.Rounds.Answer.{same, different, spent}
-use Rattle.format.specs.declared.Refusal.{Refusal}
-use Rattle.format.specs.declared.Refusal.the-variants.{Short, Kind, Length, Range, UnknownLetter, TooMany, Repeated, Loose, Long, Stranger, Spent, Narrow, Heavy}
-use Rattle.format.specs.declared.Record.{Record}
-use Rattle.format.specs.declared.Record.the-variants.{Whole, CutOff}
+use Rattle.refusals.specs.declared.Refusal.{Refusal}
+use Rattle.refusals.specs.declared.Refusal.the-variants.{Short, Kind, Length, Range, UnknownLetter, TooMany, Repeated, Loose, Long, Stranger, Spent, Narrow, Heavy}
+use Rattle.limits.specs.declared.Record.{Record}
+use Rattle.limits.specs.declared.Record.the-variants.{Whole, CutOff}
 use Rattle.format.specs.declared.Reading.{Reading}
 use Rattle.format.specs.declared.Reading.the-variants as Readings
-use Rattle.format.specs.Limits.{inputMost, lettersMost, relationsMost, comparisonKind, comparisonLength, comparedMost}
-use Rattle.format.specs.Refusals.{numberOf, placeOf}
-use Rattle.format.specs.Book.{BookReading, field, recordAt, differs, firstUnknown, headAt, fieldsAt, relationAt, relationIn, onWhole, onRead, relationsFrom, readBook}
+use Rattle.limits.specs.Limits.{inputMost, lettersMost, relationsMost, comparisonKind, comparisonLength, comparedMost}
+use Rattle.refusals.specs.Refusals.{numberOf, placeOf}
+use Rattle.letters.specs.Letters.{firstUnknown}
+use Rattle.format.specs.Book.{BookReading, field, recordAt, differs, headAt, fieldsAt, relationAt, relationIn, onWhole, onRead, relationsFrom, readBook}
 use Rattle.format.proofs.Readings.{equal-of, WholeAt, whole-at, read-within}
 use Rattle.presentation.specs.Loading.{BookLoading, byVerdict, byReading, loadBook}
 use Rattle.given.specs.declared.Given.{Given}

@@ -10,14 +10,14 @@ use lib.ListN.{length, getD, take}
 use mir.Val.{Fits}
 use mir.Syntax.{w8}
 use lib.Seq.{length-take-le}
-use Rattle.format.specs.declared.Refusal.{Refusal}
-use Rattle.format.specs.declared.Refusal.the-variants.{Heavy}
+use Rattle.refusals.specs.declared.Refusal.{Refusal}
+use Rattle.refusals.specs.declared.Refusal.the-variants.{Heavy}
 use Rattle.format.specs.declared.Reading.{Reading}
 use Rattle.format.specs.declared.Reading.the-variants as Readings
-use Rattle.format.specs.declared.Input.{Input}
-use Rattle.format.specs.declared.MadeInput.{MadeInput}
-use Rattle.format.specs.declared.MadeInput.the-variants as Inputs
-use Rattle.format.specs.Limits.{inputMost, inputOf}
+use Rattle.limits.specs.declared.Input.{Input}
+use Rattle.limits.specs.declared.MadeInput.{MadeInput}
+use Rattle.limits.specs.declared.MadeInput.the-variants as Inputs
+use Rattle.limits.specs.Limits.{inputMost, inputOf}
 use Rattle.presentation.specs.Loading.{BookLoading, loadBook, Holding, BookLoaded}
 use Rattle.presentation.proofs.Laws.{load-refused}
 use Rattle.lines.specs.Lines.{WrittenTo}

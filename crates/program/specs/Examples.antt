@@ -3,7 +3,7 @@ use Prim.Native.Nat.{ℕ, _<_}
 use mathlib.Core.List.{List, [], _∷_, _++_}
 use mathlib.Core.Path.{_≡_}
 use lib.ListN.{length, take}
-use Rattle.format.specs.Limits.{inputMost}
+use Rattle.limits.specs.Limits.{inputMost}
 use Rattle.program.specs.Program.{programOf}
 
 pub record Example : Type 0 where

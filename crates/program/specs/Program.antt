@@ -7,12 +7,12 @@ use lib.ListN.{length, take}
 use lib.Seq.{slice}
 use Rattle.words.specs.Words.{Word}
 use Rattle.words.specs.Relations.{relationWords}
-use Rattle.format.specs.declared.Refusal.{Refusal}
-use Rattle.format.specs.declared.Refusal.the-variants.{Short, Kind, Length, Heavy}
-use Rattle.format.specs.declared.Record.{Record}
-use Rattle.format.specs.declared.Record.the-variants.{Whole, CutOff}
-use Rattle.format.specs.Limits.{recordPrefix, inputMost, comparisonKind, comparisonLength}
-use Rattle.format.specs.Refusals.{numberOf, placeOf}
+use Rattle.refusals.specs.declared.Refusal.{Refusal}
+use Rattle.refusals.specs.declared.Refusal.the-variants.{Short, Kind, Length, Heavy}
+use Rattle.limits.specs.declared.Record.{Record}
+use Rattle.limits.specs.declared.Record.the-variants.{Whole, CutOff}
+use Rattle.limits.specs.Limits.{recordPrefix, inputMost, comparisonKind, comparisonLength}
+use Rattle.refusals.specs.Refusals.{numberOf, placeOf}
 use Rattle.format.specs.Book.{field, recordAt, differs}
 use Rattle.presentation.specs.Loading.{BookLoading, loadBook}
 use Rattle.comparison.specs.declared.Comparison.{Comparison}

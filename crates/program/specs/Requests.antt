@@ -2,10 +2,10 @@
 use Prim.Native.Nat.{ℕ, _+_, _-_}
 use mathlib.Core.Bool.{cond}
 use mathlib.Core.List.{List}
-use Rattle.format.specs.declared.Refusal.the-variants.{Short, Kind, Length}
-use Rattle.format.specs.declared.Record.{Record}
-use Rattle.format.specs.declared.Record.the-variants.{Whole, CutOff}
-use Rattle.format.specs.Limits.{comparisonKind, comparisonLength}
+use Rattle.refusals.specs.declared.Refusal.the-variants.{Short, Kind, Length}
+use Rattle.limits.specs.declared.Record.{Record}
+use Rattle.limits.specs.declared.Record.the-variants.{Whole, CutOff}
+use Rattle.limits.specs.Limits.{comparisonKind, comparisonLength}
 use Rattle.format.specs.Book.{field, recordAt, differs}
 use Rattle.program.specs.declared.Request.{Request}
 use Rattle.program.specs.declared.Request.the-variants.{Compare, Refused}

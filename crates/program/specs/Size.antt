@@ -2,7 +2,7 @@
 use Prim.Native.Nat.{ℕ, _+_, _*_, _/_, _<_, _≤_}
 use mathlib.Core.List.{List, [], _∷_}
 use lib.ListN.{length, getD}
-use Rattle.format.specs.Limits.{recordPrefix, inputMost, comparisonLength}
+use Rattle.limits.specs.Limits.{recordPrefix, inputMost, comparisonLength}
 use Rattle.program.specs.Program.{programOf}
 
 -- the bytes of the longest line: `refused 11 4294967295` and a newline

@@ -6,7 +6,7 @@ use Rattle.layout.specs.Layout.{wordsIn}
 use Rattle.comparison.specs.State.{Ready}
 use Rattle.presentation.specs.Loading.{loadBook}
 use Rattle.lines.specs.Lines.{lineOf}
-use Rattle.format.specs.Limits.{relationsMost}
+use Rattle.limits.specs.Limits.{relationsMost}
 use Rattle.program.specs.Program.{bookText, bookEnd, linesFrom, byLoading}
 
 -- the lines of the comparison records from a position on, under the relation words of a checked presentation

@@ -9,20 +9,23 @@ use lib.ListN.{length, getD, set, length-append, length-set}
 use lib.Seq.{getD-set-same}
 use Rattle.words.specs.Relations.{Relation, relationWords}
 use Rattle.layout.specs.Layout.{wordsIn, Laid}
-use Rattle.format.specs.declared.Refusal.{Refusal}
+use Rattle.refusals.specs.declared.Refusal.{Refusal}
+use Rattle.format.specs.declared.HeadReading.{HeadReading}
+use Rattle.format.specs.declared.HeadReading.the-variants as Heads
+use Rattle.format.specs.declared.RelationReading.{RelationReading}
+use Rattle.format.specs.declared.RelationReading.the-variants as Relations
 use Rattle.format.specs.declared.Reading.{Reading}
-use Rattle.format.specs.declared.Reading.the-variants.{Read, Refused}
-use Rattle.numbers.specs.Widths.{Widened}
-use Rattle.format.specs.Book.{read, refused, between, headAt, relationAt, relationIn, relationsFrom, readBook}
+use Rattle.format.specs.declared.Reading.the-variants as Readings
+use Rattle.format.specs.Book.{Presentation, adding, read, refused, between, headAt, relationAt, relationIn, relationsFrom, readBook}
 use Rattle.format.specs.Bytes.{Within}
 use Rattle.format.proofs.Readings.{RelationRead, relation-read, relation-within, within-more, head-read, within-head}
 use Rattle.layout.specs.Appending.{Arrays, WordRoom, Appended}
 use Rattle.layout.proofs.Appending.{nothing-laid}
-use Rattle.reader.specs.Laying.{RelationRoom, RelationAppended, BookRead}
+use Rattle.reader.specs.Laying.{RelationRoom, RelationAppended, ofHead, ofRelation, Stored, BookRead}
 
 -- both words of a relation
-module _ (book : List ℕ) (at m to : ℕ) (text table : List ℕ) (count : ℕ) (r : RelationRoom book at m to text table count) where
-  pub left-room : WordRoom (between book (at + 6) (at + 6 + m)) text table (2 * count)
+module _ (book : List ℕ) (left right to : ℕ) (text table : List ℕ) (count : ℕ) (r : RelationRoom book left right to text table count) where
+  pub left-room : WordRoom (between book left right) text table (2 * count)
   left-room =
       record {
         laid = r .laid;
@@ -33,8 +36,8 @@ module _ (book : List ℕ) (at m to : ℕ) (text table : List ℕ) (count : ℕ)
         arrays = r .arrays;
       }
 
-  module _ (text₁ table₁ : List ℕ) (a : Appended (between book (at + 6) (at + 6 + m)) text table (2 * count) text₁ table₁) where
-    pub right-room : WordRoom (between book (at + 6 + m) to) text₁ table₁ (2 * count + 1)
+  module _ (text₁ table₁ : List ℕ) (a : Appended (between book left right) text table (2 * count) text₁ table₁) where
+    pub right-room : WordRoom (between book right to) text₁ table₁ (2 * count + 1)
     right-room =
         record {
           laid = a .laid;
@@ -45,52 +48,70 @@ module _ (book : List ℕ) (at m to : ℕ) (text table : List ℕ) (count : ℕ)
           arrays = record { textLong = omega (arith, a .textLong, r .arrays .textLong); tableLong = a .tableLong ∙ r .arrays .tableLong };
         }
 
-    pub both-appended : (text₂ table₂ : List ℕ) → Appended (between book (at + 6 + m) to) text₁ table₁ (2 * count + 1) text₂ table₂
-        → RelationAppended book at m to text table count text₂ table₂
+    pub both-appended : (text₂ table₂ : List ℕ) → Appended (between book right to) text₁ table₁ (2 * count + 1) text₂ table₂
+        → RelationAppended book left right to text table count text₂ table₂
     unfolding relationWords
     both-appended text₂ table₂ b =
         let z : 2 * (count + 1) ≡ 2 * count + 1 + 1 = omega arith in
         record {
           laid = rw z (b .laid);
-          words = rw (z, b .words, a .words) (append-assoc (wordsIn text table (2 * count)) (between book (at + 6) (at + 6 + m) ∷ []) (between book (at + 6 + m) to ∷ []));
+          words = rw (z, b .words, a .words) (append-assoc (wordsIn text table (2 * count)) (between book left right ∷ []) (between book right to ∷ []));
           textLong = b .textLong ∙ a .textLong;
           tableLong = b .tableLong ∙ a .tableLong;
         }
 
 pub ruleset relationRooms = (left-room, right-room, both-appended, needs)
 
--- the book up to `at` is read: its relations, `done`, are laid, and the rest gives the answer
+-- the answer for a book that ends here, by what was read last
+module _ (head : HeadReading) where
+  pub head-read-answer : (letters to : ℕ) → head ≡ Heads.Read letters to → Readings.Read letters 0 ≡ ofHead head
+  head-read-answer letters to e = rw e
+
+  pub head-refused-answer : (r : Refusal) → head ≡ Heads.Refused r → Readings.Refused r ≡ ofHead head
+  head-refused-answer r e = rw e
+
+module _ (letters count : ℕ) (relation : RelationReading) where
+  pub relation-read-answer : (left right to : ℕ) → relation ≡ Relations.Read left right to → Readings.Read letters count ≡ ofRelation letters count relation
+  relation-read-answer left right to e = rw e
+
+  pub relation-refused-answer : (r : Refusal) → relation ≡ Relations.Refused r → Readings.Refused r ≡ ofRelation letters count relation
+  relation-refused-answer r e = rw e
+
+pub ruleset answers = (head-read-answer, head-refused-answer, relation-read-answer, relation-refused-answer, needs)
+
+-- the book up to `at` is read: the presentation so far is laid, and the rest gives the answer
 pub record Going (book text₀ : List ℕ) (letters at count : ℕ) (text table : List ℕ) : Type 0 where
-  pub done : List Relation
-  pub counted : count ≡ length done
+  pub presentation : Presentation
+  pub lettered : letters ≡ presentation .letters
+  pub counted : count ≡ length (presentation .relations)
   pub inside : at ≤ length book
   pub fuel : ℕ
   pub enough : length book ≤ at + fuel
-  pub same : readBook book ≡ relationsFrom fuel letters done book at
-  pub within : Within letters done
+  pub same : readBook book ≡ relationsFrom fuel presentation book at
+  pub within : Within presentation
   pub laid : Laid text table (2 * count)
-  pub words : wordsIn text table (2 * count) ≡ relationWords done
+  pub words : wordsIn text table (2 * count) ≡ relationWords (presentation .relations)
   pub textLong : length text ≡ length text₀
   pub arrays : Arrays text table
 
-module _ (book text table : List ℕ) (head : Reading) (e : head ≡ headAt 64 book 0) where
-  pub head-refused : (r : Refusal) → head ≡ Refused r → BookRead book text table head text table
-  unfolding readBook
-  head-refused r f =
-      let b : readBook book ≡ refused r = rw (← e, f) in
-      record {
-        answer = rw (b, f);
-        held = λ a rs g. absurd (let z : _≡_ {A = ℕ} 0 1 = cc in omega arith);
-        textLong = refl;
-        tableLong = refl;
-      }
+-- a book that is refused: its arrays hold nothing
+refused-book : (book text table : List ℕ) (x : Refusal) (r : Reading) (text′ table′ : List ℕ) → readBook book ≡ refused x → r ≡ Readings.Refused x
+    → length text′ ≡ length text → length table′ ≡ length table → BookRead book text table r text′ table′
+refused-book book text table x r text′ table′ b f h k =
+    record { answer = rw (b, f); stored = λ p q. absurd (let z : _≡_ {A = ℕ} 0 1 = cc in omega arith); textLong = h; tableLong = k }
 
-  pub going-start : (letters first : ℕ) → head ≡ Read letters first → Arrays text table → Going book text letters first 0 text (set table 0 0)
+module _ (book text table : List ℕ) (head : HeadReading) (e : head ≡ headAt 64 0 book 0) where
+  pub head-refused : (x : Refusal) → head ≡ Heads.Refused x → (r : Reading) → r ≡ ofHead head → BookRead book text table r text table
+  unfolding readBook
+  head-refused x f r g = refused-book book text table x r text table (rw (← e, f)) (g ∙ rw f) refl refl
+
+  pub going-start : (letters first : ℕ) → head ≡ Heads.Read letters first → Arrays text table → Going book text letters first 0 text (set table 0 0)
   unfolding readBook wordsIn relationWords
   going-start letters first f a =
-      let h = head-read 64 book 0 letters first (sym e ∙ f) in
+      let h = head-read 64 0 book 0 letters first (sym e ∙ f) in
       record {
-        done = [];
+        presentation = record { letters = letters; relations = [] };
+        lettered = refl;
         counted = refl;
         inside = h .fits;
         fuel = length book;
@@ -104,104 +125,95 @@ module _ (book text table : List ℕ) (head : Reading) (e : head ≡ headAt 64 b
       }
 
 -- the definition's turns: at the end of the book, at a refusal, and over one relation
-from-end : (fuel letters : ℕ) (done : List Relation) (book : List ℕ) (at : ℕ) → length book ≤ at → relationsFrom fuel letters done book at ≡ read letters done
+from-end : (fuel : ℕ) (p : Presentation) (book : List ℕ) (at : ℕ) → length book ≤ at → relationsFrom fuel p book at ≡ read p
 unfolding relationsFrom
-from-end zero letters done book at h = refl
-from-end (suc fuel) letters done book at h = rw (le-leb (length book) at h)
+from-end zero p book at h = refl
+from-end (suc fuel) p book at h = rw (le-leb (length book) at h)
 
-module _ (letters : ℕ) (done : List Relation) (book : List ℕ) (at : ℕ) (h : at < length book) where
-  from-refused : (fuel : ℕ) → length book ≤ at + fuel → (r : Refusal) → relationAt letters (length done) book at ≡ Refused r
-      → relationsFrom fuel letters done book at ≡ refused r
+module _ (p : Presentation) (book : List ℕ) (at : ℕ) (h : at < length book) where
+  from-refused : (fuel : ℕ) → length book ≤ at + fuel → (r : Refusal) → relationAt (p .letters) (length (p .relations)) at book at ≡ Relations.Refused r
+      → relationsFrom fuel p book at ≡ refused r
   unfolding relationsFrom
   from-refused zero k r e = absurd (omega arith)
   from-refused (suc fuel) k r e = rw (lt-leb (length book) at h, e)
 
-  from-more : (fuel : ℕ) → length book ≤ at + fuel → (m to : ℕ) → relationAt letters (length done) book at ≡ Read m to
-      → (f : ℕ) × (fuel ≡ suc f) × (relationsFrom fuel letters done book at ≡ relationsFrom f letters (done ++ (relationIn book at m to ∷ [])) book to)
+  from-more : (fuel : ℕ) → length book ≤ at + fuel → (left right to : ℕ)
+      → relationAt (p .letters) (length (p .relations)) at book at ≡ Relations.Read left right to
+      → (f : ℕ) × (fuel ≡ suc f) × (relationsFrom fuel p book at ≡ relationsFrom f (adding p (relationIn book left right to)) book to)
   unfolding relationsFrom
-  from-more zero k m to e = absurd (omega arith)
-  from-more (suc fuel) k m to e = (fuel, refl, rw (lt-leb (length book) at h, e))
+  from-more zero k left right to e = absurd (omega arith)
+  from-more (suc fuel) k left right to e = (fuel, refl, rw (lt-leb (length book) at h, e))
 
-sides-more : (done : List Relation) (r : Relation) → relationWords (done ++ (r ∷ [])) ≡ relationWords done ++ relationWords (r ∷ [])
+words-more : (done : List Relation) (r : Relation) → relationWords (done ++ (r ∷ [])) ≡ relationWords done ++ relationWords (r ∷ [])
 unfolding relationWords
-sides-more [] r = refl
-sides-more (d ∷ done) r = ap (λ l. d .left ∷ d .right ∷ l) (sides-more done r)
+words-more [] r = refl
+words-more (d ∷ done) r = ap (λ l. d .left ∷ d .right ∷ l) (words-more done r)
 
 module _ (book text₀ : List ℕ) (letters at count : ℕ) (text table : List ℕ) (g : Going book text₀ letters at count text table) where
   pub going-count : count ≤ 32
   going-count = omega (arith, g .counted, g .within .fewRelations)
 
-  pub going-end : (table₀ : List ℕ) → Arrays text₀ table₀ → length book ≤ at → BookRead book text₀ table₀ (Read letters count) text table
-  going-end table₀ p h =
-      let b : readBook book ≡ read letters (g .done) = g .same ∙ from-end (g .fuel) letters (g .done) book at h in
+  pub going-end : (table₀ : List ℕ) → Arrays text₀ table₀ → length book ≤ at → BookRead book text₀ table₀ (Readings.Read letters count) text table
+  going-end table₀ a h =
+      let b : readBook book ≡ read (g .presentation) = g .same ∙ from-end (g .fuel) (g .presentation) book at h in
+      let s : Stored (g .presentation) text table = record { laid = rw (← g .counted) (g .laid); words = rw (← g .counted) (g .words); within = g .within } in
       record {
-        answer = rw (b, g .counted);
-        held = λ a rs f.
-            let x : letters ≡ a = cc in
-            let y : g .done ≡ rs = cc in
-            let z : 2 * length rs ≡ 2 * count = rw (← y, g .counted) in
-            record {
-              laid = rw z (g .laid);
-              words = rw z (g .words ∙ ap relationWords y);
-              within = subst (λ (l : List Relation). Within a l) y (subst (λ (n : ℕ). Within n (g .done)) x (g .within));
-            };
+        answer = rw (b, g .counted, g .lettered);
+        stored = λ q f. let x : g .presentation ≡ q = cc in subst (λ (t : Presentation). Stored t text table) x s;
         textLong = g .textLong;
-        tableLong = g .arrays .tableLong ∙ sym (p .tableLong);
+        tableLong = g .arrays .tableLong ∙ sym (a .tableLong);
       }
 
-  module _ (h : at < length book) (r : Reading) (e : r ≡ relationAt letters count book at) where
-    here : r ≡ relationAt letters (length (g .done)) book at
-    here = rw (← g .counted) e
+  module _ (h : at < length book) (r : RelationReading) (e : r ≡ relationAt letters count at book at) where
+    here : r ≡ relationAt (g .presentation .letters) (length (g .presentation .relations)) at book at
+    here = rw (← g .counted, ← g .lettered) e
 
-    pub going-refused : (table₀ : List ℕ) → Arrays text₀ table₀ → (x : Refusal) → r ≡ Refused x → BookRead book text₀ table₀ r text table
-    going-refused table₀ p x f =
-        let b : readBook book ≡ refused x = g .same ∙ from-refused letters (g .done) book at h (g .fuel) (g .enough) x (sym here ∙ f) in
-        record {
-          answer = rw (b, f);
-          held = λ a rs q. absurd (let z : _≡_ {A = ℕ} 0 1 = cc in omega arith);
-          textLong = g .textLong;
-          tableLong = g .arrays .tableLong ∙ sym (p .tableLong);
-        }
+    pub going-refused : (table₀ : List ℕ) → Arrays text₀ table₀ → (x : Refusal) → r ≡ Relations.Refused x → (n : ℕ) (o : Reading) → o ≡ ofRelation letters n r
+        → BookRead book text₀ table₀ o text table
+    going-refused table₀ a x f n o q =
+        refused-book book text₀ table₀ x o text table (g .same ∙ from-refused (g .presentation) book at h (g .fuel) (g .enough) x (sym here ∙ f)) (q ∙ rw f) (g .textLong)
+        (g .arrays .tableLong ∙ sym (a .tableLong))
 
-    module _ (m to : ℕ) (f : r ≡ Read m to) where
-      read-here : RelationRead letters (length (g .done)) book at m to
-      read-here = relation-read letters (length (g .done)) book at m to (sym here ∙ f)
+    module _ (left right to : ℕ) (f : r ≡ Relations.Read left right to) where
+      read-here : RelationRead (g .presentation .letters) (length (g .presentation .relations)) book at left right to
+      read-here = relation-read (g .presentation .letters) (length (g .presentation .relations)) at book at left right to (sym here ∙ f)
 
       pub going-less : length book - to < length book - at
-      going-less = omega (arith, read-here .rightSome)
+      going-less = let q = read-here in omega (arith, q .behind, q .leftSome, q .rightSome, q .fits)
 
-      module _ (x : ℕ) (w : Widened 256 m x) where
-        pub going-room : RelationRoom book at x to text table count
-        going-room =
-            let q = read-here in
-            record {
-              letters = letters;
-              few = g .within .few;
-              within = rw (w .same) (relation-within letters (length (g .done)) book at m to q);
-              order = omega (arith, q .rightSome, w .same);
-              inside = q .fits;
-              more = omega (arith, q .room, g .counted);
-              laid = g .laid;
-              arrays = g .arrays;
-            }
+      pub going-room : RelationRoom book left right to text table count
+      going-room =
+          let q = read-here in
+          record {
+            letters = g .presentation .letters;
+            few = g .within .few;
+            within = relation-within (g .presentation .letters) (length (g .presentation .relations)) book at left right to q;
+            first = omega (arith, q .leftSome);
+            second = omega (arith, q .rightSome);
+            inside = q .fits;
+            more = omega (arith, q .room, g .counted);
+            laid = g .laid;
+            arrays = g .arrays;
+          }
 
-        pub going-more : (text′ table′ : List ℕ) → RelationAppended book at x to text table count text′ table′
-            → Going book text₀ letters to (count + 1) text′ table′
-        going-more text′ table′ a =
-            let q = read-here in
-            let t = from-more letters (g .done) book at h (g .fuel) (g .enough) m to (sym here ∙ f) in
-            record {
-              done = g .done ++ (relationIn book at m to ∷ []);
-              counted = simp length-append (omega (arith, g .counted));
-              inside = q .fits;
-              fuel = t .0;
-              enough = omega (arith, q .rightSome, g .enough, t .1);
-              same = g .same ∙ t .2;
-              within = within-more letters (g .done) book at m to (g .within) q;
-              laid = a .laid;
-              words = a .words ∙ rw (g .words, w .same) (sym (sides-more (g .done) (relationIn book at m to)));
-              textLong = a .textLong ∙ g .textLong;
-              arrays = record { textLong = omega (arith, a .textLong, g .arrays .textLong); tableLong = a .tableLong ∙ g .arrays .tableLong };
-            }
+      pub going-more : (text′ table′ : List ℕ) → RelationAppended book left right to text table count text′ table′
+          → Going book text₀ letters to (count + 1) text′ table′
+      going-more text′ table′ a =
+          let q = read-here in
+          let t = from-more (g .presentation) book at h (g .fuel) (g .enough) left right to (sym here ∙ f) in
+          record {
+            presentation = adding (g .presentation) (relationIn book left right to);
+            lettered = g .lettered;
+            counted = simp length-append (omega (arith, g .counted));
+            inside = q .fits;
+            fuel = t .0;
+            enough = omega (arith, q .behind, q .leftSome, q .rightSome, g .enough, t .1);
+            same = g .same ∙ t .2;
+            within = within-more (g .presentation) book at left right to (g .within) q;
+            laid = a .laid;
+            words = a .words ∙ rw (g .words) (sym (words-more (g .presentation .relations) (relationIn book left right to)));
+            textLong = a .textLong ∙ g .textLong;
+            arrays = record { textLong = omega (arith, a .textLong, g .arrays .textLong); tableLong = a .tableLong ∙ g .arrays .tableLong };
+          }
 
 pub ruleset goings = (head-refused, going-start, going-end, going-refused, going-less, going-room, going-more, going-count, needs)

@@ -2,7 +2,7 @@
 // specs/Numbers.antt gives the numbers of each case of the answer, and each promise is the entry's own, read through them. None has a `requires`.
 // The fields have the words of the C header, which are the specification's: a rule is a relation, a run a word.
 ghost use mathlib.Core.Path.{_≡_};
-ghost use Rattle.format.specs.Refusals.{numberOf, placeOf};
+ghost use Rattle.refusals.specs.Refusals.{numberOf, placeOf};
 ghost use Rattle.entries.specs.Answers.{ofVerdict, ofRound, ofComparison, ofPrinted};
 ghost use Rattle.entries.specs.Entries.{checkOf, sheetOf, roundOf, outputOf};
 ghost use Rattle.vanecitron.specs.Numbers.{version, endOutcome, checkResult, roundResult, compareResult, programResult, SheetNumbers as Sheets, sheetNumbers, RoundNumbers as Rounds, roundNumbers, ComparedNumbers, ProgramNumbers as Programs, programNumbers};
@@ -10,7 +10,7 @@ use comparison::Comparison;
 use entries::Printed;
 use entries::Round;
 use entries::Verdict;
-use format::Refusal;
+use refusals::Refusal;
 
 // The version of these functions, as a number: 10,000 times the first part, 100 times the second, and the third.
 pub struct Version {

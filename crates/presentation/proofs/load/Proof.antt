@@ -2,14 +2,14 @@ use Rattle.presentation.proofs.Laws.{loads, load-judged}
 use Rattle.presentation.proofs.load.Statement.{statement}
 use Rattle.presentation.proofs.load.Tie as tie
 
--- too much stands before the last return for a search: the law is applied to what the reader and `settle` ensure
+-- too much stands before the last return for a search: the law is applied to what the reader and `check_words` ensure
 returns-2 : tie.Need-returns-2
 returns-2 c =
-    let settled = c .before .before .before in
-    let reading = settled .before .before .before .before in
+    let checked = c .before .before .before in
+    let reading = checked .before .before .before .before in
     let read = reading .before .before .before .before .before .before in
     let start = read .before .before .before .before .before .before in
-    load-judged _ _ _ (start .pre) _ _ _ (read .read-book .ensures) _ _ (reading .reading .given .1) _ _ (settled .settle .ensures) _ (c .answer .ensures)
+    load-judged _ _ _ (start .pre) _ _ _ (read .read-book .ensures) _ _ (reading .reading .given .1) _ _ (checked .check-words .ensures) _ (c .answer .ensures)
 
 pub load-spec : {M : Type 1} → statement M
 load-spec =

@@ -1,5 +1,4 @@
-use borrow.Author.Needs.{needs}
-use Rattle.reader.proofs.Books.{right-room, both-appended, relationRooms}
+use Rattle.reader.proofs.Books.{relationRooms}
 use Rattle.reader.proofs.append_relation.Statement.{statement}
 use Rattle.reader.proofs.append_relation.Tie as tie
 
@@ -11,15 +10,13 @@ append-relation-spec =
     (λ c. search relationRooms)
     (λ c. search relationRooms)
     (λ c. search relationRooms)
-    (λ c. search relationRooms)
-    (λ c. search relationRooms)
     (λ c κs. search relationRooms)
     (λ c. search relationRooms)
     (λ c. search relationRooms)
     (λ c. search relationRooms)
     (λ c. search relationRooms)
     (λ c. search relationRooms)
-    (λ c κs. right-room _ _ _ _ _ _ _ (c .before .before .before .before .before .before .before .before .before .before .before .before .before .before .pre) _ _ (c .before .before .before .before .before .before .before .append-word .ensures))
+    (λ c κs. search relationRooms)
     (λ c. search relationRooms)
     (λ c. search relationRooms)
-    (λ c. both-appended _ _ _ _ _ _ _ (search needs) _ _ (c .before .before .before .before .before .before .before .before .before .before .before .before .append-word .ensures) _ _ (c .before .before .before .before .append-word2 .ensures)))
+    (λ c. search relationRooms))

@@ -1,7 +1,6 @@
-use borrow.Author.Needs.{needs}
-use Prim.Native.Nat.{_-_}
+use Prim.Native.Nat.{_-_, _+_}
 use lib.ListN.{length}
-use Rattle.reader.proofs.Books.{Going, going-end, goings}
+use Rattle.reader.proofs.Books.{Going, goings}
 use Rattle.reader.proofs.read_book.Statement.{statement}
 use Rattle.reader.proofs.read_book.Tie as tie
 
@@ -20,6 +19,15 @@ read-book-spec =
     (λ c κs. search goings)
     (λ c. search goings)
     (λ c. search goings)
+    (λ c κs. search goings)
+    (λ c. search goings)
+    (λ c. search goings)
+    (λ c. search goings)
+    (λ c κs. search goings)
+    (λ c. search goings)
+    (λ c. search goings)
+    (λ c. search goings)
+    (λ c κs. search goings)
     (λ c. search goings)
     (λ c. search goings)
     (λ c. search goings)
@@ -29,11 +37,4 @@ read-book-spec =
     (λ c. search goings)
     (λ c. search goings)
     (λ c. search goings)
-    (λ c κs. search goings)
-    (λ c κs. search goings)
-    (λ c. search goings)
-    (λ c. search goings)
-    (λ c. search goings)
-    (λ c. search goings)
-    (λ c. search goings)
-    (λ c. going-end _ _ _ _ _ _ _ (c .before .loop .inv) _ (search needs) (search needs)))
+    (λ c. search goings))

@@ -1,6 +1,0 @@
-use Rattle.format.proofs.Limits.{outsides}
-use Rattle.format.proofs.is_outside.Statement.{statement}
-use Rattle.format.proofs.is_outside.Tie as tie
-
-pub is-outside-spec : {M : Type 1} → statement M
-is-outside-spec = tie.close (tie.spec (λ c. search outsides) (λ c. search outsides))

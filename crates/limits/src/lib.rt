@@ -1,0 +1,184 @@
+// The limits of document 01 ("What the unit holds"), each named once with the kind of record that it belongs to, with constructors that check ranges.
+ghost use mathlib.Core.Path.{_≡_};
+ghost use Rattle.limits.specs.Limits.{outside, headOf, relationOf, wordOf, inputOf, fixedAmounts};
+
+// What stands at a position of a book: a whole record, with its kind and where its payload begins and ends, or too few bytes for one.
+pub enum Record {
+    Whole(usize, usize, usize),
+    CutOff,
+}
+
+impl Record {
+    // The bytes of a record's length and kind.
+    pub const PREFIX: usize = 4;
+}
+
+// The head record (kind 1): how many letters there are (document 01: steps).
+pub struct Head {
+    pub letters: usize,
+}
+
+pub enum MadeHead {
+    Good(Head),
+    Range,
+}
+
+impl Head {
+    pub const KIND: usize = 1;
+
+    // The bytes of its payload.
+    pub const LENGTH: usize = 1;
+
+    pub const LEAST: usize = 1;
+
+    pub const LETTERS: usize = 64;
+
+    pub fn make(letters: usize) -> MadeHead
+        ensures { λ r. ⌜ r ≡ headOf letters ⌝ }
+    {
+        if is_outside(Head::LEAST, Head::LETTERS, letters) {
+            return MadeHead::Range;
+        }
+        MadeHead::Good(Head { letters })
+    }
+}
+
+// A relation record (kind 2; document 01: a rule): the lengths of its two relation words (document 01: its sides).
+pub struct Relation {
+    pub left: usize,
+    pub right: usize,
+}
+
+pub enum MadeRelation {
+    Good(Relation),
+    Range,
+}
+
+impl Relation {
+    pub const KIND: usize = 2;
+
+    // The bytes of its payload that stand before the letters.
+    pub const LENGTH: usize = 2;
+
+    pub const MOST: usize = 32;
+
+    pub const LEAST: usize = 1;
+
+    // The most letters of a relation word.
+    pub const LETTERS: usize = 64;
+
+    pub fn make(left: usize, right: usize) -> MadeRelation
+        ensures { λ r. ⌜ r ≡ relationOf left right ⌝ }
+    {
+        if is_outside(Relation::LEAST, Relation::LETTERS, left) {
+            return MadeRelation::Range;
+        }
+        if is_outside(Relation::LEAST, Relation::LETTERS, right) {
+            return MadeRelation::Range;
+        }
+        MadeRelation::Good(Relation { left, right })
+    }
+}
+
+// A given word (document 01: a run), by its length. Two of them stand in a comparison record (kind 3).
+pub struct Word {
+    pub length: usize,
+}
+
+pub enum MadeWord {
+    Good(Word),
+    Long,
+}
+
+impl Word {
+    pub const KIND: usize = 3;
+
+    // The bytes of its record's payload that stand before the letters.
+    pub const LENGTH: usize = 8;
+
+    // The most letters of a word that is compared.
+    pub const COMPARED: usize = 4096;
+
+    // The most letters of a word given to a single round.
+    pub const ROUND: usize = 4160;
+
+    // The room that a round asks for a next word.
+    pub const NEXT: usize = 4224;
+
+    // The most letters of the front mark, and the room that a round asks for the next one.
+    pub const MARK: usize = 64;
+
+    // The most rounds that an allowance can give; its field has four bytes.
+    pub const ALLOWANCE: usize = 4294967295;
+
+    // How far apart the places of the given words lie in refusals 9 and 10.
+    pub const SPACING: usize = 5000;
+
+    // A word of at most so many letters: COMPARED, ROUND or MARK.
+    pub fn make(letters: usize, most: usize) -> MadeWord
+        ensures { λ r. ⌜ r ≡ wordOf most letters ⌝ }
+    {
+        if most < letters {
+            return MadeWord::Long;
+        }
+        MadeWord::Good(Word { length: letters })
+    }
+}
+
+// What the program reads, by its length.
+pub struct Input {
+    pub length: usize,
+}
+
+pub enum MadeInput {
+    Good(Input),
+    Heavy,
+}
+
+impl Input {
+    pub const MOST: usize = 60000;
+
+    pub fn make(bytes: usize) -> MadeInput
+        ensures { λ r. ⌜ r ≡ inputOf bytes ⌝ }
+    {
+        if Input::MOST < bytes {
+            return MadeInput::Heavy;
+        }
+        MadeInput::Good(Input { length: bytes })
+    }
+}
+
+// The constants are the numbers that the definitions write again, in the order of specs/Limits.antt.
+pub fn fixed_amounts() -> [usize; 17]
+    ensures { λ r. ⌜ r ≡ fixedAmounts ⌝ }
+{
+    [
+        Head::KIND,
+        Head::LENGTH,
+        Head::LETTERS,
+        Record::PREFIX,
+        Relation::KIND,
+        Relation::LENGTH,
+        Relation::MOST,
+        Relation::LETTERS,
+        Word::KIND,
+        Word::LENGTH,
+        Word::COMPARED,
+        Word::ALLOWANCE,
+        Word::ROUND,
+        Word::NEXT,
+        Word::MARK,
+        Word::SPACING,
+        Input::MOST,
+    ]
+}
+
+// The number is below the least or above the most.
+fn is_outside(least: usize, most: usize, x: usize) -> bool
+    ensures { λ r. ⌜ r ≡ outside least most x ⌝ }
+{
+    if x < least {
+        return true;
+    }
+    most < x
+}
