@@ -14,7 +14,7 @@ use Rattle.overlap.proofs.Facts.{rigid-of-c4}
 use Rattle.congruence.specs.Rows.{Next, round}
 use Rattle.congruence.specs.Rows.Next.{end, go}
 use Rattle.congruence.specs.Rounds.{answerFrom, compareUnder}
-use Rattle.congruence.specs.Rounds.Answer.{same}
+use Rattle.congruence.specs.Rounds.CompareAnswer.{same}
 use Rattle.congruence.proofs.Heads.{Facts}
 use Rattle.congruence.proofs.ShapeNoPrefix.{quiet-nil}
 use Rattle.layout.specs.Layout.{part, wordsIn}

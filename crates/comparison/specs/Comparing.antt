@@ -3,8 +3,8 @@
 use Prim.Native.Nat.{ℕ}
 use mathlib.Core.List.{List}
 use Rattle.words.specs.Words.{Word}
-use Rattle.congruence.specs.Rounds.{Answer, compareUnder}
-use Rattle.congruence.specs.Rounds.Answer.{same, different, spent}
+use Rattle.congruence.specs.Rounds.{CompareAnswer, compareUnder}
+use Rattle.congruence.specs.Rounds.CompareAnswer.{same, different, spent}
 use Rattle.refusals.specs.declared.Refusal.the-variants.{Spent}
 use Rattle.given.specs.declared.Given.{Given}
 use Rattle.given.specs.declared.Given.the-variants as Words
@@ -13,7 +13,7 @@ use Rattle.comparison.specs.declared.Comparison.{Comparison}
 use Rattle.comparison.specs.declared.Comparison.the-variants.{Same, Different, Refused}
 
 -- the rows' answer as a comparison's
-abbrev pub byAnswer : Answer → Comparison
+abbrev pub byAnswer : CompareAnswer → Comparison
 byAnswer (same n) = Same n
 byAnswer (different n) = Different n
 byAnswer (spent n) = Refused (Spent n)

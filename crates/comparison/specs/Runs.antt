@@ -6,8 +6,8 @@ use mathlib.Core.Path.{_≡_}
 use Rattle.words.specs.Words.{Word}
 use Rattle.congruence.specs.Rows.{Next, round}
 use Rattle.congruence.specs.Rows.Next.{end, go}
-use Rattle.congruence.specs.Rounds.{Answer, ending}
-use Rattle.congruence.specs.Rounds.Answer.{spent}
+use Rattle.congruence.specs.Rounds.{CompareAnswer, ending}
+use Rattle.congruence.specs.Rounds.CompareAnswer.{spent}
 use Rattle.layout.specs.Layout.{wordsIn}
 use Rattle.comparison.specs.declared.State.{State}
 use Rattle.comparison.specs.declared.Progress.{Progress}
@@ -29,7 +29,7 @@ runFrom B zero n u v p = onRound (round B u v p) n (λ _ _ _. paused u v p n)
 runFrom B (suc left) n u v p = onRound (round B u v p) n (runFrom B left (n + 1))
 
 -- a comparison that is paused for want of rounds is spent
-abbrev pub answered : Ran → Answer
+abbrev pub answered : Ran → CompareAnswer
 answered (ended b n) = ending b n
 answered (paused u v p n) = spent n
 

@@ -1,5 +1,5 @@
 -- Activity: document 003, section 2, from "p-active" to Proposition 5 and Corollary 3.
--- The words in front are ends: they stand in a relation word, not at its prefix. Every Z is one, and so is every mark of a comparison.
+-- The words in front are ends: they stand in a relation word, not at its start. Every Z is one, and so is every mark of a comparison.
 use Prim.Native.Nat.{ℕ, suc, _+_, _-_, _≤_, _<_}
 use mathlib.Core.Bool.{Bool, true, false}
 use mathlib.Core.List.{List, [], _++_, append-assoc, append-cancel-left}
@@ -20,10 +20,10 @@ use Rattle.congruence.proofs.Places.{same-left, same-right}
 use Rattle.congruence.proofs.Chains.{Chain, chain-behind, chain-from, chain-to}
 use Rattle.congruence.proofs.Strips.{Stripped, strip-quiet}
 
--- z is empty, or stands in a relation word, not at its prefix
-pub data Ending (B : List Word) (z : Word) : Type 0 where
-  nothing : z ≡ [] → Ending B z
-  inside : (i c : ℕ) → i < length B → 0 < c → c + length z ≤ len B i → Same z 0 (word B i) c (length z) → Ending B z
+-- z is empty, or stands in a relation word, not at its start
+pub data InnerFactor (B : List Word) (z : Word) : Type 0 where
+  nothing : z ≡ [] → InnerFactor B z
+  inside : (i c : ℕ) → i < length B → 0 < c → c + length z ≤ len B i → Same z 0 (word B i) c (length z) → InnerFactor B z
 
 -- XY of j begins in z t with the last k letters of z, and they are a prefix of X: t is z-active
 pub record Hangs (B : List Word) (z t : Word) (j k : ℕ) : Type 0 where
@@ -42,12 +42,12 @@ same-drop w p n = record { at = λ k h. ap (λ m. getD (drop p w) m 0) (omega ar
 
 module _ {B : List Word} where
   -- an end of a relation word, and a part of an end at its right
-  pub ending-drop : (i c : ℕ) → i < length B → 0 < c → c ≤ len B i → Ending B (drop c (word B i))
-  ending-drop i c h p l = let d = length-drop c (word B i) in inside i c h p (omega arith) (same-drop (word B i) c (length (drop c (word B i))))
+  pub inner-drop : (i c : ℕ) → i < length B → 0 < c → c ≤ len B i → InnerFactor B (drop c (word B i))
+  inner-drop i c h p l = let d = length-drop c (word B i) in inside i c h p (omega arith) (same-drop (word B i) c (length (drop c (word B i))))
 
-  pub ending-rest : (n : ℕ) {z : Word} → Ending B z → Ending B (drop n z)
-  ending-rest n {z} (nothing e) = nothing (subst (λ (y : Word). drop n y ≡ []) (sym e) (drop-nil n))
-  ending-rest n {z} (inside i c h p l s) = by-cases (decLe n (length z))
+  pub inner-rest : (n : ℕ) {z : Word} → InnerFactor B z → InnerFactor B (drop n z)
+  inner-rest n {z} (nothing e) = nothing (subst (λ (y : Word). drop n y ≡ []) (sym e) (drop-nil n))
+  inner-rest n {z} (inside i c h p l s) = by-cases (decLe n (length z))
       (λ a. let d = length-drop n z in inside i (c + n) h (omega arith) (omega arith) (same-via (same-drop z n (length (drop n z))) s (omega arith)))
       (λ a. nothing (drop-of-length-le z {i = n} (omega arith)))
 
@@ -76,11 +76,11 @@ module _ {B : List Word} where
           same-eq (take k (word B j)) (drop (length z - k) z) (omega arith) (same-via b (same-sym (same-drop z (length z - k) k)) (omega arith))
 
   module _ (R : Facts B) where
-    pub ending-z : (i : ℕ) → i < length B → Ending B (zOf B i)
-    ending-z i h = let s = R .some i h in ending-drop i (xylen B i) h (omega arith) (omega arith)
+    pub inner-z : (i : ℕ) → i < length B → InnerFactor B (zOf B i)
+    inner-z i h = let s = R .some i h in inner-drop i (xylen B i) h (omega arith) (omega arith)
 
     -- an XY that begins in an end has all of Y behind it
-    pub hangs-of-prefix : {z t : Word} {d j : ℕ} → Ending B z → Prefix B (z ++ t) d j → d < length z → Hangs B z t j (length z - d)
+    pub hangs-of-prefix : {z t : Word} {d j : ℕ} → InnerFactor B z → Prefix B (z ++ t) d j → d < length z → Hangs B z t j (length z - d)
     hangs-of-prefix {z} {t} {d} {j} (nothing e) f l = let y = ap length e in absurd (omega arith)
     hangs-of-prefix {z} {t} {d} {j} (inside i c h p m s) f l = by-cases (decLe (length z - d) (xlen B j))
         (λ a. record { some = omega arith; short = a; part = omega arith; at = subst (λ (n : ℕ). Prefix B (z ++ t) n j) (omega arith) f })
@@ -110,7 +110,7 @@ module _ {B : List Word} where
             (r .0, omega (arith, r .1))
 
     -- t is z-active or not
-    pub hangs-or-quiet : {z : Word} → Ending B z → (t : Word) → ((j : ℕ) × (k : ℕ) × Hangs B z t j k) ⊎ ((d j : ℕ) → d < length z → Prefix B (z ++ t) d j → ⊥)
+    pub hangs-or-quiet : {z : Word} → InnerFactor B z → (t : Word) → ((j : ℕ) × (k : ℕ) × Hangs B z t j k) ⊎ ((d j : ℕ) → d < length z → Prefix B (z ++ t) d j → ⊥)
     hangs-or-quiet {z} n t = go (active B z t) refl
       where
         go : (b : Bool) → active B z t ≡ b → ((j : ℕ) × (k : ℕ) × Hangs B z t j k) ⊎ ((d j : ℕ) → d < length z → Prefix B (z ++ t) d j → ⊥)
@@ -119,7 +119,7 @@ module _ {B : List Word} where
 
     module _ {fam : ℕ → ℕ} where
       -- what stands before a hanging XY stays (Proposition 5)
-      pub strip-hanging : {z t : Word} (b e : Word) {j k : ℕ} {v : Word} → Ending B z → Hangs B z t j k → z ≡ b ++ e → k ≤ length e → Chain B fam (z ++ t) v → Stripped B fam b (e ++ t) v
+      pub strip-hanging : {z t : Word} (b e : Word) {j k : ℕ} {v : Word} → InnerFactor B z → Hangs B z t j k → z ≡ b ++ e → k ≤ length e → Chain B fam (z ++ t) v → Stripped B fam b (e ++ t) v
       strip-hanging {z} {t} b e {j} {k} {v} n h q l c =
           let same : z ++ t ≡ b ++ (e ++ t) = ap (_++ t) q ∙ append-assoc b e t in
           let long = simp length-append at (ap length q) in
@@ -130,7 +130,7 @@ module _ {B : List Word} where
           (chain-from (sym same) c)
 
       -- a common prefix may be changed for one for which the rest is active (Corollary 3)
-      pub swap-prefixes : {z z′ t : Word} {j k : ℕ} (t′ : Word) → Ending B z → Ending B z′ → Hangs B z′ t j k → Chain B fam (z ++ t) (z ++ t′) → Chain B fam (z′ ++ t) (z′ ++ t′)
+      pub swap-prefixes : {z z′ t : Word} {j k : ℕ} (t′ : Word) → InnerFactor B z → InnerFactor B z′ → Hangs B z′ t j k → Chain B fam (z ++ t) (z ++ t′) → Chain B fam (z′ ++ t) (z′ ++ t′)
       swap-prefixes {z} {z′} {t} {j} {k} t′ n n′ h c = ⊎-elim
           (λ g. hanging (let o = hangs-one (g .2) h in subst₂ (Hangs B z t) (o .0) (o .1) (g .2)))
           (λ q. let s = strip-quiet R z t q c in chain-behind z′ (chain-to (s .chain) (append-cancel-left z (s .rest) t′ (sym (s .product)))))
@@ -150,5 +150,5 @@ module _ {B : List Word} where
                   (chain-to d (sym (ap (_++ t′) (y .1) ∙ append-assoc (y .0) (take k (word B j)) t′)))
 
       -- a word that loses its prefix z under a chain has a z-active rest (Proposition 4)
-      pub hangs-of-unlike : {z t s : Word} → Ending B z → Chain B fam (z ++ t) s → ((r : Word) → s ≡ z ++ r → ⊥) → (j : ℕ) × (k : ℕ) × Hangs B z t j k
+      pub hangs-of-unlike : {z t s : Word} → InnerFactor B z → Chain B fam (z ++ t) s → ((r : Word) → s ≡ z ++ r → ⊥) → (j : ℕ) × (k : ℕ) × Hangs B z t j k
       hangs-of-unlike {z} {t} {s} n c unlike = ⊎-elim (λ h. h) (λ q. let r = strip-quiet R z t q c in absurd (unlike (r .rest) (r .product))) (hangs-or-quiet n t)

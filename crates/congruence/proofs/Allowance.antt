@@ -7,9 +7,9 @@ use mathlib.Core.Path.{_≡_, refl, sym, ap, _∙_}
 use native.Mathlib.Omega.{arith}
 use native.Mathlib.Decide.{decLt}
 use Rattle.words.specs.Words.{Word}
-use Rattle.congruence.specs.Rounds.{Rounds, Answer, ending, answerFrom, compareUnder}
+use Rattle.congruence.specs.Rounds.{Rounds, CompareAnswer, ending, answerFrom, compareUnder}
 use Rattle.congruence.specs.Rounds.Rounds.{ended, goes}
-use Rattle.congruence.specs.Rounds.Answer.{same, different, spent}
+use Rattle.congruence.specs.Rounds.CompareAnswer.{same, different, spent}
 
 -- where the allowance is at least the number of rounds, the rows' end is the answer, with all rounds counted
 answer-late : (B : List Word) (left m : ℕ) {u v p : Word} {n : ℕ} {b : Bool} → Rounds B u v p n b → n ≤ left → answerFrom B left m u v p ≡ ending b (m + n)
@@ -28,32 +28,32 @@ answer-early B zero m (goes e r) h = rw e (ap spent (omega arith))
 answer-early B (suc left) m (goes e r) h = rw e (answer-early B left (m + 1) r (omega arith) ∙ ap spent (omega arith))
 
 -- the parts of an answer
-abbrev countOf : Answer → ℕ
+abbrev countOf : CompareAnswer → ℕ
 countOf (same n) = n
 countOf (different n) = n
 countOf (spent n) = n
 
-abbrev isSame : Answer → Bool
+abbrev isSame : CompareAnswer → Bool
 isSame (same n) = true
 isSame (different n) = false
 isSame (spent n) = false
 
-abbrev isSpent : Answer → Bool
+abbrev isSpent : CompareAnswer → Bool
 isSpent (same n) = false
 isSpent (different n) = false
 isSpent (spent n) = true
 
 -- an end tells its word and its count
-pub ending-parts : (b d : Bool) (n m : ℕ) → ending b n ≡ ending d m → (b ≡ d) × (n ≡ m)
-ending-parts true true n m e = (refl, ap countOf e)
-ending-parts true false n m e = absurd (true≢false (ap isSame e))
-ending-parts false true n m e = absurd (true≢false (sym (ap isSame e)))
-ending-parts false false n m e = (refl, ap countOf e)
+pub inner-parts : (b d : Bool) (n m : ℕ) → ending b n ≡ ending d m → (b ≡ d) × (n ≡ m)
+inner-parts true true n m e = (refl, ap countOf e)
+inner-parts true false n m e = absurd (true≢false (ap isSame e))
+inner-parts false true n m e = absurd (true≢false (sym (ap isSame e)))
+inner-parts false false n m e = (refl, ap countOf e)
 
 -- an end is not 'spent'
-pub ending-not-spent : (b : Bool) (n m : ℕ) → ending b n ≡ spent m → ⊥
-ending-not-spent true n m e = true≢false (sym (ap isSpent e))
-ending-not-spent false n m e = true≢false (sym (ap isSpent e))
+pub inner-not-spent : (b : Bool) (n m : ℕ) → ending b n ≡ spent m → ⊥
+inner-not-spent true n m e = true≢false (sym (ap isSpent e))
+inner-not-spent false n m e = true≢false (sym (ap isSpent e))
 
 module _ {B : List Word} {u v : Word} {n : ℕ} {b : Bool} (r : Rounds B u v [] n b) (allowance : ℕ) where
   -- where the allowance suffices, the answer is the end with the count
@@ -67,14 +67,14 @@ module _ {B : List Word} {u v : Word} {n : ℕ} {b : Bool} (r : Rounds B u v [] 
   -- an end is told only where the allowance suffices
   pub enough-of-ended : (d : Bool) (m : ℕ) → compareUnder B allowance u v ≡ ending d m → (d ≡ b) × (m ≡ n) × (n ≤ allowance)
   enough-of-ended d m e = by-cases (decLt allowance n)
-      (λ h. absurd (ending-not-spent d m allowance (sym e ∙ spent-of-less h)))
-      (λ h. let q = ending-parts d b m n (sym e ∙ ended-of-enough (omega arith)) in (q .0, q .1, omega arith))
+      (λ h. absurd (inner-not-spent d m allowance (sym e ∙ spent-of-less h)))
+      (λ h. let q = inner-parts d b m n (sym e ∙ ended-of-enough (omega arith)) in (q .0, q .1, omega arith))
 
   -- 'spent' is told only where it does not
   pub less-of-spent : (m : ℕ) → compareUnder B allowance u v ≡ spent m → (m ≡ allowance) × (allowance < n)
   less-of-spent m e = by-cases (decLt allowance n)
       (λ h. (ap countOf (sym e ∙ spent-of-less h), h))
-      (λ h. absurd (ending-not-spent b n m (sym (ended-of-enough (omega arith)) ∙ e)))
+      (λ h. absurd (inner-not-spent b n m (sym (ended-of-enough (omega arith)) ∙ e)))
 
   pub ended-iff : (compareUnder B allowance u v ≡ ending b n) ↔ (n ≤ allowance)
   ended-iff = (λ e. enough-of-ended b n e .2, ended-of-enough)

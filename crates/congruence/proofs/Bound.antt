@@ -13,7 +13,7 @@ use Rattle.congruence.specs.Rows.Next.{end, go}
 use Rattle.congruence.specs.Rounds.{Rounds}
 use Rattle.congruence.specs.Rounds.Rounds.{ended, goes}
 use Rattle.congruence.proofs.Heads.{Facts}
-use Rattle.congruence.proofs.Shape.{Held, weight, tailed-whole, held-start, round-lightens}
+use Rattle.congruence.proofs.Shape.{ComparisonWords, weight, tailed-whole, held-start, round-lightens}
 
 -- what n rounds that end with d say of what the first of them gives
 abbrev Known : List Word → Next → ℕ → Bool → Type 0
@@ -43,12 +43,12 @@ pub record Ends (B : List Word) (u v p : Word) (a b : ℕ) : Type 0 where
   pub second : count ≤ b
 
 module _ (B : List Word) (c : Facts B) (e : Even B) (u₀ v₀ : Word) where
-  ends-below : (fuel : ℕ) (u v p : Word) (h : Held B u₀ v₀ u v p) → weight B u₀ u (h .first) < fuel
+  ends-below : (fuel : ℕ) (u v p : Word) (h : ComparisonWords B u₀ v₀ u v p) → weight B u₀ u (h .first) < fuel
       → Ends B u v p (weight B u₀ u (h .first)) (weight B v₀ v (h .second))
   ends-below zero u v p h l = absurd (omega arith)
   ends-below (suc fuel) u v p h l = step (λ u v p h l. ends-below fuel u v p h l) (round B u v p) refl
     where
-      step : ((u v p : Word) (h : Held B u₀ v₀ u v p) → weight B u₀ u (h .first) < fuel → Ends B u v p (weight B u₀ u (h .first)) (weight B v₀ v (h .second)))
+      step : ((u v p : Word) (h : ComparisonWords B u₀ v₀ u v p) → weight B u₀ u (h .first) < fuel → Ends B u v p (weight B u₀ u (h .first)) (weight B v₀ v (h .second)))
           → (x : Next) → round B u v p ≡ x → Ends B u v p (weight B u₀ u (h .first)) (weight B v₀ v (h .second))
       step f (end b) q = record { count = 0; same = b; rounds = ended q; first = omega arith; second = omega arith }
       step f (go u′ v′ p′) q =
@@ -61,7 +61,7 @@ module _ (B : List Word) (c : Facts B) (e : Even B) (u₀ v₀ : Word) where
           record { count = suc (r .count); same = r .same; rounds = goes q (r .rounds); first = omega arith; second = omega arith }
 
   -- the rows end from every state of a comparison, within the weight of either word
-  pub ends-held : (u v p : Word) (h : Held B u₀ v₀ u v p) → Ends B u v p (weight B u₀ u (h .first)) (weight B v₀ v (h .second))
+  pub ends-held : (u v p : Word) (h : ComparisonWords B u₀ v₀ u v p) → Ends B u v p (weight B u₀ u (h .first)) (weight B v₀ v (h .second))
   ends-held u v p h = ends-below (suc (weight B u₀ u (h .first))) u v p h (omega arith)
 
 -- the rounds of two words, and their bounds; k is the greatest length of a Z

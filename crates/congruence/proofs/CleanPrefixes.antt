@@ -14,7 +14,7 @@ use Rattle.congruence.proofs.Places.{xy-z, whole-in-product}
 use Rattle.congruence.proofs.Chains.{Kin, Chain, kin-refl, chain-join, chain-sym, chain-behind, chain-from, chain-to}
 use Rattle.congruence.proofs.Chains.Chain.{stop}
 use Rattle.congruence.proofs.Strips.{Stripped}
-use Rattle.congruence.proofs.Activity.{Hangs, ending-z, hangs-one, hanging-end, strip-hanging, swap-prefixes, hangs-of-unlike}
+use Rattle.congruence.proofs.Activity.{Hangs, inner-z, hangs-one, hanging-end, strip-hanging, swap-prefixes, hangs-of-unlike}
 use Rattle.congruence.proofs.Merges.{Meets, Once, Unlike, meets-trans, reached-prefix, once-of-turned, chain-of-once, chain-of-meets}
 
 -- p is a possible prefix of u (document 003: a possible prefix): some word that begins with p is congruent to u
@@ -81,8 +81,8 @@ module _ {B : List Word} (R : Facts B) where
         to : Chain B fam (xyOf B i ++ s) (word B j ++ t) → Chain B fam s (zOf B i ++ t)
         to c =
             let o = once-of-chain {t = zOf B j ++ t} h (k .there) n (inl u) (chain-to c (sym (xy-z B j t))) in
-            let g = hangs-of-unlike R (ending-z R i (k .here)) (chain-sym (o .from)) u in
-            chain-join (o .from) (swap-prefixes R t (ending-z R j (k .there)) (ending-z R i (k .here)) (g .2) (o .to))
+            let g = hangs-of-unlike R (inner-z R i (k .here)) (chain-sym (o .from)) u in
+            chain-join (o .from) (swap-prefixes R t (inner-z R j (k .there)) (inner-z R i (k .here)) (g .2) (o .to))
 
         from : Chain B fam s (zOf B i ++ t) → Chain B fam (xyOf B i ++ s) (word B j ++ t)
         from c = chain-to (chain-of-once R k (record { rest = t; from = c; to = stop })) (xy-z B j t)
@@ -95,8 +95,8 @@ module _ {B : List Word} (R : Facts B) where
         to : Chain B fam (word B i ++ s) (xyOf B j ++ t) → Chain B fam (zOf B j ++ s) t
         to c =
             let o = once-of-chain {s = zOf B i ++ s} {t = t} (clean-whole i s (k .here)) (k .there) n (inr u) (chain-from (xy-z B i s) c) in
-            let g = hangs-of-unlike R (ending-z R j (k .there)) (o .to) u in
-            chain-join (chain-sym (swap-prefixes R s (ending-z R i (k .here)) (ending-z R j (k .there)) (g .2) (chain-sym (o .from)))) (o .to)
+            let g = hangs-of-unlike R (inner-z R j (k .there)) (o .to) u in
+            chain-join (chain-sym (swap-prefixes R s (inner-z R i (k .here)) (inner-z R j (k .there)) (g .2) (chain-sym (o .from)))) (o .to)
 
         from : Chain B fam (zOf B j ++ s) t → Chain B fam (word B i ++ s) (xyOf B j ++ t)
         from c = chain-from (sym (xy-z B i s)) (chain-of-once R k (record { rest = s; from = stop; to = c }))
@@ -111,8 +111,8 @@ module _ {B : List Word} (R : Facts B) where
           where
             go : Once B fam i s j t → Parted B fam e f z s t
             go o =
-                let g = hangs-of-unlike R (ending-z R i (k .here)) (chain-sym (o .from)) u in
-                let g′ = hangs-of-unlike R (ending-z R j (k .there)) (o .to) w in
+                let g = hangs-of-unlike R (inner-z R i (k .here)) (chain-sym (o .from)) u in
+                let g′ = hangs-of-unlike R (inner-z R j (k .there)) (o .to) w in
                 part (g .0) (g .1) (g .2) (let y = hangs-one R (g′ .2) (g .2) in subst₂ (Hangs B (zOf B j) (o .rest)) (y .0) (y .1) (g′ .2))
               where
                 part : (q n : ℕ) → Hangs B (zOf B i) (o .rest) q n → Hangs B (zOf B j) (o .rest) q n → Parted B fam e f z s t
@@ -120,8 +120,8 @@ module _ {B : List Word} (R : Facts B) where
                     let a = hanging-end g in
                     let b = hanging-end g′ in
                     let l = m .most (a .0) (b .0) (take n (word B q)) (a .1) (b .1) in
-                    let y : Stripped B fam e (z ++ o .rest) s = strip-hanging R e z (ending-z R i (k .here)) g (m .left) (omega (arith, a .2)) (chain-sym (o .from)) in
-                    let y′ : Stripped B fam f (z ++ o .rest) t = strip-hanging R f z (ending-z R j (k .there)) g′ (m .right) (omega (arith, a .2)) (o .to) in
+                    let y : Stripped B fam e (z ++ o .rest) s = strip-hanging R e z (inner-z R i (k .here)) g (m .left) (omega (arith, a .2)) (chain-sym (o .from)) in
+                    let y′ : Stripped B fam f (z ++ o .rest) t = strip-hanging R f z (inner-z R j (k .there)) g′ (m .right) (omega (arith, a .2)) (o .to) in
                     record {
                       left = y .rest;
                       right = y′ .rest;

@@ -16,7 +16,7 @@ use Rattle.congruence.proofs.Guards.{Guard}
 use Rattle.congruence.proofs.Tracks.{Track, kept}
 use Rattle.congruence.proofs.Tracks.Track.{quit, turn}
 use Rattle.congruence.proofs.Strips.{strip-quiet}
-use Rattle.congruence.proofs.Activity.{Hangs, ending-z, hangs-or-quiet, swap-prefixes, hangs-of-unlike}
+use Rattle.congruence.proofs.Activity.{Hangs, inner-z, hangs-or-quiet, swap-prefixes, hangs-of-unlike}
 
 -- behind Z of some member of i's family t and t′ are congruent
 pub record Meets (B : List Word) (fam : ℕ → ℕ) (i : ℕ) (t t′ : Word) : Type 0 where
@@ -77,7 +77,7 @@ module _ {B : List Word} (R : Facts B) {fam : ℕ → ℕ} where
 
   -- the member may be any for which t is active
   pub chain-of-active : {i c : ℕ} {t t′ : Word} {j k : ℕ} → Meets B fam i t t′ → Kin B fam i c → Hangs B (zOf B c) t j k → Chain B fam (zOf B c ++ t) (zOf B c ++ t′)
-  chain-of-active {i} {c} {t} {t′} m k h = swap-prefixes R t′ (ending-z R (m .by) (m .kin .there)) (ending-z R c (k .there)) h (m .chain)
+  chain-of-active {i} {c} {t} {t′} m k h = swap-prefixes R t′ (inner-z R (m .by) (m .kin .there)) (inner-z R c (k .there)) h (m .chain)
 
   -- where t is active for no member, t and t′ are congruent themselves
   pub chain-of-quiet : {i : ℕ} {t t′ : Word} → Meets B fam i t t′ → ((c : ℕ) → Kin B fam i c → (d j : ℕ) → d < length (zOf B c) → Prefix B (zOf B c ++ t) d j → ⊥) → Chain B fam t t′
@@ -98,7 +98,7 @@ module _ {B : List Word} (R : Facts B) {fam : ℕ → ℕ} where
       let s = strip-quiet R (zOf B (n .by)) t′ q (n .chain) in
       let c = chain-to (s .chain) (append-cancel-left (zOf B (n .by)) (s .rest) t″ (sym (s .product))) in
       record { by = m .by; kin = m .kin; chain = chain-join (m .chain) (chain-behind (zOf B (m .by)) c) })
-      (hangs-or-quiet R (ending-z R (n .by) (n .kin .there)) t′)
+      (hangs-or-quiet R (inner-z R (n .by) (n .kin .there)) t′)
 
   -- every track is plain or turned
   pub plain-or-turned : {j : ℕ} {t : Word} {i : ℕ} {s : Word} → Track B fam j t i s → Plain B fam i s j t ⊎ Turned B fam i s j t
@@ -119,10 +119,10 @@ module _ {B : List Word} (R : Facts B) {fam : ℕ → ℕ} where
   pub once-of-turned : {i j : ℕ} {s t : Word} → Kin B fam i j → Turned B fam i s j t → Unlike (zOf B i) s ⊎ Unlike (zOf B j) t → Once B fam i s j t
   once-of-turned {i} {j} {s} {t} k x = ⊎-elim
       (λ u.
-      let h = hangs-of-unlike R (ending-z R i (k .here)) (chain-sym (x .from)) u in
+      let h = hangs-of-unlike R (inner-z R i (k .here)) (chain-sym (x .from)) u in
       record { rest = x .right; from = chain-join (x .from) (chain-of-active (x .meets) (kin-refl (k .here)) (h .2)); to = x .to })
       (λ u.
-      let h = hangs-of-unlike R (ending-z R j (k .there)) (x .to) u in
+      let h = hangs-of-unlike R (inner-z R j (k .there)) (x .to) u in
       record { rest = x .left; from = x .from; to = chain-join (chain-sym (chain-of-active (meets-sym (x .meets)) k (h .2))) (x .to) })
 
   -- and the other way: each form is a chain

@@ -20,8 +20,8 @@ use Rattle.congruence.proofs.Places.{same-left, xy-z, prefix-in-product
 use Rattle.congruence.proofs.Chains.{Kin, Chain, chain-join, chain-sym, chain-behind, chain-from, chain-to, chain-turn}
 use Rattle.congruence.proofs.Chains.Chain.{stop}
 use Rattle.congruence.proofs.Strips.{strip, chain-still}
-use Rattle.congruence.proofs.Activity.{Ending}
-use Rattle.congruence.proofs.Activity.Ending.{nothing, inside}
+use Rattle.congruence.proofs.Activity.{InnerFactor}
+use Rattle.congruence.proofs.Activity.InnerFactor.{nothing, inside}
 use Rattle.congruence.proofs.Merges.{reached}
 use Rattle.congruence.proofs.CleanPrefixes.{PossiblePrefix}
 
@@ -47,7 +47,7 @@ module _ {B : List Word} {fam : ℕ → ℕ} where
 
 module _ {B : List Word} (R : Facts B) where
   -- an end in front of a word that begins with XY lies inside X
-  pub x-of-ending : {p : Word} → Ending B p → (w t : Word) (j : ℕ) → j < length B → p ++ w ≡ xyOf B j ++ t → isPrefix p (xOf B j) ≡ true
+  pub x-of-ending : {p : Word} → InnerFactor B p → (w t : Word) (j : ℕ) → j < length B → p ++ w ≡ xyOf B j ++ t → isPrefix p (xOf B j) ≡ true
   unfolding isPrefix
   x-of-ending {p} (nothing e) w t j h q = subst (λ (y : Word). isPrefix y (xOf B j) ≡ true) (sym e) refl
   x-of-ending {p} (inside n c l o m s) w t j h q =
@@ -66,7 +66,7 @@ module _ {B : List Word} (R : Facts B) where
 
   module _ {fam : ℕ → ℕ} where
     -- a possible prefix of a word with clean XY lies inside X of some member; if that is not X itself, Z is possible behind XY
-    pub x-of-possible : {p s : Word} {i : ℕ} → Ending B p → Clean B (xyOf B i ++ s) 0 i → PossiblePrefix B fam p (xyOf B i ++ s)
+    pub x-of-possible : {p s : Word} {i : ℕ} → InnerFactor B p → Clean B (xyOf B i ++ s) 0 i → PossiblePrefix B fam p (xyOf B i ++ s)
         → (j : ℕ) × Kin B fam i j × (isPrefix p (xOf B j) ≡ true) × ((i ≡ j) ⊎ PossiblePrefix B fam (zOf B i) s)
     x-of-possible {p} {s} {i} n h x =
         let r = reached R h (chain-sym (x .chain)) in (

@@ -28,8 +28,8 @@ use Rattle.congruence.proofs.FirstRow.{CleanPrefix, Fits, xy-of-whole, 
 use Rattle.congruence.proofs.FirstRow.Fits.{fits1, fits2, fits3, fits4, fits5, fits6, fits7, fits8}
 use Rattle.congruence.proofs.Chains.{Kin, Chain, kin-refl, chain-sym, chain-behind}
 use Rattle.congruence.proofs.Chains.Chain.{stop}
-use Rattle.congruence.proofs.Activity.{Ending, ending-z, ending-rest, hangs-of-prefix, hangs-or-quiet}
-use Rattle.congruence.proofs.Activity.Ending.{nothing}
+use Rattle.congruence.proofs.Activity.{InnerFactor, inner-z, inner-rest, hangs-of-prefix, hangs-or-quiet}
+use Rattle.congruence.proofs.Activity.InnerFactor.{nothing}
 use Rattle.congruence.proofs.Merges.{Meets, Unlike, chain-of-active, chain-of-quiet}
 use Rattle.congruence.proofs.CleanPrefixes.{PossiblePrefix}
 use Rattle.congruence.proofs.PossiblePrefixes.{possible-nothing, chain-of-rests, possible-of-rests, empty-stays}
@@ -45,9 +45,9 @@ pub record Possible (B : List Word) (p u : Word) : Type 0 where
 abbrev pub Right : List Word → Word → Word → Word → Type 0
 Right B u v p = Congruent B u v × Possible B p u
 
--- a mark of a comparison: empty, or it stands in a relation word, not at its prefix
+-- a mark of a comparison: empty, or it stands in a relation word, not at its start
 abbrev pub Mark : List Word → Word → Type 0
-Mark B p = Ending B p
+Mark B p = InnerFactor B p
 
 module _ {B : List Word} (even : Even B) where
   -- a possible prefix, over relations and over families of two
@@ -70,7 +70,7 @@ module _ {B : List Word} (R : Facts B) (even : Even B) where
   row1-says (x ∷ u) (y ∷ v) p e = absurd (true≢false (sym e))
 
   -- row 2: no clean relation prefix, so the first letter stays
-  row2-says : (u v p : Word) → Ending B p → 0 < length u → 0 < length v → ((i : ℕ) → Clean B u 0 i → ⊥) → Says B half u v p (row2 u v p)
+  row2-says : (u v p : Word) → InnerFactor B p → 0 < length u → 0 < length v → ((i : ℕ) → Clean B u 0 i → ⊥) → Says B half u v p (row2 u v p)
   unfolding row2
   row2-says [] v p n a b none = absurd (omega arith)
   row2-says (x ∷ u) [] p n a b none = absurd (omega arith)
@@ -93,7 +93,7 @@ module _ {B : List Word} (R : Facts B) (even : Even B) where
           (λ c. (chain-of-rests R none y v .0 (c .0) .1, possible-of-rests R none w p .0 (c .1) .1)),
           (λ c. (chain-of-rests R none y v .1 (eqb-true x y (r .0), c .0), possible-of-rests R none w p .1 (eqb-true w x (r .1), c .1))),
         ),
-        ending-rest 1 n,
+        inner-rest 1 n,
       ))
       (λ q c.
       let d = eq-eqb x y (chain-of-rests R none y v .0 (c .0) .0) in
@@ -102,7 +102,7 @@ module _ {B : List Word} (R : Facts B) (even : Even B) where
       true≢false (sym yes-2 ∙ q))
 
   -- families of two: relation word i and the other one of its relation
-  module _ (i : ℕ) (u v p : Word) (n : Ending B p) (c : CleanPrefix B u i) where
+  module _ (i : ℕ) (u v p : Word) (n : InnerFactor B p) (c : CleanPrefix B u i) where
     abbrev j : ℕ
     j = other i
 
@@ -140,8 +140,8 @@ module _ {B : List Word} (R : Facts B) (even : Even B) where
       tails-say a b l e f q = by-choose (λ (z : Word). Says B half u v p (go (z ++ a) (z ++ b) [])) (active B (zOf B i) a) _ _
           (λ o. row4-says R half i u v p h x a b l e f q i (kin-refl (c .there)) (λ g.
           let d = active-found R (zOf B i) a o in
-          chain-of-active R g (kin-refl (c .there)) (hangs-of-prefix R (ending-z R i (c .there)) (d .3) (d .2))))
-          (λ o. row4-says R half i u v p h x a b l e f q j k (λ g. ⊎-elim (λ d. chain-of-active R g k (d .2)) (λ d. quiet o g d) (hangs-or-quiet R (ending-z R j (k .there)) a)))
+          chain-of-active R g (kin-refl (c .there)) (hangs-of-prefix R (inner-z R i (c .there)) (d .3) (d .2))))
+          (λ o. row4-says R half i u v p h x a b l e f q j k (λ g. ⊎-elim (λ d. chain-of-active R g k (d .2)) (λ d. quiet o g d) (hangs-or-quiet R (inner-z R j (k .there)) a)))
         where
           quiet : active B (zOf B i) a ≡ false → Meets B half i a b → ((d m : ℕ) → d < length (zOf B j) → Prefix B (zOf B j ++ a) d m → ⊥) → Chain B half (zOf B j ++ a) (zOf B j ++ b)
           quiet o g d = chain-behind (zOf B j) (chain-of-quiet R g (λ r q. ⊎-elim
@@ -169,7 +169,7 @@ module _ {B : List Word} (R : Facts B) (even : Even B) where
           (true-or-false (isPrefix (word B i) u))
 
   -- every row, where it fits first
-  row-says : (i : ℕ) (u v p : Word) (row : ℕ) → Ending B p → (length B ≤ i → (l : ℕ) → Clean B u 0 l → ⊥) → Fits B i (other i) u v p row → Says B half u v p (makes B i (other i) u v p row)
+  row-says : (i : ℕ) (u v p : Word) (row : ℕ) → InnerFactor B p → (length B ≤ i → (l : ℕ) → Clean B u 0 l → ⊥) → Fits B i (other i) u v p row → Says B half u v p (makes B i (other i) u v p row)
   unfolding makes
   row-says i u v p row n none (fits1 e) = row1-says u v p e
   row-says i u v p row n none (fits2 a b l) = row2-says u v p n a b (none l)
@@ -184,7 +184,7 @@ module _ {B : List Word} (R : Facts B) (even : Even B) where
   row-says i u v p row n none (fits8 c m a w y z) =
       row8-says R half i u v p (h i u v p n c) (x i u v p n c m) (other i) (k i u v p n c) (other-differs i) y w z
 
-  round-says : (u v p : Word) → Ending B p → Says B half u v p (round B u v p)
+  round-says : (u v p : Word) → InnerFactor B p → Says B half u v p (round B u v p)
   unfolding round
   round-says u v p n =
       row-says (cleanRelationPrefix B u) u v p _ n (λ l. cleanRelationPrefix-none R u (λ a. absurd (omega arith))) (fits B u v p)

@@ -19,8 +19,8 @@ use Rattle.congruence.proofs.RowTests.{by-choose, test-of-head}
 use Rattle.congruence.proofs.Places.{xy-z}
 use Rattle.congruence.proofs.Chains.{Kin, Chain, chain-sym, chain-from, chain-to}
 use Rattle.congruence.proofs.Chains.Chain.{stop}
-use Rattle.congruence.proofs.Activity.{Ending, ending-z, ending-rest}
-use Rattle.congruence.proofs.Activity.Ending.{nothing}
+use Rattle.congruence.proofs.Activity.{InnerFactor, inner-z, inner-rest}
+use Rattle.congruence.proofs.Activity.InnerFactor.{nothing}
 use Rattle.congruence.proofs.Merges.{Meets, Unlike, reached, reached-prefix}
 use Rattle.congruence.proofs.CleanPrefixes.{PossiblePrefix, Parted, wholes-iff, rests-of-same, rests-of-left, rests-of-right, parted-of-unlikes}
 use Rattle.congruence.proofs.PossiblePrefixes.{possible-nothing, possible-of-x, x-of-possible, possible-of-turn}
@@ -34,7 +34,7 @@ Both B fam u v p = Chain B fam u v × PossiblePrefix B fam p u
 abbrev pub Says : List Word → (ℕ → ℕ) → Word → Word → Word → Next → Type 0
 Says B fam u v p (end true) = Both B fam u v p
 Says B fam u v p (end false) = Both B fam u v p → ⊥
-Says B fam u v p (go u′ v′ p′) = (Both B fam u v p ↔ Both B fam u′ v′ p′) × Ending B p′
+Says B fam u v p (go u′ v′ p′) = (Both B fam u v p ↔ Both B fam u′ v′ p′) × InnerFactor B p′
 
 -- p is a prefix of the X of some member of i's family, as row 3 asks
 abbrev pub Marked : List Word → (ℕ → ℕ) → ℕ → Word → Type 0
@@ -74,7 +74,7 @@ module _ {B : List Word} (R : Facts B) (fam : ℕ → ℕ) (i : ℕ) (u v p : Wo
       let r = reached R clean-s (chain-from (sym u-is) (c .0)) in
       (r .into, r .kin, subst (λ (w : Word). isPrefix (xyOf B (r .into)) w ≡ true) (sym (r .product)) (prefix-append (xyOf B (r .into)) (r .rest)))
 
-  pub marked-of-both : Ending B p → Both B fam u v p → Marked B fam i p
+  pub marked-of-both : InnerFactor B p → Both B fam u v p → Marked B fam i p
   marked-of-both n c = let m = x-of-possible R n clean-s (subst (PossiblePrefix B fam p) u-is (c .1)) in (m .0, m .1, m .2)
 
   module _ (x : Marked B fam i p) where
@@ -97,7 +97,7 @@ module _ {B : List Word} (R : Facts B) (fam : ℕ → ℕ) (i : ℕ) (u v p : Wo
     )
 
     -- row 5: the same XY, and not Z behind both
-    pub row5-says : (j : ℕ) → Ending B p → isPrefix (xyOf B i) v ≡ true → Unlike (zOf B i) s ⊎ Unlike (zOf B i) (drop (xylen B i) v) → Says B fam u v p (row5 B i j u v p)
+    pub row5-says : (j : ℕ) → InnerFactor B p → isPrefix (xyOf B i) v ≡ true → Unlike (zOf B i) s ⊎ Unlike (zOf B i) (drop (xylen B i) v) → Says B fam u v p (row5 B i j u v p)
     unfolding row5
     row5-says j n q unlike = by-choose (λ (m : Word). Says B fam u v p (go s (drop (xylen B i) v) m)) (isPrefix p (xOf B i)) _ _
         (λ o. (
@@ -109,7 +109,7 @@ module _ {B : List Word} (R : Facts B) (fam : ℕ → ℕ) (i : ℕ) (u v p : Wo
         ))
         (λ o. (
           (λ c. (rests .0 (here (c .0)), z-possible o (c .1)), λ c. (there (c .0), possible-of-z s u-is (c .1))),
-          ending-z R i (h .at .there),
+          inner-z R i (h .at .there),
         ))
       where
         v-is : v ≡ xyOf B i ++ drop (xylen B i) v
@@ -206,8 +206,8 @@ module _ {B : List Word} (R : Facts B) (fam : ℕ → ℕ) (i : ℕ) (u v p : Wo
               let both : (isPrefix e s && isPrefix f t) ≡ true = simp and-eq-true-iff (l, r) in
               true≢false (sym both ∙ q)
 
-          goes : (isPrefix e s ≡ true) × (isPrefix f t ≡ true) → (Both B fam u v p ↔ Both B fam (drop (length e) s) (drop (length f) t) z) × Ending B z
-          goes q = ((to, from), ending-rest (length e) (ending-z R i (k .here)))
+          goes : (isPrefix e s ≡ true) × (isPrefix f t ≡ true) → (Both B fam u v p ↔ Both B fam (drop (length e) s) (drop (length f) t) z) × InnerFactor B z
+          goes q = ((to, from), inner-rest (length e) (inner-z R i (k .here)))
             where
               to : Both B fam u v p → Both B fam (drop (length e) s) (drop (length f) t) z
               to c =

@@ -1,6 +1,6 @@
 -- The shape of the words of a comparison: an end of a Z, or nothing, before an end of the word that it began with. It holds at the start and is kept by
 -- every round, and every round makes both words lighter (document 003, Lemma 6).
-use Prim.Native.Nat.{ℕ, zero, suc, _+_, _-_, _*_, _≤_, _<_}
+use Prim.Native.Nat.{ℕ, zero, suc, _+_, _-_, _*_, _<_}
 use mathlib.Core.Bool.{true}
 use mathlib.Core.Logic.{by-cases, ⊎-elim, _⊎_, inl, inr}
 use mathlib.Core.List.{List, [], _∷_, _++_}
@@ -15,40 +15,33 @@ use Rattle.words.proofs.Relations.{Even}
 use Rattle.overlap.specs.Cuts.{xyOf, longestSuffixPiece}
 use Rattle.congruence.specs.Rows.{round}
 use Rattle.congruence.specs.Rows.Next.{go}
+use Rattle.congruence.specs.Theorem.{EndOfTail, TailThenRest}
+use Rattle.congruence.specs.Theorem.EndOfTail.{nothing}
 use Rattle.congruence.proofs.Heads.{Facts}
-use Rattle.congruence.proofs.ShapeNoPrefix.{TailEnd, tail-drop, quiet-tail, tail-at-most, prefix-past-quiet}
-use Rattle.congruence.proofs.ShapeNoPrefix.TailEnd.{void}
+use Rattle.congruence.proofs.ShapeNoPrefix.{tail-drop, quiet-tail, tail-at-most, prefix-past-quiet}
 use Rattle.congruence.proofs.ShapeRows.{Recut, Moves, round-moves}
 use Rattle.congruence.proofs.ShapeRows.Moves.{drops, cuts}
 
--- u is `tail`, an end of a Z or nothing, and then u₀ without its first `from` letters
-pub record Tailed (B : List Word) (u₀ u : Word) : Type 0 where
-  pub tail : Word
-  pub from : ℕ
-  pub ends : TailEnd B tail
-  pub within : from ≤ length u₀
-  pub made : u ≡ tail ++ drop from u₀
-
 -- what falls in every round: the letters of the tail, and k + 1 for each letter of the rest
-abbrev pub weight : (B : List Word) (u₀ u : Word) → Tailed B u₀ u → ℕ
+abbrev pub weight : (B : List Word) (u₀ u : Word) → TailThenRest B u₀ u → ℕ
 weight B u₀ u t = length (t .tail) + (longestSuffixPiece B + 1) * (length u₀ - t .from)
 
 -- the words of a comparison of u₀ and v₀; the mark is not empty only while both tails are empty
-pub record Held (B : List Word) (u₀ v₀ u v p : Word) : Type 0 where
-  pub first : Tailed B u₀ u
-  pub second : Tailed B v₀ v
-  pub mark : TailEnd B p
+pub record ComparisonWords (B : List Word) (u₀ v₀ u v p : Word) : Type 0 where
+  pub first : TailThenRest B u₀ u
+  pub second : TailThenRest B v₀ v
+  pub mark : EndOfTail B p
   pub alone : (p ≡ []) ⊎ ((first .tail ≡ []) × (second .tail ≡ []))
 
 -- the word itself, to begin with
-unfoldable pub tailed-whole : (B : List Word) (u : Word) → Tailed B u u
-tailed-whole B u = record { tail = []; from = 0; ends = void refl; within = omega arith; made = refl }
+unfoldable pub tailed-whole : (B : List Word) (u : Word) → TailThenRest B u u
+tailed-whole B u = record { tail = []; from = 0; ends = nothing refl; within = omega arith; made = refl }
 
-unfoldable pub held-start : (B : List Word) (u v : Word) → Held B u v u v []
-held-start B u v = record { first = tailed-whole B u; second = tailed-whole B v; mark = void refl; alone = inl refl }
+unfoldable pub held-start : (B : List Word) (u v : Word) → ComparisonWords B u v u v []
+held-start B u v = record { first = tailed-whole B u; second = tailed-whole B v; mark = nothing refl; alone = inl refl }
 
 -- the tail and the rest are as long as they should be
-pub tailed-length : (B : List Word) (u₀ u : Word) (t : Tailed B u₀ u) → length u ≡ length (t .tail) + (length u₀ - t .from)
+pub tailed-length : (B : List Word) (u₀ u : Word) (t : TailThenRest B u₀ u) → length u ≡ length (t .tail) + (length u₀ - t .from)
 tailed-length B u₀ u t = ap length (t .made) ∙ rw (length-append, length-drop)
 
 -- fewer letters of the rest pay for any tail
@@ -62,8 +55,8 @@ weigh-drop k a l f h = by-cases (ℕ-discrete a 0)
     (λ e. let m = ap (λ n. (k + 1) * (l - n)) {x = f + (1 - a)} {y = f} (omega arith) in omega arith)
 
 -- a word of the same comparison that is lighter
-pub record Lighter (B : List Word) (u₀ u u′ : Word) (t : Tailed B u₀ u) (z : Word) : Type 0 where
-  pub next : Tailed B u₀ u′
+pub record Lighter (B : List Word) (u₀ u u′ : Word) (t : TailThenRest B u₀ u) (z : Word) : Type 0 where
+  pub next : TailThenRest B u₀ u′
   pub less : weight B u₀ u′ next < weight B u₀ u t
   pub before : next .tail ≡ z
 
@@ -73,7 +66,7 @@ drop-both zero a r = rw (zero-sub (length a))
 drop-both (suc n) [] r = ap (λ m. drop m r) {x = suc n} {y = suc n - 0} (omega arith)
 drop-both (suc n) (x ∷ a) r = drop-both n a r ∙ ap (λ m. drop n a ++ drop m r) {x = n - length a} {y = suc n - suc (length a)} (omega arith)
 
-module _ (B : List Word) (u₀ u u′ : Word) (t : Tailed B u₀ u) where
+module _ (B : List Word) (u₀ u u′ : Word) (t : TailThenRest B u₀ u) where
   -- a letter is dropped
   drop-lighter : 0 < length u → u′ ≡ drop 1 u → Lighter B u₀ u u′ t (drop 1 (t .tail))
   drop-lighter h e =
@@ -122,12 +115,12 @@ module _ (B : List Word) (u₀ u u′ : Word) (t : Tailed B u₀ u) where
       }
 
 -- what every round keeps, and both words lighter
-pub record Lightened (B : List Word) (u₀ v₀ u v p u′ v′ p′ : Word) (h : Held B u₀ v₀ u v p) : Type 0 where
-  pub next : Held B u₀ v₀ u′ v′ p′
+pub record Lightened (B : List Word) (u₀ v₀ u v p u′ v′ p′ : Word) (h : ComparisonWords B u₀ v₀ u v p) : Type 0 where
+  pub next : ComparisonWords B u₀ v₀ u′ v′ p′
   pub first : weight B u₀ u′ (next .first) < weight B u₀ u (h .first)
   pub second : weight B v₀ v′ (next .second) < weight B v₀ v (h .second)
 
-module _ (B : List Word) (c : Facts B) (u₀ v₀ u v p u′ v′ p′ : Word) (h : Held B u₀ v₀ u v p) where
+module _ (B : List Word) (c : Facts B) (u₀ v₀ u v p u′ v′ p′ : Word) (h : ComparisonWords B u₀ v₀ u v p) where
   moves-lighten : Moves B u v p u′ v′ p′ → Lightened B u₀ v₀ u v p u′ v′ p′ h
   moves-lighten (drops hu hv eu ev ep) =
       let a = drop-lighter B u₀ u u′ (h .first) hu eu in
@@ -137,7 +130,7 @@ module _ (B : List Word) (c : Facts B) (u₀ v₀ u v p u′ v′ p′ : Word) (
             record {
               first = a .next;
               second = b .next;
-              mark = subst (TailEnd B) (sym ep) (tail-drop B p 1 (h .mark));
+              mark = subst (EndOfTail B) (sym ep) (tail-drop B p 1 (h .mark));
               alone =
                   ⊎-elim (λ e. inl (ep ∙ rw e (drop-nil 1))) (λ e. inr (a .before ∙ rw (e .0) (drop-nil 1), b .before ∙ rw (e .1) (drop-nil 1))) (h .alone);
             };
@@ -157,5 +150,5 @@ module _ (B : List Word) (c : Facts B) (u₀ v₀ u v p u′ v′ p′ : Word) (
   round-lightens e r = moves-lighten (round-moves B c e r)
 
   -- the shape is kept by every round
-  pub held-round : Even B → round B u v p ≡ go u′ v′ p′ → Held B u₀ v₀ u′ v′ p′
+  pub held-round : Even B → round B u v p ≡ go u′ v′ p′ → ComparisonWords B u₀ v₀ u′ v′ p′
   held-round e r = round-lightens e r .next

@@ -17,6 +17,8 @@ use Rattle.overlap.specs.Cuts.{zlen, xylen, xyOf, zOf, zmost, longestSuffixPiec
 use Rattle.overlap.proofs.Facts.{z-bound, length-xy, length-z}
 use Rattle.congruence.specs.Rows.{hasRelationPrefixAt}
 use Rattle.congruence.specs.NoRelationPrefix.{NoRelationPrefix}
+use Rattle.congruence.specs.Theorem.{EndOfTail}
+use Rattle.congruence.specs.Theorem.EndOfTail.{nothing, of}
 use Rattle.congruence.proofs.Heads.{Facts}
 use Rattle.congruence.proofs.RowTests.{stands-of-test, test-of-stands}
 
@@ -77,29 +79,24 @@ quiet-z B c i h = record { nowhere = λ q. false-of (hasRelationPrefixAt B (zOf 
         let p = c .marker (f .0) i (xylen B i + q) (xylen B (f .0)) (f .1) h (omega arith) (omega arith) (omega arith) n in
         omega arith
 
--- a word that is empty or an end of a Z
-pub data TailEnd (B : List Word) (z : Word) : Type 0 where
-  void : z ≡ [] → TailEnd B z
-  endOf : (i a : ℕ) → i < length B → z ≡ drop a (zOf B i) → TailEnd B z
+-- every Z is an end of a tail
+pub tail-of-z : (B : List Word) (i : ℕ) → i < length B → EndOfTail B (zOf B i)
+tail-of-z B i h = of i 0 h refl
 
--- every Z is one
-pub tail-of-z : (B : List Word) (i : ℕ) → i < length B → TailEnd B (zOf B i)
-tail-of-z B i h = endOf i 0 h refl
+-- an end of an end of a tail is one
+pub tail-drop : (B : List Word) (z : Word) (n : ℕ) → EndOfTail B z → EndOfTail B (drop n z)
+tail-drop B z n (nothing e) = nothing (rw e (drop-nil n))
+tail-drop B z n (of i a h e) = of i (a + n) h (rw e (drop-drop n a (zOf B i)))
 
--- so is an end of one
-pub tail-drop : (B : List Word) (z : Word) (n : ℕ) → TailEnd B z → TailEnd B (drop n z)
-tail-drop B z n (void e) = void (rw e (drop-nil n))
-tail-drop B z n (endOf i a h e) = endOf i (a + n) h (rw e (drop-drop n a (zOf B i)))
+-- X and Y stand in no end of a tail
+pub quiet-tail : (B : List Word) → Facts B → (z : Word) → EndOfTail B z → NoRelationPrefix B z
+quiet-tail B c z (nothing e) = subst (NoRelationPrefix B) (sym e) (quiet-nil B c)
+quiet-tail B c z (of i a h e) = subst (NoRelationPrefix B) (sym e) (quiet-drop B (zOf B i) a (quiet-z B c i h))
 
--- X and Y stand in none
-pub quiet-tail : (B : List Word) → Facts B → (z : Word) → TailEnd B z → NoRelationPrefix B z
-quiet-tail B c z (void e) = subst (NoRelationPrefix B) (sym e) (quiet-nil B c)
-quiet-tail B c z (endOf i a h e) = subst (NoRelationPrefix B) (sym e) (quiet-drop B (zOf B i) a (quiet-z B c i h))
-
--- none is longer than document 01's k
-pub tail-at-most : (B : List Word) (z : Word) → TailEnd B z → length z ≤ longestSuffixPiece B
-tail-at-most B z (void e) = rw e (omega arith)
-tail-at-most B z (endOf i a h e) = let m = z-at-most B i h in let d = length-drop a (zOf B i) in rw e (omega arith)
+-- no end of a tail is longer than document 01's k
+pub tail-at-most : (B : List Word) (z : Word) → EndOfTail B z → length z ≤ longestSuffixPiece B
+tail-at-most B z (nothing e) = rw e (omega arith)
+tail-at-most B z (of i a h e) = let m = z-at-most B i h in let d = length-drop a (zOf B i) in rw e (omega arith)
 
 -- a prefix XY of z r, nothing standing in z, is longer than z
 pub prefix-past-quiet : (B : List Word) → Facts B → (z r : Word) (j : ℕ) → NoRelationPrefix B z → j < length B → isPrefix (xyOf B j) (z ++ r) ≡ true → length z < xylen B j

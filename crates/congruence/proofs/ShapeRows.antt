@@ -17,12 +17,13 @@ use Rattle.overlap.specs.Cuts.{len, xylen, xOf, xyOf, zOf}
 use Rattle.overlap.proofs.Facts.{length-xy}
 use Rattle.congruence.specs.Rows.{Next, choose, cleanRelationPrefix, otherWord, active, alike, row1, row2, row4, row5, row6, row7, row8, makes, round}
 use Rattle.congruence.specs.Rows.Next.{end, go}
+use Rattle.congruence.specs.Theorem.{EndOfTail}
+use Rattle.congruence.specs.Theorem.EndOfTail.{nothing}
 use Rattle.congruence.proofs.Heads.{Facts}
 use Rattle.congruence.proofs.RowTests.{by-choose, prefix-of-clean}
 use Rattle.congruence.proofs.FirstRow.{Fits, xy-of-whole, fits}
 use Rattle.congruence.proofs.FirstRow.Fits.{fits1, fits2, fits3, fits4, fits5, fits6, fits7, fits8}
-use Rattle.congruence.proofs.ShapeNoPrefix.{TailEnd, tail-of-z, tail-drop}
-use Rattle.congruence.proofs.ShapeNoPrefix.TailEnd.{void}
+use Rattle.congruence.proofs.ShapeNoPrefix.{tail-of-z, tail-drop}
 
 -- u begins with an X and Y; `size` letters, these among them, are cut from it, and u′ is z, an end of a Z, and what is left
 pub record Recut (B : List Word) (u z u′ : Word) : Type 0 where
@@ -32,13 +33,13 @@ pub record Recut (B : List Word) (u z u′ : Word) : Type 0 where
   pub size : ℕ
   pub enough : xylen B by ≤ size
   pub fits : size ≤ length u
-  pub tail : TailEnd B z
+  pub tail : EndOfTail B z
   pub made : u′ ≡ z ++ drop size u
 
 -- the change that a round makes of u, v and p; a mark that is not empty comes only with two words before which nothing is put
 pub data Moves (B : List Word) (u v p u′ v′ p′ : Word) : Type 0 where
   drops : 0 < length u → 0 < length v → u′ ≡ drop 1 u → v′ ≡ drop 1 v → p′ ≡ drop 1 p → Moves B u v p u′ v′ p′
-  cuts : {y z : Word} → Recut B u y u′ → Recut B v z v′ → TailEnd B p′ → (p′ ≡ []) ⊎ ((y ≡ []) × (z ≡ [])) → Moves B u v p u′ v′ p′
+  cuts : {y z : Word} → Recut B u y u′ → Recut B v z v′ → EndOfTail B p′ → (p′ ≡ []) ⊎ ((y ≡ []) × (z ≡ [])) → Moves B u v p u′ v′ p′
 
 -- the same of what a round gives; an end moves nothing
 pub data MovesTo (B : List Word) (u v p : Word) : Next → Type 0 where
@@ -47,7 +48,7 @@ pub data MovesTo (B : List Word) (u v p : Word) : Next → Type 0 where
 
 module _ (B : List Word) (c : Facts B) where
   -- a word that begins with a whole relation word, cut by it
-  cut-whole : (i : ℕ) (u z : Word) → i < length B → TailEnd B z → isPrefix (word B i) u ≡ true → Recut B u z (z ++ drop (len B i) u)
+  cut-whole : (i : ℕ) (u z : Word) → i < length B → EndOfTail B z → isPrefix (word B i) u ≡ true → Recut B u z (z ++ drop (len B i) u)
   cut-whole i u z h t e =
       let l = prefix-length (word B i) u e in
       record {
@@ -71,7 +72,7 @@ module _ (B : List Word) (c : Facts B) where
         size = xylen B i + n;
         enough = omega arith;
         fits = omega arith;
-        tail = void refl;
+        tail = nothing refl;
         made = drop-drop n (xylen B i) u;
       }
 
@@ -88,15 +89,15 @@ module _ (B : List Word) (c : Facts B) where
 
   module _ (i j : ℕ) (hi : i < length B) (hj : j < length B) (u v p : Word) where
     -- the mark of row 5
-    row5-mark : TailEnd B (choose (isPrefix p (xOf B i)) (λ _. []) (λ _. zOf B i))
-    row5-mark = by-choose (TailEnd B) (isPrefix p (xOf B i)) _ _ (λ h. void refl) (λ h. tail-of-z B i hi)
+    row5-mark : EndOfTail B (choose (isPrefix p (xOf B i)) (λ _. []) (λ _. zOf B i))
+    row5-mark = by-choose (EndOfTail B) (isPrefix p (xOf B i)) _ _ (λ h. nothing refl) (λ h. tail-of-z B i hi)
 
     -- row 4's tail
-    row4-tail : (s : Word) → TailEnd B (choose (active B (zOf B i) s) (λ _. zOf B i) (λ _. zOf B j))
-    row4-tail s = by-choose (TailEnd B) (active B (zOf B i) s) _ _ (λ h. tail-of-z B i hi) (λ h. tail-of-z B j hj)
+    row4-tail : (s : Word) → EndOfTail B (choose (active B (zOf B i) s) (λ _. zOf B i) (λ _. zOf B j))
+    row4-tail s = by-choose (EndOfTail B) (active B (zOf B i) s) _ _ (λ h. tail-of-z B i hi) (λ h. tail-of-z B j hj)
 
     -- what row 4 makes of v
-    row4-rest : (z : Word) → TailEnd B z → (isPrefix (word B i) v || isPrefix (word B j) v) ≡ true
+    row4-rest : (z : Word) → EndOfTail B z → (isPrefix (word B i) v || isPrefix (word B j) v) ≡ true
         → Recut B v z (z ++ choose (isPrefix (word B i) v) (λ _. drop (len B i) v) (λ _. drop (len B j) v))
     row4-rest z t ev =
         by-choose (λ w. Recut B v z (z ++ w)) (isPrefix (word B i) v) _ _
@@ -125,13 +126,13 @@ module _ (B : List Word) (c : Facts B) where
   row-moves i j o u v p row (fits3 k q) = ends
   row-moves i j o u v p row (fits4 k m q r) =
       let t = row4-tail i j (k .there) (o (k .there)) u v p (drop (len B i) u) in
-      moves (cuts (cut-whole i u _ (k .there) t q) (row4-rest i j (k .there) (o (k .there)) u v p _ t r) (void refl) (inl refl))
+      moves (cuts (cut-whole i u _ (k .there) t q) (row4-rest i j (k .there) (o (k .there)) u v p _ t r) (nothing refl) (inl refl))
   row-moves i j o u v p row (fits5 k m q w) =
       moves (cuts (cut-xy i u (k .there) (prefix-of-clean B u i (k .clean))) (cut-xy i v (k .there) q) (row5-mark i j (k .there) (o (k .there)) u v p) (inr (refl, refl)))
   row-moves i j o u v p row (fits6 k m a z w) =
-      moves (cuts (cut-xy i u (k .there) (prefix-of-clean B u i (k .clean))) (cut-whole j v (zOf B i) (o (k .there)) (tail-of-z B i (k .there)) w) (void refl) (inl refl))
+      moves (cuts (cut-xy i u (k .there) (prefix-of-clean B u i (k .clean))) (cut-whole j v (zOf B i) (o (k .there)) (tail-of-z B i (k .there)) w) (nothing refl) (inl refl))
   row-moves i j o u v p row (fits7 k m a w y z) =
-      moves (cuts (cut-whole i u (zOf B j) (k .there) (tail-of-z B j (o (k .there))) w) (cut-xy j v (o (k .there)) y) (void refl) (inl refl))
+      moves (cuts (cut-whole i u (zOf B j) (k .there) (tail-of-z B j (o (k .there))) w) (cut-xy j v (o (k .there)) y) (nothing refl) (inl refl))
   row-moves i j o u v p row (fits8 k m a w y z) = row8-moves i j (k .there) (o (k .there)) u v p (prefix-of-clean B u i (k .clean)) y
 
 -- every round that goes on makes one of the two changes

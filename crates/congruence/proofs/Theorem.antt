@@ -10,13 +10,11 @@ use Rattle.words.proofs.Relations.{Even, even-sides}
 use Rattle.overlap.proofs.Facts.{rigid-of-c4}
 use Rattle.congruence.specs.Congruence.{Congruent}
 use Rattle.congruence.specs.Rounds.{Rounds, compareUnder}
-use Rattle.congruence.specs.Rounds.Answer.{same, different}
-use Rattle.congruence.specs.Theorem.{Decided, RowsDecide, Reached, EndOfTail, TailThenRest, ComparisonShape}
-use Rattle.congruence.specs.Theorem.Reached.{begun, on}
+use Rattle.congruence.specs.Rounds.CompareAnswer.{same, different}
+use Rattle.congruence.specs.Theorem.{Decision, RowsDecide, AfterRounds, ComparisonShape}
+use Rattle.congruence.specs.Theorem.AfterRounds.{no-round, one-more}
 use Rattle.congruence.proofs.Heads.{Facts}
-use Rattle.congruence.proofs.ShapeNoPrefix.{TailEnd}
-use Rattle.congruence.proofs.ShapeNoPrefix.TailEnd.{void, endOf}
-use Rattle.congruence.proofs.Shape.{Tailed, Held, held-start, held-round}
+use Rattle.congruence.proofs.Shape.{ComparisonWords, held-start, held-round}
 use Rattle.congruence.proofs.Bound.{rounds-exist, rounds-unique, rounds-at-most}
 use Rattle.congruence.proofs.Allowance.{ended-iff, enough-of-ended, spent-iff}
 use Rattle.congruence.proofs.RoundRight.{rounds-right}
@@ -46,8 +44,8 @@ module _ (B : List Word) (c : Facts B) (even : Even B) (u v : Word) where
       let s = says false r .1 in
       ((λ e. (i .0 e, s .0 refl)), (λ a. i .1 (a .0)))
 
-  pub decided : Decided B u v
-  decided =
+  pub decision : Decision B u v
+  decision =
       let r = rounds-exist B c even u v in
       let s = says (r .same) (r .rounds) in
       record {
@@ -65,22 +63,15 @@ module _ (B : List Word) (c : Facts B) (even : Even B) (u v : Word) where
       }
 
 pub rows-decide : RowsDecide
-rows-decide relations c u v = decided (relationWords relations) (rigid-of-c4 (relationWords relations) c) (even-sides relations) u v
+rows-decide relations c u v = decision (relationWords relations) (rigid-of-c4 (relationWords relations) c) (even-sides relations) u v
 
 -- the shape, along the rounds
-held-reached : (B : List Word) → Facts B → Even B → (u v : Word) {u₁ v₁ p₁ : Word} → Reached B u v u₁ v₁ p₁ → Held B u v u₁ v₁ p₁
-held-reached B c even u v begun = held-start B u v
-held-reached B c even u v (on {u₁ = u₁} {v₁ = v₁} {p₁ = p₁} {u₂ = u₂} {v₂ = v₂} {p₂ = p₂} r e) =
-    held-round B c u v u₁ v₁ p₁ u₂ v₂ p₂ (held-reached B c even u v r) even e
-
-end-of-tail : {B : List Word} {z : Word} → TailEnd B z → EndOfTail B z
-end-of-tail (void e) = EndOfTail.nothing e
-end-of-tail (endOf i n h e) = EndOfTail.of i n h e
-
-tail-then-rest : {B : List Word} {g w : Word} → Tailed B g w → TailThenRest B g w
-tail-then-rest t = record { tail = t .tail; from = t .from; ends = end-of-tail (t .ends); within = t .within; made = t .made }
+words-after-rounds : (B : List Word) → Facts B → Even B → (u v : Word) {u₁ v₁ p₁ : Word} → AfterRounds B u v u₁ v₁ p₁ → ComparisonWords B u v u₁ v₁ p₁
+words-after-rounds B c even u v no-round = held-start B u v
+words-after-rounds B c even u v (one-more {u₁ = u₁} {v₁ = v₁} {p₁ = p₁} {u₂ = u₂} {v₂ = v₂} {p₂ = p₂} r e) =
+    held-round B c u v u₁ v₁ p₁ u₂ v₂ p₂ (words-after-rounds B c even u v r) even e
 
 pub comparison-shape : ComparisonShape
 comparison-shape relations c u v u₁ v₁ p₁ r =
-    let h = held-reached (relationWords relations) (rigid-of-c4 (relationWords relations) c) (even-sides relations) u v r in
-    (tail-then-rest (h .first), tail-then-rest (h .second), end-of-tail (h .mark))
+    let h = words-after-rounds (relationWords relations) (rigid-of-c4 (relationWords relations) c) (even-sides relations) u v r in
+    (h .first, h .second, h .mark)

@@ -13,26 +13,26 @@ pub data Rounds (B : List Word) : Word → Word → Word → ℕ → Bool → Ty
   goes : {u v p u′ v′ p′ : Word} {n : ℕ} {b : Bool} → round B u v p ≡ go u′ v′ p′ → Rounds B u′ v′ p′ n b → Rounds B u v p (suc n) b
 
 -- a comparison's answer, with the count of rounds
-pub data Answer : Type 0 where
-  same : ℕ → Answer
-  different : ℕ → Answer
-  spent : ℕ → Answer
+pub data CompareAnswer : Type 0 where
+  same : ℕ → CompareAnswer
+  different : ℕ → CompareAnswer
+  spent : ℕ → CompareAnswer
 
 -- an end after n rounds
-abbrev pub ending : Bool → ℕ → Answer
+abbrev pub ending : Bool → ℕ → CompareAnswer
 ending true n = same n
 ending false n = different n
 
 -- an end gives the answer; where another round is due, k goes on
-abbrev pub onNext : Next → ℕ → (Word → Word → Word → Answer) → Answer
+abbrev pub onNext : Next → ℕ → (Word → Word → Word → CompareAnswer) → CompareAnswer
 onNext (end b) n k = ending b n
 onNext (go u v p) n k = k u v p
 
 -- the answer from u, v and p, where n rounds are done and `left` more are allowed
-unfoldable pub answerFrom : List Word → ℕ → ℕ → Word → Word → Word → Answer
+unfoldable pub answerFrom : List Word → ℕ → ℕ → Word → Word → Word → CompareAnswer
 answerFrom B zero n u v p = onNext (round B u v p) n (λ _ _ _. spent n)
 answerFrom B (suc left) n u v p = onNext (round B u v p) n (answerFrom B left (n + 1))
 
 -- the answer for two words under an allowance
-abbrev pub compareUnder : List Word → ℕ → Word → Word → Answer
+abbrev pub compareUnder : List Word → ℕ → Word → Word → CompareAnswer
 compareUnder B allowance u v = answerFrom B allowance 0 u v []

@@ -9,8 +9,8 @@ use Rattle.words.specs.Search.{anyBelow}
 use Rattle.words.specs.Words.{Word}
 use Rattle.overlap.specs.Cuts.{len, pieceAt, xlen, ylen, zlen}
 use Rattle.overlap.specs.Verdict.{Verdict, judge}
-use Rattle.congruence.specs.Rounds.{Answer, compareUnder}
-use Rattle.congruence.specs.Rounds.Answer.{same, different}
+use Rattle.congruence.specs.Rounds.{CompareAnswer, compareUnder}
+use Rattle.congruence.specs.Rounds.CompareAnswer.{same, different}
 
 -- the letters from `from` on up to n are a product of m pieces, by the test `piece FROM LENGTH`
 unfoldable pub product : (ℕ → ℕ → Bool) → ℕ → ℕ → ℕ → Bool
@@ -23,7 +23,7 @@ pub data Case : Type 0 where
   -- relation word i is a product of m + 1 pieces and not of m
   needs : List Word → ℕ → ℕ → Case
   -- two words under relation words, with an allowance of 100
-  compared : List Word → Word → Word → Answer → Case
+  compared : List Word → Word → Word → CompareAnswer → Case
 
 -- the cuts of relation word i, of the next one, and so on
 abbrev pub CutFrom : List Word → ℕ → List (ℕ × ℕ × ℕ) → Type 0

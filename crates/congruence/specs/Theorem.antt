@@ -17,10 +17,10 @@ use Rattle.congruence.specs.Congruence.{Congruent}
 use Rattle.congruence.specs.Rows.{round}
 use Rattle.congruence.specs.Rows.Next.{go}
 use Rattle.congruence.specs.Rounds.{Rounds, compareUnder}
-use Rattle.congruence.specs.Rounds.Answer.{same, different, spent}
+use Rattle.congruence.specs.Rounds.CompareAnswer.{same, different, spent}
 
 -- what the rows decide of two words under relation words B
-pub record Decided (B : List Word) (u v : Word) : Type 0 where
+pub record Decision (B : List Word) (u v : Word) : Type 0 where
   -- the rows end: after this many rounds, with 'same' for true; and in no other way
   pub rounds : ℕ
   pub result : Bool
@@ -39,12 +39,12 @@ pub record Decided (B : List Word) (u v : Word) : Type 0 where
 
 -- the rows decide congruence: every presentation that meets C(4), every two words
 abbrev pub RowsDecide : Type 0
-RowsDecide = (relations : List Relation) → C4 (relationWords relations) → (u v : Word) → Decided (relationWords relations) u v
+RowsDecide = (relations : List Relation) → C4 (relationWords relations) → (u v : Word) → Decision (relationWords relations) u v
 
 -- the words from which a comparison of u and v goes on after some rounds
-pub data Reached (B : List Word) (u v : Word) : Word → Word → Word → Type 0 where
-  begun : Reached B u v u v []
-  on : {u₁ v₁ p₁ u₂ v₂ p₂ : Word} → Reached B u v u₁ v₁ p₁ → round B u₁ v₁ p₁ ≡ go u₂ v₂ p₂ → Reached B u v u₂ v₂ p₂
+pub data AfterRounds (B : List Word) (u v : Word) : Word → Word → Word → Type 0 where
+  no-round : AfterRounds B u v u v []
+  one-more : {u₁ v₁ p₁ u₂ v₂ p₂ : Word} → AfterRounds B u v u₁ v₁ p₁ → round B u₁ v₁ p₁ ≡ go u₂ v₂ p₂ → AfterRounds B u v u₂ v₂ p₂
 
 -- an end of the Z of some relation word, or nothing
 pub data EndOfTail (B : List Word) (z : Word) : Type 0 where
@@ -61,5 +61,5 @@ pub record TailThenRest (B : List Word) (given w : Word) : Type 0 where
 
 -- what a comparison goes on from always has this shape
 abbrev pub ComparisonShape : Type 0
-ComparisonShape = (relations : List Relation) → C4 (relationWords relations) → (u v u₁ v₁ p₁ : Word) → Reached (relationWords relations) u v u₁ v₁ p₁
+ComparisonShape = (relations : List Relation) → C4 (relationWords relations) → (u v u₁ v₁ p₁ : Word) → AfterRounds (relationWords relations) u v u₁ v₁ p₁
     → TailThenRest (relationWords relations) u u₁ × TailThenRest (relationWords relations) v v₁ × EndOfTail (relationWords relations) p₁

@@ -15,7 +15,7 @@ use Rattle.overlap.proofs.Verdicts.{judge-iff-right, judge-accepts-iff-c4}
 use Rattle.congruence.specs.Congruence.{Congruent}
 use Rattle.congruence.specs.Rounds as Rows
 use Rattle.congruence.specs.Rounds.{compareUnder}
-use Rattle.congruence.specs.Theorem.{Decided}
+use Rattle.congruence.specs.Theorem.{Decision}
 use Rattle.congruence.proofs.Theorem.{rows-decide}
 use Rattle.format.specs.Book.{BookReading, readBook}
 use Rattle.presentation.specs.Loading.{BookLoading, loadBook, byVerdict}
@@ -101,28 +101,28 @@ loaded-c4 book letters relations e = go (readBook book) refl
         absurd (omega arith)
 
 -- the rows' answer in this paper's words
-inWords : Rows.Answer → Answer
-inWords (Rows.Answer.same n) = same n
-inWords (Rows.Answer.different n) = different n
-inWords (Rows.Answer.spent n) = refused 11 n
+inWords : Rows.CompareAnswer → Answer
+inWords (Rows.CompareAnswer.same n) = same n
+inWords (Rows.CompareAnswer.different n) = different n
+inWords (Rows.CompareAnswer.spent n) = refused 11 n
 
-same-back : (n : ℕ) (a : Rows.Answer) → inWords a ≡ same n → a ≡ Rows.Answer.same n
+same-back : (n : ℕ) (a : Rows.CompareAnswer) → inWords a ≡ same n → a ≡ Rows.CompareAnswer.same n
 unfolding inWords
-same-back n (Rows.Answer.same m) e = let f : m ≡ n = cc in rw f
-same-back n (Rows.Answer.different m) e = let z : _≡_ {A = ℕ} 0 1 = cc in absurd (omega arith)
-same-back n (Rows.Answer.spent m) e = let z : _≡_ {A = ℕ} 0 1 = cc in absurd (omega arith)
+same-back n (Rows.CompareAnswer.same m) e = let f : m ≡ n = cc in rw f
+same-back n (Rows.CompareAnswer.different m) e = let z : _≡_ {A = ℕ} 0 1 = cc in absurd (omega arith)
+same-back n (Rows.CompareAnswer.spent m) e = let z : _≡_ {A = ℕ} 0 1 = cc in absurd (omega arith)
 
-different-back : (n : ℕ) (a : Rows.Answer) → inWords a ≡ different n → a ≡ Rows.Answer.different n
+different-back : (n : ℕ) (a : Rows.CompareAnswer) → inWords a ≡ different n → a ≡ Rows.CompareAnswer.different n
 unfolding inWords
-different-back n (Rows.Answer.same m) e = let z : _≡_ {A = ℕ} 0 1 = cc in absurd (omega arith)
-different-back n (Rows.Answer.different m) e = let f : m ≡ n = cc in rw f
-different-back n (Rows.Answer.spent m) e = let z : _≡_ {A = ℕ} 0 1 = cc in absurd (omega arith)
+different-back n (Rows.CompareAnswer.same m) e = let z : _≡_ {A = ℕ} 0 1 = cc in absurd (omega arith)
+different-back n (Rows.CompareAnswer.different m) e = let f : m ≡ n = cc in rw f
+different-back n (Rows.CompareAnswer.spent m) e = let z : _≡_ {A = ℕ} 0 1 = cc in absurd (omega arith)
 
-spent-back : (n : ℕ) (a : Rows.Answer) → inWords a ≡ refused 11 n → a ≡ Rows.Answer.spent n
+spent-back : (n : ℕ) (a : Rows.CompareAnswer) → inWords a ≡ refused 11 n → a ≡ Rows.CompareAnswer.spent n
 unfolding inWords
-spent-back n (Rows.Answer.same m) e = let z : _≡_ {A = ℕ} 0 1 = cc in absurd (omega arith)
-spent-back n (Rows.Answer.different m) e = let z : _≡_ {A = ℕ} 0 1 = cc in absurd (omega arith)
-spent-back n (Rows.Answer.spent m) e = let f : m ≡ n = cc in rw f
+spent-back n (Rows.CompareAnswer.same m) e = let z : _≡_ {A = ℕ} 0 1 = cc in absurd (omega arith)
+spent-back n (Rows.CompareAnswer.different m) e = let z : _≡_ {A = ℕ} 0 1 = cc in absurd (omega arith)
+spent-back n (Rows.CompareAnswer.spent m) e = let f : m ≡ n = cc in rw f
 
 -- an accepted book and two words that are fine
 compare-words : (book : List ℕ) (u v : Word) (allowance letters : ℕ) (relations : List Relation) → loadBook book ≡ BookLoading.loaded letters relations
@@ -130,12 +130,12 @@ compare-words : (book : List ℕ) (u v : Word) (allowance letters : ℕ) (relati
 unfolding compareOf comparisonOf answerOf inWords
 compare-words book u v allowance letters relations e f = go (compareUnder (relationWords relations) allowance u v) refl
   where
-    go : (a : Rows.Answer) → compareUnder (relationWords relations) allowance u v ≡ a → compareOf book u v allowance ≡ inWords (compareUnder (relationWords relations) allowance u v)
-    go (Rows.Answer.same n) g = rw (e, f, g)
-    go (Rows.Answer.different n) g = rw (e, f, g)
-    go (Rows.Answer.spent n) g = rw (e, f, g)
+    go : (a : Rows.CompareAnswer) → compareUnder (relationWords relations) allowance u v ≡ a → compareOf book u v allowance ≡ inWords (compareUnder (relationWords relations) allowance u v)
+    go (Rows.CompareAnswer.same n) g = rw (e, f, g)
+    go (Rows.CompareAnswer.different n) g = rw (e, f, g)
+    go (Rows.CompareAnswer.spent n) g = rw (e, f, g)
 
-decides : (B : List Word) (u v : Word) → Decided B u v → (allowance : ℕ) (answer : Answer) → answer ≡ inWords (compareUnder B allowance u v) → Decides B u v allowance answer
+decides : (B : List Word) (u v : Word) → Decision B u v → (allowance : ℕ) (answer : Answer) → answer ≡ inWords (compareUnder B allowance u v) → Decides B u v allowance answer
 unfolding inWords
 decides B u v d allowance answer e =
     let s : (answer ≡ refused 11 allowance) ↔ (allowance < d .rounds) =

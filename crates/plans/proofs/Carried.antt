@@ -1,6 +1,6 @@
 -- The plan of each row, by sites, makes the next words of that row where it fits first, and its changes fit.
 use Prim.Native.Nat.{ℕ, suc, _+_, _-_, _≤_, min}
-use mathlib.Core.Bool.{Bool, true, false, cond, _&&_, _||_, not, and-eq-true-iff}
+use mathlib.Core.Bool.{Bool, true, false, cond, _&&_, _||_, and-eq-true-iff}
 use mathlib.Core.List.{List, [], _∷_, _++_, append-nil}
 use mathlib.Core.Path.{_≡_, refl, sym, ap, _∙_}
 use native.Mathlib.Omega.{arith}
@@ -21,7 +21,6 @@ use Rattle.congruence.proofs.FirstRow.{Fits, xy-of-whole}
 use Rattle.congruence.proofs.FirstRow.Fits.{fits2, fits4, fits5, fits6, fits7, fits8}
 use Rattle.layout.specs.Layout.{part}
 use Rattle.layout.proofs.Parts.{part-take, part-drop}
-use Rattle.plans.specs.declared.Plan.{Plan}
 use Rattle.plans.specs.declared.Plan.the-variants.{End}
 use Rattle.rows.specs.declared.Site.{Site}
 use Rattle.plans.specs.Plans.{applied, planned, Fit, MarkFit, Carries}

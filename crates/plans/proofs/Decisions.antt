@@ -1,5 +1,5 @@
 -- Laws of the decision: the plan that is made for the row that is found gives the round.
-use Prim.Native.Nat.{ℕ, _-_, _≤_, _<_}
+use Prim.Native.Nat.{ℕ, _-_, _<_}
 use mathlib.Core.List.{List}
 use mathlib.Core.Path.{_≡_, refl, sym, ap, _∙_, subst}
 use native.Mathlib.Omega.{arith}
@@ -17,7 +17,7 @@ use Rattle.layout.specs.Layout.{part, wordsIn}
 use Rattle.layout.proofs.Placed.{words-length}
 use Rattle.rows.specs.declared.Found.{Found}
 use Rattle.rows.specs.declared.Site.{Site}
-use Rattle.rows.specs.Sites.{siteOf, SiteInText, SitesInText, Paired, PairedWord}
+use Rattle.rows.specs.Sites.{SiteInText, SitesInText, Paired, PairedWord}
 use Rattle.rows.specs.Shapes.{FoundRow}
 use Rattle.rows.proofs.Sites.{Lies}
 use Rattle.rows.proofs.Laws.{tail-after, stop-after, own-lies, other-lies, sites-in-text}

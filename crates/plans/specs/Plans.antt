@@ -1,14 +1,14 @@
 -- What a plan stands for, and what fits of one: the three changes by which a round makes its next words (document 01, "Exchanges and rounds").
-use Prim.Native.Nat.{ℕ, _+_, _-_, _%_, _≤_, _<_}
+use Prim.Native.Nat.{ℕ, _+_, _≤_, _<_}
 use mathlib.Core.Bool.{Bool, true}
 use mathlib.Core.List.{List, _++_}
 use mathlib.Core.Path.{_≡_}
-use lib.ListN.{length, getD, drop}
+use lib.ListN.{length, drop}
 use Rattle.words.specs.Words.{Word, isPrefix}
 use Rattle.overlap.specs.Cuts.{xylen, xyOf, zOf}
 use Rattle.congruence.specs.Rows.{Next, round}
 use Rattle.congruence.specs.Rows.Next.{end, go}
-use Rattle.layout.specs.Layout.{part, wordsIn, Checked}
+use Rattle.layout.specs.Layout.{part, wordsIn}
 use Rattle.plans.specs.declared.Change.{Change}
 use Rattle.plans.specs.declared.Plan.{Plan}
 use Rattle.plans.specs.declared.Plan.the-variants.{End, Go}

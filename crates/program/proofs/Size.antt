@@ -14,8 +14,8 @@ use Rattle.overlap.specs.Cuts.{firstLoose}
 use Rattle.overlap.specs.Verdict.{Verdict, judge, firstRepeated}
 use Rattle.congruence.specs.Rows.{Next, round}
 use Rattle.congruence.specs.Rows.Next.{end, go}
-use Rattle.congruence.specs.Rounds.{Answer, answerFrom, compareUnder}
-use Rattle.congruence.specs.Rounds.Answer.{same, different, spent}
+use Rattle.congruence.specs.Rounds.{CompareAnswer, answerFrom, compareUnder}
+use Rattle.congruence.specs.Rounds.CompareAnswer.{same, different, spent}
 use Rattle.refusals.specs.declared.Refusal.{Refusal}
 use Rattle.refusals.specs.declared.Refusal.the-variants.{Short, Kind, Length, Range, UnknownLetter, TooMany, Repeated, Loose, Long, Stranger, Spent, Narrow, Heavy}
 use Rattle.limits.specs.declared.Record.{Record}
@@ -94,7 +94,7 @@ refused-short r h =
     simp length-append (omega (arith, length-decimal (numberOf r), length-decimal (placeOf r)))
 
 -- the rounds counted in an answer
-abbrev counted : Answer → ℕ
+abbrev counted : CompareAnswer → ℕ
 counted (same n) = n
 counted (different n) = n
 counted (spent n) = n
@@ -122,7 +122,7 @@ Small (Same n) = n < numberMost
 Small (Different n) = n < numberMost
 Small (Refused r) = placeOf r < numberMost
 
-small-answer : (a : Answer) → counted a < numberMost → Small (byAnswer a)
+small-answer : (a : CompareAnswer) → counted a < numberMost → Small (byAnswer a)
 small-answer (same n) h = h
 small-answer (different n) h = h
 small-answer (spent n) h = h

@@ -117,35 +117,35 @@ mark-room : (m k l : ℕ) → m ≤ 64 → l ≤ 64 → k ≤ l → (0 < m → k
 mark-room zero k l a b c f = omega arith
 mark-room (suc m) k l a b c f = let e = f (omega arith) in omega arith
 
--- three changes
-module _ (text : List ℕ) (cu cv cp : Change) (u v p a c d : List ℕ) (h : Changes text cu cv cp u v p a c d) where
-  pub changes-u : Writable text cu u a
+-- three changes are written
+module _ (text : List ℕ) (cu cv cp : Change) (u v p nu nv np : List ℕ) (h : Changes text cu cv cp u v p nu nv np) where
+  pub changes-u : Writable text cu u nu
   changes-u = h .forU
 
-  pub changes-v : Writable text cv v c
+  pub changes-v : Writable text cv v nv
   changes-v = h .forV
 
-  pub changes-p : Writable text cp p d
+  pub changes-p : Writable text cp p np
   changes-p = h .forP
 
-pub changes-written : (text : List ℕ) (cu cv cp : Change) (u v p a c d : List ℕ) (x : ℕ) (a′ : List ℕ) → Written text cu u a x a′ → (y : ℕ) (c′ : List ℕ) → Written text cv v c y c′
-    → (z : ℕ) (d′ : List ℕ) → Written text cp p d z d′ → after (S.Next x y z) a′ c′ d′ ≡ writtenBy (planned text u v p (Go cu cv cp)) a c d
+pub changes-written : (text : List ℕ) (cu cv cp : Change) (u v p nu nv np : List ℕ) (x : ℕ) (nu′ : List ℕ) → Written text cu u nu x nu′ → (y : ℕ) (nv′ : List ℕ) → Written text cv v nv y nv′
+    → (z : ℕ) (np′ : List ℕ) → Written text cp p np z np′ → after (S.Next x y z) nu′ nv′ np′ ≡ writtenBy (planned text u v p (Go cu cv cp)) nu nv np
 unfolding planned writtenBy
-changes-written text cu cv cp u v p a c d x a′ wu y c′ wv z d′ wp = rw (wu .count, wu .bytes, wv .count, wv .bytes, wp .count, wp .bytes)
+changes-written text cu cv cp u v p nu nv np x nu′ wu y nv′ wv z np′ wp = rw (wu .count, wu .bytes, wv .count, wv .bytes, wp .count, wp .bytes)
 
 pub ruleset changeWrites = (changes-u, changes-v, changes-p, changes-written, needs)
 
--- a plan
-pub plan-end : (text : List ℕ) (plan : Plan) (u v p a c d : List ℕ) (b : Bool) → plan ≡ End b → after (S.End b) a c d ≡ writtenBy (planned text u v p plan) a c d
+-- a plan is written
+pub plan-end : (text : List ℕ) (plan : Plan) (u v p nu nv np : List ℕ) (b : Bool) → plan ≡ End b → after (S.End b) nu nv np ≡ writtenBy (planned text u v p plan) nu nv np
 unfolding planned writtenBy
-plan-end text plan u v p a c d b e = rw e
+plan-end text plan u v p nu nv np b e = rw e
 
-pub plan-changes : (text : List ℕ) (plan : Plan) (u v p a c d : List ℕ) → Planned text plan u v p a c d → (cu cv cp : Change) → plan ≡ Go cu cv cp → Changes text cu cv cp u v p a c d
-plan-changes text plan u v p a c d h cu cv cp e = h .changes cu cv cp e
+pub plan-changes : (text : List ℕ) (plan : Plan) (u v p nu nv np : List ℕ) → Planned text plan u v p nu nv np → (cu cv cp : Change) → plan ≡ Go cu cv cp → Changes text cu cv cp u v p nu nv np
+plan-changes text plan u v p nu nv np h cu cv cp e = h .changes cu cv cp e
 
-pub plan-go : (text : List ℕ) (plan : Plan) (u v p a c d : List ℕ) (cu cv cp : Change) → plan ≡ Go cu cv cp → (r : RoundLengths) (a′ c′ d′ : List ℕ)
-    → after r a′ c′ d′ ≡ writtenBy (planned text u v p (Go cu cv cp)) a c d → after r a′ c′ d′ ≡ writtenBy (planned text u v p plan) a c d
-plan-go text plan u v p a c d cu cv cp e r a′ c′ d′ f = rw e f
+pub plan-go : (text : List ℕ) (plan : Plan) (u v p nu nv np : List ℕ) (cu cv cp : Change) → plan ≡ Go cu cv cp → (r : RoundLengths) (nu′ nv′ np′ : List ℕ)
+    → after r nu′ nv′ np′ ≡ writtenBy (planned text u v p (Go cu cv cp)) nu nv np → after r nu′ nv′ np′ ≡ writtenBy (planned text u v p plan) nu nv np
+plan-go text plan u v p nu nv np cu cv cp e r nu′ nv′ np′ f = rw e f
 
 pub ruleset planWrites = (plan-end, plan-changes, plan-go, needs)
 
@@ -153,7 +153,7 @@ pub ruleset planWrites = (plan-end, plan-changes, plan-go, needs)
 fit-writable : (text : List ℕ) (B : List Word) (w d : List ℕ) (c : Change) → Fit text B w c → length w ≤ 4160 → 4224 ≤ length d → Writable text c w d
 fit-writable text B w d c f h r = let s = f .short in record { up = f .up; inside = f .inside; within = f .within; room = omega arith }
 
--- so does a change of the mark
+-- a change of the mark fits into its buffer
 mark-writable : (text : List ℕ) (B : List Word) (p d : List ℕ) (c : Change) → MarkFit text B p c → length p ≤ 64 → 64 ≤ length d → Writable text c p d
 mark-writable text B p d c f h r =
     let s = f .short in
@@ -161,23 +161,23 @@ mark-writable text B p d c f h r =
     record { up = f .up; inside = f .inside; within = f .within; room = omega arith }
 
 -- the single round
-module _ (text table : List ℕ) (n : ℕ) (u v p a c d : List ℕ) (h : Lent text table n u v p a c d) (plan : Plan) (q : PlansRound text table n u v p plan) where
-  pub round-planned : Planned text plan u v p a c d
+module _ (text table : List ℕ) (n : ℕ) (u v p nu nv np : List ℕ) (h : Lent text table n u v p nu nv np) (plan : Plan) (q : PlansRound text table n u v p plan) where
+  pub round-planned : Planned text plan u v p nu nv np
   round-planned = record {
     changes = λ cu cv cp e.
         let f = go-fit text (wordsIn text table n) u v p cu cv cp (rw e at (q .fits)) in
         record {
-          forU = fit-writable text (wordsIn text table n) u a cu (f .0) (h .shortU) (h .roomU);
-          forV = fit-writable text (wordsIn text table n) v c cv (f .1) (h .shortV) (h .roomV);
-          forP = mark-writable text (wordsIn text table n) p d cp (f .2) (h .shortP) (h .roomP);
+          forU = fit-writable text (wordsIn text table n) u nu cu (f .0) (h .shortU) (h .roomU);
+          forV = fit-writable text (wordsIn text table n) v nv cv (f .1) (h .shortV) (h .roomV);
+          forP = mark-writable text (wordsIn text table n) p np cp (f .2) (h .shortP) (h .roomP);
         };
   }
 
-  pub round-written : (r : RoundLengths) (a′ c′ d′ : List ℕ) → after r a′ c′ d′ ≡ writtenBy (planned text u v p plan) a c d
-      → after r a′ c′ d′ ≡ writtenBy (round (wordsIn text table n) u v p) a c d
-  round-written r a′ c′ d′ f = rw (← q .same) f
+  pub round-written : (r : RoundLengths) (nu′ nv′ np′ : List ℕ) → after r nu′ nv′ np′ ≡ writtenBy (planned text u v p plan) nu nv np
+      → after r nu′ nv′ np′ ≡ writtenBy (round (wordsIn text table n) u v p) nu nv np
+  round-written r nu′ nv′ np′ f = rw (← q .same) f
 
-pub lent-paired : (text table : List ℕ) (n : ℕ) (u v p a c d : List ℕ) → Lent text table n u v p a c d → Paired text table n
-lent-paired text table n u v p a c d h = h .paired
+pub lent-paired : (text table : List ℕ) (n : ℕ) (u v p nu nv np : List ℕ) → Lent text table n u v p nu nv np → Paired text table n
+lent-paired text table n u v p nu nv np h = h .paired
 
 pub ruleset roundWrites = (lent-paired, round-planned, round-written, needs)

@@ -25,8 +25,8 @@ over w d = w ++ drop (length w) d
 
 -- an end writes nothing; else the next u, v and p stand at the start of the buffers, and their lengths are given
 unfoldable pub writtenBy : Next → List ℕ → List ℕ → List ℕ → Outcome
-writtenBy (end b) a c d = after (S.End b) a c d
-writtenBy (go u v p) a c d = after (S.Next (length u) (length v) (length p)) (over u a) (over v c) (over p d)
+writtenBy (end b) nu nv np = after (S.End b) nu nv np
+writtenBy (go u v p) nu nv np = after (S.Next (length u) (length v) (length p)) (over u nu) (over v nv) (over p np)
 
 -- the bytes s stand in a buffer from place `at` on
 unfoldable pub copied : List ℕ → ℕ → List ℕ → List ℕ
@@ -39,27 +39,27 @@ pub record Writable (text : List ℕ) (c : Change) (w d : List ℕ) : Type 0 whe
   pub within : c .cut ≤ length w
   pub room : c .to - c .from + (length w - c .cut) ≤ length d
 
--- it is written, and r is the length of the word
+-- a change is written into a buffer, and r is the length of the word
 pub record Written (text : List ℕ) (c : Change) (w d : List ℕ) (r : ℕ) (d′ : List ℕ) : Type 0 where
   pub count : r ≡ length (applied text c w)
   pub bytes : d′ ≡ over (applied text c w) d
 
 -- three changes can be written, each into its buffer
-pub record Changes (text : List ℕ) (cu cv cp : Change) (u v p a c d : List ℕ) : Type 0 where
-  pub forU : Writable text cu u a
-  pub forV : Writable text cv v c
-  pub forP : Writable text cp p d
+pub record Changes (text : List ℕ) (cu cv cp : Change) (u v p nu nv np : List ℕ) : Type 0 where
+  pub forU : Writable text cu u nu
+  pub forV : Writable text cv v nv
+  pub forP : Writable text cp p np
 
--- so can those of a plan, if it has any
-pub record Planned (text : List ℕ) (plan : Plan) (u v p a c d : List ℕ) : Type 0 where
-  pub changes : (cu cv cp : Change) → plan ≡ Go cu cv cp → Changes text cu cv cp u v p a c d
+-- the changes of a plan, if it has any, can be written
+pub record Planned (text : List ℕ) (plan : Plan) (u v p nu nv np : List ℕ) : Type 0 where
+  pub changes : (cu cv cp : Change) → plan ≡ Go cu cv cp → Changes text cu cv cp u v p nu nv np
 
 -- what the single round asks of its words and buffers
-pub record Lent (text table : List ℕ) (n : ℕ) (u v p a c d : List ℕ) : Type 0 where
+pub record Lent (text table : List ℕ) (n : ℕ) (u v p nu nv np : List ℕ) : Type 0 where
   pub paired : Paired text table n
   pub shortU : length u ≤ 4160
   pub shortV : length v ≤ 4160
   pub shortP : length p ≤ 64
-  pub roomU : 4224 ≤ length a
-  pub roomV : 4224 ≤ length c
-  pub roomP : 64 ≤ length d
+  pub roomU : 4224 ≤ length nu
+  pub roomV : 4224 ≤ length nv
+  pub roomP : 64 ≤ length np

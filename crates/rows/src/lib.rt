@@ -303,4 +303,3 @@ pub fn find_row(
     }
     with_sites(text, table, n, i, ua, ub, va, vb, p)
 }
-
