@@ -11,7 +11,7 @@ use lib.Seq.{getD-at}
 use Rattle.words.proofs.Lists.{part-length, part-at}
 use Rattle.overlap.specs.Pieces.{word}
 use Rattle.overlap.specs.Cuts.{len}
-use Rattle.layout.specs.Places.{wordMost, fenceOf}
+use Rattle.layout.specs.Places.{wordMost, fenceOf, endCell}
 use Rattle.layout.specs.Layout.{startOf, endOf, Span, wordAt, wordsIn, Laid}
 use Rattle.layout.proofs.Parts.{same-part}
 
@@ -48,6 +48,10 @@ module _ (text table : List ℕ) (n : ℕ) (f : Laid text table n) where
 
   pub end-inside : (i : ℕ) → i < n → endOf table i < length text
   end-inside i h = let e = end-before i h in let s = f .inside in omega (arith, e, s)
+
+  -- the row of word i is in the table
+  pub row-inside : (i : ℕ) → i < n → endCell i < length table
+  row-inside i h = omega (arith, f .room, h)
 
   pub word-span : (i : ℕ) → i < n → Span text (startOf table i) (endOf table i)
   word-span i h = let e = end-inside i h in let s = f .some i h in record { upwards = omega (arith, s); inside = omega (arith, e) }

@@ -52,6 +52,19 @@ pub record Laid (text table : List ℕ) (n : ℕ) : Type 0 where
   pub letters : (i q : ℕ) → i < n → startOf table i ≤ q → q < endOf table i → getD text q 0 < lettersBound
   pub fence : (i : ℕ) → i < n → getD text (endOf table i) 0 ≡ fenceOf i
 
+-- k is one of the relation words that are laid out
+pub record KnownWord (text table : List ℕ) (k : ℕ) : Type 0 where
+  pub number : ℕ
+  pub laid : Laid text table number
+  pub known : k < number
+
+-- h and k are two of them, or one twice
+pub record WordPair (text table : List ℕ) (h k : ℕ) : Type 0 where
+  pub number : ℕ
+  pub laid : Laid text table number
+  pub first : h < number
+  pub second : k < number
+
 -- the table's cuts are the cuts of the relation words
 pub record Cut (text table : List ℕ) (n : ℕ) : Type 0 where
   pub xEnd : (i : ℕ) → i < n → xEndOf table i ≡ startOf table i + xlen (wordsIn text table n) i

@@ -17,10 +17,10 @@ use Rattle.words.specs.Words.{commonPrefix}
 use Rattle.words.proofs.Lists.{part-length, part-at}
 use Rattle.words.proofs.Commons.{common-within, common-at, common-differ, common-is}
 use Rattle.layout.specs.Places.{wordsMost, lettersBound, startCell, endCell, firstCell, orderCell, sharedCell, tableRoom}
-use Rattle.layout.specs.Layout.{startOf, endOf, part, wordAt, firstOf, orderOf, sharedOf, Laid}
-use Rattle.layout.proofs.Placed.{end-inside, word-span}
+use Rattle.layout.specs.Layout.{startOf, endOf, part, wordAt, firstOf, orderOf, sharedOf, Laid, KnownWord, WordPair}
+use Rattle.layout.proofs.Placed.{end-inside, row-inside, word-span}
 use Rattle.joined.specs.Joined.{Agreed}
-use Rattle.listing.specs.Listing.{firstLetter, count, earlier, beforeListed, SamePositions, Unlisted, KnownWord, WordPair, Inserting, Movable, MovedUp, Lists, Gathering, NextOfLetter, NextWord, NextLetter, Neighbours, Gathered, AllListed, IndexMade}
+use Rattle.listing.specs.Listing.{firstLetter, count, earlier, beforeListed, SamePositions, Unlisted, Inserting, Movable, MovedUp, Lists, Gathering, NextOfLetter, NextWord, NextLetter, Neighbours, Gathered, AllListed, IndexMade}
 use Rattle.listing.proofs.Counting.{count-bound, count-up, count-same, count-yes, count-no, count-none, count-all, count-split}
 use Rattle.listing.proofs.Keeping.{kept-refl, kept-trans, kept-set, start-kept, laid-kept, word-kept}
 
@@ -54,13 +54,13 @@ fence-common text table n l h k x y =
 -- the two words that are compared
 module _ (text table : List ℕ) (h k : ℕ) (g : WordPair text table h k) where
   pub pair-end : endCell h < length table
-  pair-end = omega (arith, g .first, g .laid .few, g .room)
+  pair-end = row-inside text table (g .number) (g .laid) h (g .first)
 
   pub pair-first : startCell h < length table
-  pair-first = omega (arith, g .first, g .laid .few, g .room)
+  pair-first = omega (arith, pair-end)
 
   pub pair-second : startCell k < length table
-  pair-second = omega (arith, g .second, g .laid .few, g .room)
+  pair-second = let r = row-inside text table (g .number) (g .laid) k (g .second) in omega (arith, r)
 
   module _ (from : ℕ) (e : from ≡ startOf table h) (to : ℕ) (f : to ≡ endOf table h) (q : ℕ) (d : q ≡ startOf table k) where
     pub pair-agreed : Agreed text from to text q 0
@@ -107,7 +107,7 @@ module _ (text table : List ℕ) (i k : ℕ) (g : Inserting text table i k) wher
 
   module _ (h : ℕ) (e : h ≡ orderOf table (i - 1)) where
     pub insert-pair : WordPair text table k h
-    insert-pair = record { number = g .number; laid = g .laid; room = g .room; first = g .known; second = omega (arith, g .before) }
+    insert-pair = record { number = g .number; laid = g .laid; first = g .known; second = omega (arith, g .before) }
 
     pub insert-earlier : (r : Bool) → r ≡ earlier text table k h → r ≡ beforeListed text table i k
     insert-earlier r f = rw (← e) f
@@ -323,7 +323,7 @@ pub ruleset shifts = (shift-start, shift-inserting, shift-place, shift-fits, shi
 -- the first letter of a word
 module _ (text t : List ℕ) (k : ℕ) (g : KnownWord text t k) where
   pub letter-start : startCell k < length t
-  letter-start = omega (arith, g .known, g .laid .few, g .room)
+  letter-start = let r = row-inside text t (g .number) (g .laid) k (g .known) in omega (arith, r)
 
   pub letter-inside : (at : ℕ) → at ≡ startOf t k → at < length text
   letter-inside at e =
@@ -339,7 +339,7 @@ pub ruleset letters = (letter-start, letter-inside, letter-test, needs)
 -- a word is looked at, and listed if it begins with c
 module _ (text t : List ℕ) (n c from j k : ℕ) (g : NextWord text t n c from j k) where
   pub look-word : KnownWord text t k
-  look-word = record { number = n; laid = g .gathering .lists .laid; room = g .gathering .lists .room; known = g .known }
+  look-word = record { number = n; laid = g .gathering .lists .laid; known = g .known }
 
   module _ (r : Bool) (e : r ≡ eqb (firstLetter text t k) c) where
     pub look-yes : r ≡ true → NextOfLetter text t n c from j k
@@ -530,7 +530,7 @@ module _ (text t : List ℕ) (j : ℕ) (g : Neighbours text t j) where
   neighbour-pair h e k f =
       let a = g .lists .known (j - 1) (omega (arith, g .below)) in
       let b = g .lists .known j (g .below) in
-      record { number = g .number; laid = g .lists .laid; room = g .lists .room; first = omega arith; second = omega arith }
+      record { number = g .number; laid = g .lists .laid; first = omega arith; second = omega arith }
 
   pub neighbour-share : (h : ℕ) → h ≡ orderOf t (j - 1) → (k : ℕ) → k ≡ orderOf t j → (r : ℕ) → r ≡ commonPrefix (wordAt text t h) (wordAt text t k)
       → r ≡ commonPrefix (wordAt text t (orderOf t (j - 1))) (wordAt text t (orderOf t j))

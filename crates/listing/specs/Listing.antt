@@ -38,21 +38,6 @@ pub record Unlisted (text table : List ℕ) (n : ℕ) : Type 0 where
   pub laid : Laid text table n
   pub room : length table ≡ tableRoom
 
--- k is one of the relation words that are laid
-pub record KnownWord (text table : List ℕ) (k : ℕ) : Type 0 where
-  pub number : ℕ
-  pub laid : Laid text table number
-  pub room : length table ≡ tableRoom
-  pub known : k < number
-
--- h and k are two of them, or one twice
-pub record WordPair (text table : List ℕ) (h k : ℕ) : Type 0 where
-  pub number : ℕ
-  pub laid : Laid text table number
-  pub room : length table ≡ tableRoom
-  pub first : h < number
-  pub second : k < number
-
 -- relation word k seeks its place in the list, and a relation word is listed at place i - 1
 pub record Inserting (text table : List ℕ) (i k : ℕ) : Type 0 where
   pub number : ℕ

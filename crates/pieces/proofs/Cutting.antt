@@ -12,17 +12,15 @@ use lib.Dec.{leb}
 use lib.ListN.{length, getD, set, length-set}
 use lib.Seq.{getD-set-same, getD-set-other}
 use Rattle.words.specs.Search.{greatest}
-use Rattle.words.proofs.Searching.{greatest-bound, greatest-passes, greatest-last, greatest-is}
+use Rattle.words.proofs.Searching.{greatest-bound, greatest-passes, greatest-last, greatest-is, greatest-same}
 use Rattle.overlap.specs.Cuts.{pieceAt, xlen, zlen}
+use Rattle.layout.specs.Places.{startCell, xEndCell, zStartCell, endCell}
 use Rattle.layout.specs.Layout.{Laid, Cut, wordsIn, startOf, xEndOf, zStartOf, endOf}
 use Rattle.layout.proofs.Placed.{word-length, end-before, words-of-places, laid-of-places}
-use Rattle.pieces.specs.Longest.{longestAt, Tabled}
-use Rattle.pieces.specs.Judging.{Fenced, Placed, AllPlaced, xBy, tailBy, zBy, Tail, OnlyCuts, CutBy}
+use Rattle.longest.specs.Longest.{longestAt, Tabled}
+use Rattle.pieces.specs.Pieces.{Fenced, InTables, AllInTables}
+use Rattle.pieces.specs.Judging.{xBy, tailBy, zBy, cutWord, Tail, OnlyCuts, CutBy}
 use Rattle.pieces.proofs.Fences.{longest-inside, piece-longest}
-
-greatest-same : (n : ℕ) (f g : ℕ → Bool) → ((k : ℕ) → k ≤ n → f k ≡ g k) → greatest n f ≡ greatest n g
-greatest-same n f g h =
-    greatest-is n f (greatest n g) (greatest-bound n g) (λ l. h (greatest n g) (greatest-bound n g) ∙ greatest-passes n g l) (λ k l u. h k u ∙ greatest-last n g k l u)
 
 -- the search for the start of Z
 
@@ -69,7 +67,13 @@ module _ (longest : List ℕ) (start end a : ℕ) (s : Tailing longest start end
 pub ruleset tails = (tail-first, tail-found, tail-more, tail-end, needs)
 
 -- the two cuts of a word
-module _ (longest table : List ℕ) (i : ℕ) (f : Placed longest table i) where
+module _ (longest table : List ℕ) (i : ℕ) (f : InTables longest table i) where
+  pub cells-start : startCell i < length table
+  cells-start = let r = f .room in omega (arith, r)
+
+  pub cells-end : endCell i < length table
+  cells-end = f .room
+
   pub tail-here : (s e : ℕ) → s ≡ startOf table i → e ≡ endOf table i → Tail longest s e
   tail-here s e d g = let u = f .upwards in let k = f .inside in record { upwards = omega (arith, d, g, u); inside = omega (arith, g, k) }
 
@@ -94,15 +98,14 @@ module _ (longest table : List ℕ) (i : ℕ) (f : Placed longest table i) where
     pub z-here : (r : ℕ) → r ≡ a → r ≡ zBy longest table i
     z-here r c = c ∙ h ∙ rw (d, g)
 
-pub ruleset ends = (tail-here, start-inside, x-small, x-here, z-small, z-here, needs)
+pub ruleset ends = (cells-start, cells-end, tail-here, start-inside, x-small, x-here, z-small, z-here, needs)
 
 -- both are written
 module _ (longest table : List ℕ) (i : ℕ) where
-  pub second-inside : Placed longest table i → (x : ℕ) → 4 * i + 2 < length (set table (4 * i + 1) x)
-  second-inside f x = let r = f .room in let l = length-set table (4 * i + 1) x in omega (arith, r, l)
+  pub second-inside : InTables longest table i → (x : ℕ) → zStartCell i < length (set table (xEndCell i) x)
+  second-inside f x = let r = f .room in let l = length-set table (xEndCell i) x in omega (arith, r, l)
 
-  pub word-cut : (x z : ℕ) → x ≡ xBy longest table i → z ≡ zBy longest table i
-      → set (set table (4 * i + 1) x) (4 * i + 2) z ≡ set (set table (4 * i + 1) (xBy longest table i)) (4 * i + 2) (zBy longest table i)
+  pub word-cut : (x z : ℕ) → x ≡ xBy longest table i → z ≡ zBy longest table i → set (set table (xEndCell i) x) (zStartCell i) z ≡ cutWord longest table i
   word-cut x z d e = rw (d, e)
 
 pub ruleset writing = (second-inside, word-cut, needs)
@@ -110,12 +113,12 @@ pub ruleset writing = (second-inside, word-cut, needs)
 -- the loop over the words
 
 pub record Cutting (longest table : List ℕ) (n i : ℕ) (b : List ℕ) : Type 0 where
-  pub placed : AllPlaced longest table n
+  pub placed : AllInTables longest table n
   pub upto : i ≤ n
   pub long : length b ≡ length table
   pub done : CutBy longest table i b
 
-pub cut-start : (longest table : List ℕ) (n : ℕ) → AllPlaced longest table n → Cutting longest table n 0 table
+pub cut-start : (longest table : List ℕ) (n : ℕ) → AllInTables longest table n → Cutting longest table n 0 table
 cut-start longest table n p =
     record {
       placed = p;
@@ -146,8 +149,8 @@ module _ (longest table : List ℕ) (n i : ℕ) (b : List ℕ) (s : Cutting long
   end-same : endOf b i ≡ endOf table i
   end-same = s .done .kept .ends i
 
-  pub cut-placed : i < n → Placed longest b i
-  cut-placed h =
+  pub cut-tables : i < n → InTables longest b i
+  cut-tables h =
       let p = s .placed .each i h in
       let d = start-same in
       let e = end-same in
@@ -168,17 +171,17 @@ module _ (longest table : List ℕ) (n i : ℕ) (b : List ℕ) (s : Cutting long
   z-same : zBy longest b i ≡ zBy longest table i
   z-same = rw (start-same, end-same)
 
-  pub cut-more : (c : List ℕ) → i < n → c ≡ set (set b (4 * i + 1) (xBy longest b i)) (4 * i + 2) (zBy longest b i) → Cutting longest table n (i + 1) c
+  pub cut-more : (c : List ℕ) → i < n → c ≡ cutWord longest b i → Cutting longest table n (i + 1) c
   cut-more c h e =
       let p = s .placed .each i h in
       let l = s .long in
       let k = s .done .kept in
-      let q : 4 * i + 1 + 1 < length b = omega (arith, p .room, l) in
-      let g : 4 * i + 2 ≡ 4 * i + 1 + 1 = omega arith in
-      let e₂ : c ≡ set (set b (4 * i + 1) (xBy longest b i)) (4 * i + 1 + 1) (zBy longest b i) = rw (← g) e in
-      let m : length c ≡ length table = rw e (length-set (set b (4 * i + 1) (xBy longest b i)) (4 * i + 2) (zBy longest b i) ∙ length-set b (4 * i + 1) (xBy longest b i) ∙ l) in
-      let other : (j : ℕ) → (j ≡ 4 * i + 1 → ⊥) → (j ≡ 4 * i + 1 + 1 → ⊥) → getD c j 0 ≡ getD b j 0 =
-      λ j d f. rw e₂ (pair-other b (4 * i + 1) (xBy longest b i) (zBy longest b i) q j d f) in
+      let q : xEndCell i + 1 < length b = omega (arith, p .room, l) in
+      let g : zStartCell i ≡ xEndCell i + 1 = omega arith in
+      let e₂ : c ≡ set (set b (xEndCell i) (xBy longest b i)) (xEndCell i + 1) (zBy longest b i) = rw (← g) e in
+      let m : length c ≡ length table = rw e (length-set (set b (xEndCell i) (xBy longest b i)) (zStartCell i) (zBy longest b i) ∙ length-set b (xEndCell i) (xBy longest b i) ∙ l) in
+      let other : (j : ℕ) → (j ≡ xEndCell i → ⊥) → (j ≡ xEndCell i + 1 → ⊥) → getD c j 0 ≡ getD b j 0 =
+      λ j d f. rw e₂ (pair-other b (xEndCell i) (xBy longest b i) (zBy longest b i) q j d f) in
       record {
         placed = s .placed;
         upto = omega (arith, h);
@@ -186,23 +189,23 @@ module _ (longest table : List ℕ) (n i : ℕ) (b : List ℕ) (s : Cutting long
         done = record {
           kept = record {
             long = m;
-            starts = λ j. other (4 * j) (λ d. absurd (omega (arith, d))) (λ d. absurd (omega (arith, d))) ∙ k .starts j;
-            ends = λ j. other (4 * j + 3) (λ d. absurd (omega (arith, d))) (λ d. absurd (omega (arith, d))) ∙ k .ends j;
+            starts = λ j. other (startCell j) (λ d. absurd (omega (arith, d))) (λ d. absurd (omega (arith, d))) ∙ k .starts j;
+            ends = λ j. other (endCell j) (λ d. absurd (omega (arith, d))) (λ d. absurd (omega (arith, d))) ∙ k .ends j;
             beyond = λ j t. other j (λ d. absurd (omega (arith, d, t))) (λ d. absurd (omega (arith, d, t))) ∙ k .beyond j (omega (arith, t));
           };
           xEnd = λ j t. by-cases (ℕ-discrete j i)
-              (λ d. ap (xEndOf c) d ∙ rw e₂ (pair-first b (4 * i + 1) (xBy longest b i) (zBy longest b i) q) ∙ x-same ∙ ap (xBy longest table) (sym d))
-              (λ d. other (4 * j + 1) (λ a. absurd (omega (arith, a, d))) (λ a. absurd (omega (arith, a))) ∙ s .done .xEnd j (omega (arith, t, d)));
+              (λ d. ap (xEndOf c) d ∙ rw e₂ (pair-first b (xEndCell i) (xBy longest b i) (zBy longest b i) q) ∙ x-same ∙ ap (xBy longest table) (sym d))
+              (λ d. other (xEndCell j) (λ a. absurd (omega (arith, a, d))) (λ a. absurd (omega (arith, a))) ∙ s .done .xEnd j (omega (arith, t, d)));
           zStart = λ j t. by-cases (ℕ-discrete j i)
-              (λ d. ap (zStartOf c) d ∙ ap (λ a. getD c a 0) g ∙ rw e₂ (pair-second b (4 * i + 1) (xBy longest b i) (zBy longest b i) q) ∙ z-same ∙ ap (zBy longest table) (sym d))
-              (λ d. other (4 * j + 2) (λ a. absurd (omega (arith, a))) (λ a. absurd (omega (arith, a, d))) ∙ s .done .zStart j (omega (arith, t, d)));
+              (λ d. ap (zStartOf c) d ∙ ap (λ a. getD c a 0) g ∙ rw e₂ (pair-second b (xEndCell i) (xBy longest b i) (zBy longest b i) q) ∙ z-same ∙ ap (zBy longest table) (sym d))
+              (λ d. other (zStartCell j) (λ a. absurd (omega (arith, a))) (λ a. absurd (omega (arith, a, d))) ∙ s .done .zStart j (omega (arith, t, d)));
         };
       }
 
   pub cut-end : n ≤ i → CutBy longest table n b
   cut-end h = subst (λ (k : ℕ). CutBy longest table k b) (omega (arith, h, s .upto)) (s .done)
 
-pub ruleset cuts = (cut-start, cut-placed, cut-more, cut-end, needs)
+pub ruleset cuts = (cut-start, cut-tables, cut-more, cut-end, needs)
 
 -- tables that differ in cuts alone have the same relation words, and they stay laid out
 module _ (text table after : List ℕ) (n : ℕ) (k : OnlyCuts table n after) where

@@ -22,7 +22,7 @@ use Rattle.layout.proofs.Placed.{words-length, start-bound, end-before, word-le
 use Rattle.layout.specs.Places.{textRoom}
 use Rattle.longest.specs.Longest.{shared, longestAt, Bounded}
 use Rattle.longest.proofs.Shared.{shared-from-past, shared-fits, shared-at, at-shared, longest-least, longest-found}
-use Rattle.pieces.specs.Judging.{Fenced}
+use Rattle.pieces.specs.Pieces.{Fenced}
 
 module _ (text table : List ℕ) (n : ℕ) (f : Fenced text table n) where
   -- a common prefix with another place stays before the fence

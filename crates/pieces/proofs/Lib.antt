@@ -1,7 +1,5 @@
-pub mod Passes
 pub mod Fences
 pub mod Loose
 pub mod Lowest
 pub mod Cutting
-pub mod Repeated
 pub mod Verdicts

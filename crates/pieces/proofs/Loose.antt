@@ -11,7 +11,7 @@ use lib.ListN.{getD}
 use Rattle.words.specs.Search.{anyBelow}
 use Rattle.words.proofs.Searching.{NoneBelow, none-start, none-more, none-all, any-of}
 use Rattle.overlap.specs.Cuts.{three}
-use Rattle.pieces.specs.Longest.{held, Span, Parts}
+use Rattle.pieces.specs.Pieces.{held, Covered, CutPoints}
 
 -- the second cut at b, where the first is at a
 abbrev pub second : List ℕ → ℕ → ℕ → ℕ → ℕ → Bool
@@ -22,7 +22,7 @@ abbrev pub first : List ℕ → ℕ → ℕ → ℕ → Bool
 first longest start n a = held longest start 0 a && anyBelow (n + 1) (second longest start n a)
 
 pub record Outer (longest : List ℕ) (start n i : ℕ) (found : Bool) : Type 0 where
-  pub span : Span longest start n
+  pub span : Covered longest start n
   pub upto : i ≤ n + 1
   pub absent : found ≡ false
   pub none : NoneBelow (first longest start n) i
@@ -35,7 +35,7 @@ pub record Inner (longest : List ℕ) (start n i j : ℕ) (found : Bool) : Type 
   pub prefix : held longest start 0 i ≡ true
   pub none : NoneBelow (second longest start n i) j
 
-pub outer-start : (longest : List ℕ) (start n : ℕ) → Span longest start n → Outer longest start n 0 false
+pub outer-start : (longest : List ℕ) (start n : ℕ) → Covered longest start n → Outer longest start n 0 false
 outer-start longest start n s = record { span = s; upto = omega arith; absent = refl; none = none-start _ }
 
 at-start : (longest : List ℕ) (start i : ℕ) → leb i (getD longest start 0) ≡ held longest start 0 i
@@ -71,7 +71,7 @@ module _ (longest : List ℕ) (start n i j : ℕ) (found : Bool) (v : Inner long
       }
 
   module _ (h : j ≤ n) where
-    pub parts-here : Parts longest start n i j
+    pub parts-here : CutPoints longest start n i j
     parts-here = record { inside = v .outer .span .inside; low = v .low; high = h }
 
     module _ (r : Bool) (e : r ≡ (held longest start i (j - i) && held longest start j (n - j))) where

@@ -9,20 +9,28 @@ use native.Mathlib.Decide.{decLe}
 use borrow.Author.Needs.{needs}
 use borrow.Author.Tests.{lt-leb}
 use lib.Dec.{leb}
+use lib.ListN.{length}
 use Rattle.words.specs.Search.{anyBelow, least}
-use Rattle.words.proofs.Searching.{NoneBelow, none-start, none-more, least-is, least-none}
+use Rattle.words.proofs.Searching.{NoneBelow, none-start, none-more, any-same, least-is, least-none, least-same}
 use Rattle.overlap.specs.Cuts.{pieceAt, three, loose, firstLoose}
+use Rattle.layout.specs.Places.{startCell, endCell}
 use Rattle.layout.specs.Layout.{wordsIn, startOf, endOf}
 use Rattle.layout.proofs.Placed.{words-length, word-length, end-before}
-use Rattle.pieces.specs.Longest.{held, Span, Space, Tabled}
-use Rattle.pieces.specs.Judging.{Fenced, Placed, AllPlaced, looseBy, lowestLoose, Measurable, Measured}
+use Rattle.longest.specs.Longest.{Space, Tabled}
+use Rattle.pieces.specs.Pieces.{held, Covered, Fenced, InTables, AllInTables, looseBy, lowestLoose, Measurable, Measured}
 use Rattle.pieces.proofs.Fences.{longest-inside, text-bounded, text-short, piece-longest}
 
 -- one word
 
-module _ (longest table : List ℕ) (i : ℕ) (f : Placed longest table i) where
-  pub span-here : (s e : ℕ) → s ≡ startOf table i → e ≡ endOf table i → Span longest s (e - s)
-  span-here s e d g = let u = f .upwards in let k = f .inside in record { inside = omega (arith, d, g, u, k) }
+module _ (longest table : List ℕ) (i : ℕ) (f : InTables longest table i) where
+  pub cells-start : startCell i < length table
+  cells-start = let r = f .room in omega (arith, r)
+
+  pub cells-end : endCell i < length table
+  cells-end = f .room
+
+  pub covered-here : (s e : ℕ) → s ≡ startOf table i → e ≡ endOf table i → Covered longest s (e - s)
+  covered-here s e d g = let u = f .upwards in let k = f .inside in record { inside = omega (arith, d, g, u, k) }
 
   pub word-up : (s e : ℕ) → s ≡ startOf table i → e ≡ endOf table i → s ≤ e
   word-up s e d g = let u = f .upwards in omega (arith, d, g, u)
@@ -31,21 +39,21 @@ module _ (longest table : List ℕ) (i : ℕ) (f : Placed longest table i) where
   unfolding looseBy
   loose-here s e r d g h = h ∙ rw (d, g)
 
-pub ruleset loosing = (span-here, word-up, loose-here, needs)
+pub ruleset loosing = (cells-start, cells-end, covered-here, word-up, loose-here, needs)
 
 -- the loop over the words
 
 pub record Seeking (longest table : List ℕ) (n i : ℕ) : Type 0 where
-  pub placed : AllPlaced longest table n
+  pub placed : AllInTables longest table n
   pub upto : i ≤ n
   pub none : NoneBelow (looseBy longest table) i
 
-pub seek-start : (longest table : List ℕ) (n : ℕ) → AllPlaced longest table n → Seeking longest table n 0
+pub seek-start : (longest table : List ℕ) (n : ℕ) → AllInTables longest table n → Seeking longest table n 0
 seek-start longest table n f = record { placed = f; upto = omega arith; none = none-start _ }
 
 module _ (longest table : List ℕ) (n i : ℕ) (s : Seeking longest table n i) where
-  pub seek-placed : i < n → Placed longest table i
-  seek-placed h = s .placed .each i h
+  pub seek-tables : i < n → InTables longest table i
+  seek-tables h = s .placed .each i h
 
   module _ (h : i < n) (r : Bool) (e : r ≡ looseBy longest table i) where
     pub seek-more : r ≡ false → Seeking longest table n (i + 1)
@@ -61,27 +69,7 @@ module _ (longest table : List ℕ) (n i : ℕ) (s : Seeking longest table n i) 
       let e : i ≡ n = omega (arith, h, s .upto) in
       e ∙ sym (least-none n (looseBy longest table) (subst (λ (k : ℕ). NoneBelow (looseBy longest table) k) e (s .none)))
 
-pub ruleset seeking = (seek-start, seek-placed, seek-more, seek-found, seek-end, needs)
-
--- searches with the same answers
-
-pub any-same : (n : ℕ) (f g : ℕ → Bool) → ((k : ℕ) → k < n → f k ≡ g k) → anyBelow n f ≡ anyBelow n g
-unfolding anyBelow
-any-same zero f g h = refl
-any-same (suc n) f g h = go (g n) refl (any-same n f g (λ k l. h k (omega (arith, l))))
-  where
-    go : (t : Bool) → g n ≡ t → anyBelow n f ≡ anyBelow n g → anyBelow (suc n) f ≡ anyBelow (suc n) g
-    go true e r = rw (h n (omega arith) ∙ e, e, anyBelow)
-    go false e r = rw (h n (omega arith) ∙ e, e, anyBelow) r
-
-pub least-same : (n : ℕ) (f g : ℕ → Bool) → ((k : ℕ) → k < n → f k ≡ g k) → least n f ≡ least n g
-unfolding least
-least-same zero f g h = refl
-least-same (suc n) f g h = go (g 0) refl (least-same n (λ k. f (suc k)) (λ k. g (suc k)) (λ k l. h (suc k) (omega (arith, l))))
-  where
-    go : (t : Bool) → g 0 ≡ t → least n (λ k. f (suc k)) ≡ least n (λ k. g (suc k)) → least (suc n) f ≡ least (suc n) g
-    go true e r = rw (h 0 (omega arith) ∙ e, e, least)
-    go false e r = rw (h 0 (omega arith) ∙ e, e, least) (ap suc r)
+pub ruleset seeking = (seek-start, seek-tables, seek-more, seek-found, seek-end, needs)
 
 three-same : (f g : ℕ → ℕ → Bool) (n : ℕ) → ((a m : ℕ) → a + m ≤ n → f a m ≡ g a m) → three f n ≡ three g n
 unfolding three
@@ -109,8 +97,8 @@ module _ (text table longest : List ℕ) (n : ℕ) (f : Fenced text table n) (t 
   unfolding lowestLoose firstLoose
   lowest-table = rw (words-length text table n) (least-same n (looseBy longest table) (loose (wordsIn text table n)) loose-table)
 
-  pub all-placed : AllPlaced longest table n
-  all-placed = record {
+  pub all-in-tables : AllInTables longest table n
+  all-in-tables = record {
     each = λ i h.
         let w = f .whole in
         let g = end-before text table n (f .laid) i h in
@@ -136,10 +124,10 @@ module _ (text table : List ℕ) (n : ℕ) (longest : List ℕ) (m : Measurable 
       record { bounded = text-bounded text table n (m .fenced); short = k; room = omega (arith, k, m .room) }
 
   module _ (longest′ : List ℕ) (t : Tabled text longest′) where
-    pub measure-placed : AllPlaced longest′ table n
-    measure-placed = all-placed text table longest′ n (m .fenced) t
+    pub measure-tables : AllInTables longest′ table n
+    measure-tables = all-in-tables text table longest′ n (m .fenced) t
 
     pub measured : (r : ℕ) → r ≡ lowestLoose longest′ table n → Measured text table n longest′ r
     measured r e = record { tabled = t; lowest = e ∙ lowest-table text table longest′ n (m .fenced) t }
 
-pub ruleset measuring = (measure-space, measure-placed, measured, needs)
+pub ruleset measuring = (measure-space, measure-tables, measured, needs)

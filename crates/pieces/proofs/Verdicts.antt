@@ -12,13 +12,15 @@ use Rattle.overlap.specs.Cuts.{firstLoose}
 use Rattle.overlap.specs.Verdict.{judge, firstRepeated}
 use Rattle.overlap.specs.Verdict.Verdict.{repeated, loose}
 use Rattle.overlap.proofs.Verdicts.{judge-accepts-iff-c4}
+use Rattle.layout.specs.Places.{startCell, textRoom}
 use Rattle.layout.specs.Layout.{Laid, wordsIn, startOf, endOf}
 use Rattle.layout.proofs.Parts.{part-of-take}
 use Rattle.layout.proofs.Placed.{words-length, end-before}
 use Rattle.pieces.specs.declared.Judged.{Judged}
 use Rattle.pieces.specs.declared.Judged.the-variants.{Accepted, Repeated, Loose}
-use Rattle.pieces.specs.Judging.{Fenced, AllPlaced, Measurable, Measured, CutBy, Recut, Judging, verdictOf, looseVerdict}
-use Rattle.pieces.proofs.Lowest.{all-placed}
+use Rattle.pieces.specs.Pieces.{Fenced, AllInTables, Measurable, Measured}
+use Rattle.pieces.specs.Judging.{CutBy, Recut, Judging, verdictOf, looseVerdict}
+use Rattle.pieces.proofs.Lowest.{all-in-tables}
 use Rattle.pieces.proofs.Cutting.{cut-true, words-kept, laid-kept}
 
 -- the answers have different names
@@ -37,12 +39,12 @@ accepted-not-loose e = let d = ap said e in absurd (omega (arith, d))
 
 -- a text that ends with its last fence
 module _ (text table : List ℕ) (n : ℕ) (f : Fenced text table n) where
-  pub whole-measurable : Measurable text table n (replicate 4160 0)
-  whole-measurable = let l = length-replicate {A = ℕ} 4160 0 in record { fenced = f; room = omega (arith, l) }
+  pub whole-measurable : Measurable text table n (replicate textRoom 0)
+  whole-measurable = let l = length-replicate {A = ℕ} textRoom 0 in record { fenced = f; room = omega (arith, l) }
 
   module _ (longest : List ℕ) (r : ℕ) (m : Measured text table n longest r) where
-    pub whole-placed : AllPlaced longest table n
-    whole-placed = all-placed text table longest n f (m .tabled)
+    pub whole-tables : AllInTables longest table n
+    whole-tables = all-in-tables text table longest n f (m .tabled)
 
     pub whole-loose : r < n → Judging (looseVerdict (wordsIn text table n)) text table n table (Loose r)
     unfolding looseVerdict verdictOf
@@ -70,7 +72,7 @@ module _ (text table : List ℕ) (n : ℕ) (f : Fenced text table n) where
           looses = λ i d. accepted-not-loose d;
         }
 
-pub ruleset wholes = (whole-measurable, whole-placed, whole-loose, whole-cut, needs)
+pub ruleset wholes = (whole-measurable, whole-tables, whole-loose, whole-cut, needs)
 
 -- the text as far as the last fence
 

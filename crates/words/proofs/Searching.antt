@@ -132,3 +132,26 @@ greatest-is n p m h y out = by-cases (decLt (greatest n p) m)
     (λ l. by-cases (decLt m (greatest n p))
     (λ k. absurd (true≢false (sym (greatest-passes n p (omega (arith, k))) ∙ out (greatest n p) k (greatest-bound n p))))
     (λ k. omega (arith, l, k)))
+
+-- searches with the same answers
+pub any-same : (n : ℕ) (f g : ℕ → Bool) → ((k : ℕ) → k < n → f k ≡ g k) → anyBelow n f ≡ anyBelow n g
+unfolding anyBelow
+any-same zero f g h = refl
+any-same (suc n) f g h = go (g n) refl (any-same n f g (λ k l. h k (omega (arith, l))))
+  where
+    go : (t : Bool) → g n ≡ t → anyBelow n f ≡ anyBelow n g → anyBelow (suc n) f ≡ anyBelow (suc n) g
+    go true e r = rw (h n (omega arith) ∙ e, e, anyBelow)
+    go false e r = rw (h n (omega arith) ∙ e, e, anyBelow) r
+
+pub least-same : (n : ℕ) (f g : ℕ → Bool) → ((k : ℕ) → k < n → f k ≡ g k) → least n f ≡ least n g
+unfolding least
+least-same zero f g h = refl
+least-same (suc n) f g h = go (g 0) refl (least-same n (λ k. f (suc k)) (λ k. g (suc k)) (λ k l. h (suc k) (omega (arith, l))))
+  where
+    go : (t : Bool) → g 0 ≡ t → least n (λ k. f (suc k)) ≡ least n (λ k. g (suc k)) → least (suc n) f ≡ least (suc n) g
+    go true e r = rw (h 0 (omega arith) ∙ e, e, least)
+    go false e r = rw (h 0 (omega arith) ∙ e, e, least) (ap suc r)
+
+pub greatest-same : (n : ℕ) (f g : ℕ → Bool) → ((k : ℕ) → k ≤ n → f k ≡ g k) → greatest n f ≡ greatest n g
+greatest-same n f g h =
+    greatest-is n f (greatest n g) (greatest-bound n g) (λ l. h (greatest n g) (greatest-bound n g) ∙ greatest-passes n g l) (λ k l u. h k u ∙ greatest-last n g k l u)

@@ -6,14 +6,7 @@ pub is-loose-spec : {M : Type 1} → statement M
 is-loose-spec =
     tie.close
     (tie.spec
-    (λ c. search loosing)
-    (λ c. search loosing)
-    (λ c. search loosing)
     (λ c κs. search loosing)
-    (λ c. search loosing)
-    (λ c. search loosing)
-    (λ c. search loosing)
-    (λ c. search loosing)
     (λ c κs. search loosing)
     (λ c. search loosing)
     (λ c κs. search loosing)

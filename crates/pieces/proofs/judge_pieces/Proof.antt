@@ -6,9 +6,6 @@ pub judge-pieces-spec : {M : Type 1} → statement M
 judge-pieces-spec =
     tie.close
     (tie.spec
-    (λ c. search prefixes)
-    (λ c. search prefixes)
-    (λ c. search prefixes)
     (λ c κs. search prefixes)
     (λ c. search prefixes)
     (λ c κs. search prefixes)

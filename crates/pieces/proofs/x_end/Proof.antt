@@ -6,9 +6,6 @@ pub x-end-spec : {M : Type 1} → statement M
 x-end-spec =
     tie.close
     (tie.spec
-    (λ c. search ends)
-    (λ c. search ends)
-    (λ c. search ends)
     (λ c κs. search ends)
     (λ c. search ends)
     (λ c κs. search ends)

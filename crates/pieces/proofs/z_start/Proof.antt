@@ -6,14 +6,7 @@ pub z-start-spec : {M : Type 1} → statement M
 z-start-spec =
     tie.close
     (tie.spec
-    (λ c. search ends)
-    (λ c. search ends)
-    (λ c. search ends)
     (λ c κs. search ends)
-    (λ c. search ends)
-    (λ c. search ends)
-    (λ c. search ends)
-    (λ c. search ends)
     (λ c κs. search ends)
     (λ c κs. search ends)
     (λ c κs. search ends)

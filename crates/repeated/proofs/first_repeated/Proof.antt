@@ -1,7 +1,7 @@
 use Prim.Native.Nat.{_-_}
-use Rattle.pieces.proofs.Repeated.{Recalling, recalling}
-use Rattle.pieces.proofs.first_repeated.Statement.{statement}
-use Rattle.pieces.proofs.first_repeated.Tie as tie
+use Rattle.repeated.proofs.Repeated.{Recalling, recalling}
+use Rattle.repeated.proofs.first_repeated.Statement.{statement}
+use Rattle.repeated.proofs.first_repeated.Tie as tie
 
 abbrev Inv-loop : tie.InvT-loop
 Inv-loop text table n i₀ i = Recalling text table n i

@@ -13,12 +13,12 @@ use Rattle.words.specs.Search.{least}
 use Rattle.words.specs.Words.{Word, isPrefix}
 use Rattle.words.proofs.Prefixes.{prefix-at, at-prefix}
 use Rattle.words.proofs.Tests.{false-of}
-use Rattle.words.proofs.Searching.{NoneBelow, none-start, none-more, none-all, any-of, least-is, least-none}
+use Rattle.words.proofs.Searching.{NoneBelow, none-start, none-more, none-all, any-of, any-same, least-is, least-none, least-same}
 use Rattle.overlap.specs.Verdict.{sameWord, isRepeated, firstRepeated}
-use Rattle.layout.specs.Layout.{Laid, wordsIn, part, startOf, endOf}
-use Rattle.layout.proofs.Placed.{words-length, word-part, end-before}
-use Rattle.pieces.specs.Judging.{Lying, BothLying, AllLying, sameParts, repeatedIn}
-use Rattle.pieces.proofs.Lowest.{any-same, least-same}
+use Rattle.layout.specs.Places.{startCell, endCell}
+use Rattle.layout.specs.Layout.{part, startOf, endOf, wordsIn, Laid, KnownWord, WordPair}
+use Rattle.layout.proofs.Placed.{words-length, word-part, row-inside, word-span}
+use Rattle.repeated.specs.Repeated.{sameWords, repeatedIn}
 
 -- the letters of two words
 
@@ -59,48 +59,69 @@ module _ (u v : Word) where
 pub ruleset equals = (equal-letters, unequal-lengths, needs)
 
 -- two words of the text
-module _ (text table : List ℕ) (i : ℕ) (f : Lying text table i) (s e : ℕ) (d : s ≡ startOf table i) (g : e ≡ endOf table i) where
-  pub lying-up : s ≤ e
-  lying-up = let u = f .upwards in omega (arith, d, g, u)
+module _ (text table : List ℕ) (j i : ℕ) (g : WordPair text table j i) where
+  pub first-row : endCell j < length table
+  first-row = row-inside text table (g .number) (g .laid) j (g .first)
 
-  pub lying-inside : e ≤ length text
-  lying-inside = let u = f .inside in omega (arith, g, u)
+  pub second-row : endCell i < length table
+  second-row = row-inside text table (g .number) (g .laid) i (g .second)
 
-pub parts-equal : (text table : List ℕ) (i j a b c d : ℕ) (r : Bool) → a ≡ startOf table j → b ≡ endOf table j → c ≡ startOf table i → d ≡ endOf table i
-    → r ≡ sameWord (part text a b) (part text c d) → r ≡ sameParts text table i j
-parts-equal text table i j a b c d r e₁ e₂ e₃ e₄ h = h ∙ rw (e₁, e₂, e₃, e₄)
+  pub first-cell : startCell j < length table
+  first-cell = let r = first-row in omega (arith, r)
 
-pub ruleset equalities = (lying-up, lying-inside, parts-equal, needs)
+  pub second-cell : startCell i < length table
+  second-cell = let r = second-row in omega (arith, r)
+
+  module _ (s e : ℕ) where
+    pub first-upwards : s ≡ startOf table j → e ≡ endOf table j → s ≤ e
+    first-upwards d f = let w = word-span text table (g .number) (g .laid) j (g .first) in omega (arith, d, f, w .upwards)
+
+    pub second-upwards : s ≡ startOf table i → e ≡ endOf table i → s ≤ e
+    second-upwards d f = let w = word-span text table (g .number) (g .laid) i (g .second) in omega (arith, d, f, w .upwards)
+
+  pub first-inside : (e : ℕ) → e ≡ endOf table j → e ≤ length text
+  first-inside e f = let w = word-span text table (g .number) (g .laid) j (g .first) in omega (arith, f, w .inside)
+
+  pub second-inside : (e : ℕ) → e ≡ endOf table i → e ≤ length text
+  second-inside e f = let w = word-span text table (g .number) (g .laid) i (g .second) in omega (arith, f, w .inside)
+
+pub words-equal : (text table : List ℕ) (i j a b c d : ℕ) (r : Bool) → a ≡ startOf table j → b ≡ endOf table j → c ≡ startOf table i → d ≡ endOf table i
+    → r ≡ sameWord (part text a b) (part text c d) → r ≡ sameWords text table i j
+words-equal text table i j a b c d r e₁ e₂ e₃ e₄ h = h ∙ rw (e₁, e₂, e₃, e₄)
+
+pub ruleset equalities = (first-row, second-row, first-cell, second-cell, first-upwards, second-upwards, first-inside, second-inside, words-equal, needs)
 
 -- the loop over the earlier words
 
 pub record Comparing (text table : List ℕ) (i j : ℕ) : Type 0 where
-  pub lying : AllLying text table (i + 1)
+  pub known : KnownWord text table i
   pub upto : j ≤ i
-  pub none : NoneBelow (sameParts text table i) j
+  pub none : NoneBelow (sameWords text table i) j
 
-pub compare-start : (text table : List ℕ) (i : ℕ) → AllLying text table (i + 1) → Comparing text table i 0
-compare-start text table i f = record { lying = f; upto = omega arith; none = none-start _ }
+pub compare-start : (text table : List ℕ) (i : ℕ) → KnownWord text table i → Comparing text table i 0
+compare-start text table i f = record { known = f; upto = omega arith; none = none-start _ }
 
 module _ (text table : List ℕ) (i j : ℕ) (s : Comparing text table i j) where
-  pub compare-lying : j < i → BothLying text table j i
-  compare-lying h = record { one = s .lying .each j (omega (arith, h)); other = s .lying .each i (omega arith) }
+  pub compare-pair : j < i → WordPair text table j i
+  compare-pair h =
+      let k = s .known in
+      record { number = k .number; laid = k .laid; first = omega (arith, h, k .known); second = k .known }
 
-  module _ (h : j < i) (r : Bool) (e : r ≡ sameParts text table i j) where
+  module _ (h : j < i) (r : Bool) (e : r ≡ sameWords text table i j) where
     pub compare-more : r ≡ false → Comparing text table i (j + 1)
-    compare-more t = record { lying = s .lying; upto = omega (arith, h); none = none-more _ j (s .none) (sym e ∙ t) }
+    compare-more t = record { known = s .known; upto = omega (arith, h); none = none-more _ j (s .none) (sym e ∙ t) }
 
     pub compare-found : r ≡ true → true ≡ repeatedIn text table i
     unfolding repeatedIn
-    compare-found t = sym (any-of i (sameParts text table i) j h (sym e ∙ t))
+    compare-found t = sym (any-of i (sameWords text table i) j h (sym e ∙ t))
 
   pub compare-end : i ≤ j → false ≡ repeatedIn text table i
   unfolding repeatedIn
   compare-end h =
       let e : j ≡ i = omega (arith, h, s .upto) in
-      sym (none-all (sameParts text table i) i (subst (λ (k : ℕ). NoneBelow (sameParts text table i) k) e (s .none)))
+      sym (none-all (sameWords text table i) i (subst (λ (k : ℕ). NoneBelow (sameWords text table i) k) e (s .none)))
 
-pub ruleset comparing = (compare-start, compare-lying, compare-more, compare-found, compare-end, needs)
+pub ruleset comparing = (compare-start, compare-pair, compare-more, compare-found, compare-end, needs)
 
 -- the loop over the words
 
@@ -122,16 +143,8 @@ module _ (text table : List ℕ) (n i : ℕ) (s : Recalling text table n i) wher
   unfolding firstRepeated
   lowest-there = rw (words-length text table n) (least-same n (repeatedIn text table) (isRepeated (wordsIn text table n)) (repeated-there text table n))
 
-  pub recall-lying : i < n → AllLying text table (i + 1)
-  recall-lying h = record {
-    each = λ k l.
-        let f = s .laid in
-        let e = end-before text table n f k (omega (arith, h, l)) in
-        let u = f .some k (omega (arith, h, l)) in
-        let r = f .room in
-        let t = f .inside in
-        record { room = omega (arith, l, h, r); upwards = omega (arith, u); inside = omega (arith, e, t) };
-  }
+  pub recall-known : i < n → KnownWord text table i
+  recall-known h = record { number = n; laid = s .laid; known = h }
 
   module _ (h : i < n) (r : Bool) (e : r ≡ repeatedIn text table i) where
     pub recall-more : r ≡ false → Recalling text table n (i + 1)
@@ -145,4 +158,4 @@ module _ (text table : List ℕ) (n i : ℕ) (s : Recalling text table n i) wher
       let e : i ≡ n = omega (arith, h, s .upto) in
       e ∙ sym (least-none n (repeatedIn text table) (subst (λ (k : ℕ). NoneBelow (repeatedIn text table) k) e (s .none))) ∙ lowest-there
 
-pub ruleset recalling = (recall-start, recall-lying, recall-more, recall-found, recall-end, needs)
+pub ruleset recalling = (recall-start, recall-known, recall-more, recall-found, recall-end, needs)

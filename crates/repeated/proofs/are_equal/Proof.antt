@@ -1,6 +1,6 @@
-use Rattle.pieces.proofs.Repeated.{equals}
-use Rattle.pieces.proofs.are_equal.Statement.{statement}
-use Rattle.pieces.proofs.are_equal.Tie as tie
+use Rattle.repeated.proofs.Repeated.{equals}
+use Rattle.repeated.proofs.are_equal.Statement.{statement}
+use Rattle.repeated.proofs.are_equal.Tie as tie
 
 pub are-equal-spec : {M : Type 1} → statement M
 are-equal-spec =

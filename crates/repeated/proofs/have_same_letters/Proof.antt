@@ -1,8 +1,8 @@
 use Prim.Native.Nat.{_-_}
 use lib.ListN.{length}
-use Rattle.pieces.proofs.Repeated.{Agreeing, agreeing}
-use Rattle.pieces.proofs.agree.Statement.{statement}
-use Rattle.pieces.proofs.agree.Tie as tie
+use Rattle.repeated.proofs.Repeated.{Agreeing, agreeing}
+use Rattle.repeated.proofs.have_same_letters.Statement.{statement}
+use Rattle.repeated.proofs.have_same_letters.Tie as tie
 
 abbrev Inv-loop : tie.InvT-loop
 Inv-loop u v k₀ k = Agreeing u v k
@@ -10,8 +10,8 @@ Inv-loop u v k₀ k = Agreeing u v k
 abbrev μ-loop : tie.MeasureT-loop
 μ-loop u v k₀ k = length u - k
 
-pub agree-spec : {M : Type 1} → statement M
-agree-spec =
+pub have-same-letters-spec : {M : Type 1} → statement M
+have-same-letters-spec =
     tie.close
     (tie.spec
     Inv-loop

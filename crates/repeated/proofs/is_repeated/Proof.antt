@@ -1,7 +1,7 @@
 use Prim.Native.Nat.{_-_}
-use Rattle.pieces.proofs.Repeated.{Comparing, comparing}
-use Rattle.pieces.proofs.is_repeated.Statement.{statement}
-use Rattle.pieces.proofs.is_repeated.Tie as tie
+use Rattle.repeated.proofs.Repeated.{Comparing, comparing}
+use Rattle.repeated.proofs.is_repeated.Statement.{statement}
+use Rattle.repeated.proofs.is_repeated.Tie as tie
 
 abbrev Inv-loop : tie.InvT-loop
 Inv-loop text table i j₀ j = Comparing text table i j
