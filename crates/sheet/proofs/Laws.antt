@@ -13,7 +13,7 @@ use Rattle.layout.proofs.Placed.{words-length, word-length}
 use Rattle.layout.proofs.CutPlaces.{cuts-inside, xy-long}
 use Rattle.writing.specs.Writing.{written, over}
 use Rattle.writing.proofs.Writing.{written-zero, written-length, written-behind}
-use Rattle.sheet.specs.Sheet.{cutBytes, cutSheet, xAt, yAt, zAt, lengthsAt, sheetBytes, CutsIn, Room, SheetRoom}
+use Rattle.sheet.specs.Sheet.{cutBytes, cutSheet, xAt, yAt, zAt, lengthsAt, sheetBytes, CutsIn, LengthsRoom, SheetRoom}
 
 module _ (text table : List ℕ) (n : ℕ) (c : Checked text table n) where
   -- the positions are in order: Y is not empty
@@ -75,7 +75,7 @@ unfolding sheetBytes
 sheeted-start table n sheet r = record { room = r; within = omega arith; same = sym (written-zero [] sheet); kept = refl }
 
 module _ (table : List ℕ) (n : ℕ) (sheet : List ℕ) (i : ℕ) (b : List ℕ) (s : Sheeted table n sheet i b) where
-  pub sheeted-room : i < n → Room table i b
+  pub sheeted-room : i < n → LengthsRoom table i b
   sheeted-room h =
       let p = s .room .place in
       record { cuts = s .room .cuts i h; place = omega (arith, s .kept); early = omega (arith, s .room .few) }

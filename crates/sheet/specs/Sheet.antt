@@ -4,6 +4,7 @@ use mathlib.Core.List.{List, [], _∷_, _++_}
 use lib.ListN.{length}
 use Rattle.words.specs.Words.{Word}
 use Rattle.overlap.specs.Cuts.{xlen, ylen, zlen}
+use Rattle.layout.specs.Places.{wordsMost, wordMost, endCell}
 use Rattle.layout.specs.Layout.{startOf, xEndOf, zStartOf, endOf}
 
 -- for each of the first n relation words in order the lengths of X, Y, Z
@@ -34,20 +35,20 @@ sheetBytes table (suc n) = sheetBytes table n ++ lengthsAt table n
 
 -- the positions of relation word i are there and in order, and it is short
 pub record CutsIn (table : List ℕ) (i : ℕ) : Type 0 where
-  pub room : 4 * i + 3 < length table
+  pub room : endCell i < length table
   pub x : startOf table i ≤ xEndOf table i
   pub y : xEndOf table i ≤ zStartOf table i
   pub z : zStartOf table i ≤ endOf table i
-  pub short : endOf table i - startOf table i ≤ 64
+  pub short : endOf table i - startOf table i ≤ wordMost
 
 -- relation word i and its place in the sheet
-pub record Room (table : List ℕ) (i : ℕ) (sheet : List ℕ) : Type 0 where
+pub record LengthsRoom (table : List ℕ) (i : ℕ) (sheet : List ℕ) : Type 0 where
   pub cuts : CutsIn table i
   pub place : 3 * i + 3 ≤ length sheet
-  pub early : i < 64
+  pub early : i < wordsMost
 
 -- n relation words and their places
 pub record SheetRoom (table : List ℕ) (n : ℕ) (sheet : List ℕ) : Type 0 where
   pub cuts : (i : ℕ) → i < n → CutsIn table i
   pub place : 3 * n ≤ length sheet
-  pub few : n ≤ 64
+  pub few : n ≤ wordsMost

@@ -2,7 +2,7 @@
 ghost use Prim.Native.Nat.{_+_, _-_, _*_, _<_, _≤_};
 ghost use mathlib.Core.Path.{_≡_};
 ghost use Rattle.writing.specs.Writing.{written, over};
-ghost use Rattle.sheet.specs.Sheet.{CutsIn, Room, SheetRoom, xAt, yAt, zAt, lengthsAt, sheetBytes};
+ghost use Rattle.sheet.specs.Sheet.{CutsIn, LengthsRoom, SheetRoom, xAt, yAt, zAt, lengthsAt, sheetBytes};
 
 // A difference of two positions that is small.
 fn between(from: usize, to: usize) -> u8
@@ -36,7 +36,7 @@ fn z_length(table: &[u16], i: usize) -> u8
 
 // Writes the lengths of relation word i in their place.
 fn write_lengths(table: &[u16], i: usize, sheet: &mut [u8])
-    requires { ⌜ Room (now table) i (now sheet) ⌝ }
+    requires { ⌜ LengthsRoom (now table) i (now sheet) ⌝ }
     ensures { λ _. ⌜ now (sheet .exit) ≡ written (3 * i) (lengthsAt (now (table .entry)) i) (now (sheet .entry)) ⌝ }
 {
     let lengths = [x_length(table, i), y_length(table, i), z_length(table, i)];
