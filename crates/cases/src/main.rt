@@ -15,7 +15,8 @@ use entries::Round;
 use entries::Verdict;
 use format::Reading;
 use refusals::Refusal;
-use limits::Relation;
+use layout::Table;
+use layout::Text;
 use libc::STDIN_FILENO;
 use libc::STDOUT_FILENO;
 
@@ -111,8 +112,8 @@ fn print_text(line: &[u8]) {
 fn answer_read(line: &[u8]) {
     let mut book = [0u8; 8192];
     let n = put_field(line, 1, &mut book);
-    let mut text = [0u8; Relation::TEXT];
-    let mut table = [0u16; Relation::TABLE];
+    let mut text = [0u8; Text::ROOM];
+    let mut table = [0u16; Table::ROOM];
     let reading = reader::read_book(&book[..n], &mut text, &mut table);
     match reading {
         Reading::Read(letters, relations) => print_pair(

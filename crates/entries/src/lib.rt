@@ -13,9 +13,10 @@ ghost use Rattle.entries.specs.Demands.{Acceptance, CutsReported, Compar
 use comparison::Comparison;
 use format::Reading;
 use refusals::Refusal;
-use limits::Relation;
 use limits::Word;
 use given::Given;
+use layout::Table;
+use layout::Text;
 use program::Output;
 use rounds::RoundLengths;
 
@@ -36,8 +37,8 @@ pub enum Round {
 pub fn check_book(book: &[u8]) -> Verdict
     ensures { λ r. ⌜ ofVerdict r ≡ checkOf (now (book .entry)) ⌝ }
 {
-    let mut text = [0u8; Relation::TEXT];
-    let mut table = [0u16; Relation::TABLE];
+    let mut text = [0u8; Text::ROOM];
+    let mut table = [0u16; Table::ROOM];
     let loaded = presentation::load(book, &mut text, &mut table);
     match loaded {
         Reading::Read(_, relations) => Verdict::Accepted(relations),
@@ -61,8 +62,8 @@ fn accepted_sheet(table: &[u16], relations: usize, sheet: &mut [u8]) -> Verdict
 pub fn cut_sheet(book: &[u8], sheet: &mut [u8]) -> Verdict
     ensures { λ r. ⌜ Sheets.after (ofVerdict r) (now (sheet .exit)) ≡ sheetOf (now (book .entry)) (now (sheet .entry)) ⌝ }
 {
-    let mut text = [0u8; Relation::TEXT];
-    let mut table = [0u16; Relation::TABLE];
+    let mut text = [0u8; Text::ROOM];
+    let mut table = [0u16; Table::ROOM];
     let loaded = presentation::load(book, &mut text, &mut table);
     match loaded {
         Reading::Read(_, relations) => accepted_sheet(&table, relations, sheet),
@@ -74,8 +75,8 @@ pub fn cut_sheet(book: &[u8], sheet: &mut [u8]) -> Verdict
 pub fn compare(book: &[u8], u: &[u8], v: &[u8], allowance: u32) -> Comparison
     ensures { λ r. ⌜ Compared (now (book .entry)) (now (u .entry)) (now (v .entry)) allowance (ofComparison r) ⌝ }
 {
-    let mut text = [0u8; Relation::TEXT];
-    let mut table = [0u16; Relation::TABLE];
+    let mut text = [0u8; Text::ROOM];
+    let mut table = [0u16; Table::ROOM];
     let loaded = presentation::load(book, &mut text, &mut table);
     match loaded {
         Reading::Read(letters, relations) => comparison::compare_given(
@@ -171,8 +172,8 @@ pub fn single_round(
 ) -> Round
     ensures { λ r. ⌜ Rounds.after (ofRound r) (now (nu .exit)) (now (nv .exit)) (now (np .exit)) ≡ roundOf (now (book .entry)) (now (u .entry)) (now (v .entry)) (now (p .entry)) (now (nu .entry)) (now (nv .entry)) (now (np .entry)) ⌝ }
 {
-    let mut text = [0u8; Relation::TEXT];
-    let mut table = [0u16; Relation::TABLE];
+    let mut text = [0u8; Text::ROOM];
+    let mut table = [0u16; Table::ROOM];
     let loaded = presentation::load(book, &mut text, &mut table);
     match loaded {
         Reading::Read(letters, relations) => loaded_round(

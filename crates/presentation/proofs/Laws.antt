@@ -15,13 +15,14 @@ use Rattle.refusals.specs.declared.Refusal.the-variants.{Repeated, Loose}
 use Rattle.format.specs.declared.Reading.{Reading}
 use Rattle.format.specs.declared.Reading.the-variants.{Read, Refused}
 use Rattle.format.specs.Book.{Presentation, BookReading, read, refused, readBook, readingOf}
-use Rattle.reader.specs.Laying.{Arrays, Stored, BookRead}
+use Rattle.layout.specs.Appending.{Arrays}
+use Rattle.reader.specs.Laying.{Stored, BookRead}
 use Rattle.pieces.specs.declared.Judged.{Judged}
 use Rattle.pieces.specs.declared.Judged.the-variants as Judges
 use Rattle.pieces.specs.Judging.{verdictOf, Judging}
 use Rattle.pieces.proofs.Verdicts.{accepted-laid, accepted-words, accepted-c4}
-use Rattle.index.specs.Making.{Unlisted, IndexMade}
-use Rattle.index.proofs.Keeping.{words-kept, made-checked}
+use Rattle.listing.specs.Listing.{Unlisted, IndexMade}
+use Rattle.listing.proofs.Keeping.{words-kept, made-checked}
 use Rattle.presentation.specs.Loading.{byVerdict, loadBook, WordsChecked, byJudged, Holding, Memory, BookLoaded}
 
 -- the verdict stands, and an accepted book's words are checked
@@ -80,7 +81,7 @@ not-read : (book : List ℕ) (reading : Reading) (r : Refusal) (text table : Lis
 not-read book reading r text table e letters count f = let z : _≡_ {A = ℕ} 0 1 = cc in absurd (omega arith)
 
 pub memory-arrays : (text table : List ℕ) → Memory text table → Arrays text table
-memory-arrays text table m = record { text4160 = omega (arith, m .text4160); table450 = m .table450 }
+memory-arrays text table m = record { textLong = omega (arith, m .text4160); tableLong = m .table450 }
 
 module _ (book text table : List ℕ) (memory : Memory text table) (reading : Reading) (text′ table′ : List ℕ) (d : BookRead book text table reading text′ table′) where
   -- 1 to 6

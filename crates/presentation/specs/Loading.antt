@@ -5,6 +5,7 @@ use mathlib.Core.Path.{_≡_}
 use lib.ListN.{length}
 use Rattle.words.specs.Relations.{relationWords}
 use Rattle.overlap.specs.Verdict.{Verdict, judge}
+use Rattle.layout.specs.Places.{textRoom, tableRoom}
 use Rattle.layout.specs.Layout.{Checked, wordsIn}
 use Rattle.pieces.specs.declared.Judged.{Judged}
 use Rattle.pieces.specs.declared.Judged.the-variants as Judges
@@ -54,8 +55,8 @@ pub record Holding (book : List ℕ) (letters count : ℕ) (text table : List �
 
 -- the two arrays that a book is loaded into
 pub record Memory (text table : List ℕ) : Type 0 where
-  pub text4160 : length text ≡ 4160
-  pub table450 : length table ≡ 450
+  pub text4160 : length text ≡ textRoom
+  pub table450 : length table ≡ tableRoom
 
 -- the answer is what loading the book gives, and where it is accepted, the arrays hold it
 pub record BookLoaded (book : List ℕ) (r : Reading) (text table : List ℕ) : Type 0 where

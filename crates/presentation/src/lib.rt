@@ -1,7 +1,7 @@
 // The checked book (document 01: an accepted book), made once from its bytes: its relation words in one text, with their cuts and their index in one
 // table. Every round and every comparison works on these two arrays.
 ghost use mathlib.Core.Path.{_≡_};
-ghost use Rattle.index.specs.Making.{Unlisted};
+ghost use Rattle.listing.specs.Listing.{Unlisted};
 ghost use Rattle.presentation.specs.Loading.{WordsChecked, byJudged, Memory, BookLoaded};
 use format::Reading;
 use refusals::Refusal;
@@ -17,7 +17,7 @@ fn check_words(text: &[u8], table: &mut [u16], n: usize) -> Judged
         Judged::Repeated(_) => judged,
         Judged::Loose(_) => judged,
         Judged::Accepted => {
-            index::make_index(text, table, n);
+            listing::make_index(text, table, n);
             judged
         }
     }

@@ -18,10 +18,11 @@ use limits::MadeInput;
 use format::Reading;
 use limits::Record;
 use refusals::Refusal;
-use limits::Relation;
 use limits::Word;
 use format::number;
 use format::place;
+use layout::Table;
+use layout::Text;
 use lines::put_line;
 use lines::put_pair_line;
 use presentation::load;
@@ -217,8 +218,8 @@ fn write_loaded(input: &[u8], out: &mut [u8]) -> usize
     ensures { λ r. ⌜ WrittenTo (now (out .entry)) 0 (outputOf (now (input .entry))) (now (out .exit)) r ⌝ }
 {
     let end = book_end(input);
-    let mut text = [0u8; Relation::TEXT];
-    let mut table = [0u16; Relation::TABLE];
+    let mut text = [0u8; Text::ROOM];
+    let mut table = [0u16; Table::ROOM];
     let loading = load(&input[..end], &mut text, &mut table);
     match loading {
         Reading::Refused(refusal) => put_refusal(out, 0, refusal),
