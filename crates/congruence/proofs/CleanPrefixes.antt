@@ -1,12 +1,13 @@
 -- When a word that begins with a clean XY is congruent to a word that begins with XY of the same family: document 003, Lemma 3,
 -- each of its conditions exactly, for families of any size.
-use Prim.Native.Nat.{ℕ, _≤_, _<_}
+use Prim.Native.Nat.{ℕ, _<_}
 use mathlib.Core.List.{List, [], _++_, append-assoc}
 use mathlib.Core.Path.{_≡_, sym, ap, _∙_, subst, subst₂}
 use mathlib.Core.Logic.{⊎-elim, _⊎_, inl, inr, _↔_}
 use native.Mathlib.Omega.{arith}
 use lib.ListN.{length, take}
 use Rattle.words.specs.Words.{Word}
+use Rattle.words.proofs.CommonSuffixes.{LongestSuffix}
 use Rattle.overlap.specs.Pieces.{word}
 use Rattle.overlap.specs.Cuts.{xyOf, zOf}
 use Rattle.congruence.proofs.Heads.{Facts, Clean, clean-of-whole}
@@ -21,12 +22,6 @@ use Rattle.congruence.proofs.Merges.{Meets, Once, Unlike, meets-trans, 
 pub record PossiblePrefix (B : List Word) (fam : ℕ → ℕ) (p u : Word) : Type 0 where
   pub rest : Word
   pub chain : Chain B fam (p ++ rest) u
-
--- z is the longest common suffix of a and b, a = e z, b = f z
-pub record LongestEnd (a b e f z : Word) : Type 0 where
-  pub left : a ≡ e ++ z
-  pub right : b ≡ f ++ z
-  pub most : (c d x : Word) → a ≡ c ++ x → b ≡ d ++ x → length x ≤ length z
 
 -- s = e s′, t = f t′, s′ and t′ are congruent, and z is a possible prefix of s′
 pub record Parted (B : List Word) (fam : ℕ → ℕ) (e f z s t : Word) : Type 0 where
@@ -103,7 +98,7 @@ module _ {B : List Word} (R : Facts B) where
 
     -- condition (6): different XY, and Z behind neither
     pub parted-of-unlikes : {i j : ℕ} (s t : Word) {e f z : Word} → Clean B (xyOf B i ++ s) 0 i → Kin B fam i j → (i ≡ j → ⊥) → Unlike (zOf B i) s → Unlike (zOf B j) t
-        → LongestEnd (zOf B i) (zOf B j) e f z → Chain B fam (xyOf B i ++ s) (xyOf B j ++ t) ↔ Parted B fam e f z s t
+        → LongestSuffix (zOf B i) (zOf B j) e f z → Chain B fam (xyOf B i ++ s) (xyOf B j ++ t) ↔ Parted B fam e f z s t
     parted-of-unlikes {i} {j} s t {e} {f} {z} h k n u w m = (to, from)
       where
         to : Chain B fam (xyOf B i ++ s) (xyOf B j ++ t) → Parted B fam e f z s t

@@ -1,28 +1,22 @@
 -- The first row that fits, taken apart once: what holds of u, v and p where a row fits first. Every proof about rounds goes through `fits`.
 -- Relation word i is the clean relation prefix of u, and j is any other word of its family; no law here asks more of j.
 use Prim.Native.Nat.{ℕ, _≤_, _<_}
-use mathlib.Core.Bool.{Bool, true, false, _&&_, _||_, not, true≢false, and-eq-true-iff, and-assoc}
-use mathlib.Core.List.{List, [], _∷_, _++_}
+use mathlib.Core.Bool.{Bool, true, false, _&&_, _||_, not, true≢false, and-eq-true-iff}
+use mathlib.Core.List.{List}
 use mathlib.Core.Path.{_≡_, refl, sym, ap, _∙_}
 use native.Mathlib.Omega.{arith}
-use lib.Dec.{eqb, leb}
+use lib.Dec.{leb}
 use borrow.Author.Tests.{leb-true, leb-false, not-true, not-false}
 use lib.ListN.{length, drop, take-append-drop}
 use Rattle.words.specs.Words.{Word, isEmpty, isPrefix}
 use Rattle.words.proofs.Tests.{or-second, or-neither}
 use Rattle.words.proofs.Lists.{some-letter}
+use Rattle.words.proofs.Prefixes.{prefix-both}
 use Rattle.overlap.specs.Pieces.{word}
 use Rattle.overlap.specs.Cuts.{xylen, xOf, xyOf, zOf}
 use Rattle.overlap.proofs.Facts.{length-xy}
 use Rattle.congruence.specs.Rows.{choose, clean, cleanRelationPrefix, otherWord, fitting, firstRow}
 use Rattle.congruence.proofs.RowTests.{by-choose, prefix-of-clean, cleanRelationPrefix-passes}
-
--- a prefix in two parts
-pub prefix-both : (a b w : Word) → isPrefix (a ++ b) w ≡ (isPrefix a w && isPrefix b (drop (length a) w))
-unfolding isPrefix
-prefix-both [] b w = refl
-prefix-both (x ∷ a) b [] = refl
-prefix-both (x ∷ a) b (y ∷ w) = ap (eqb x y &&_) (prefix-both a b w) ∙ sym (and-assoc (eqb x y) (isPrefix a w) (isPrefix b (drop (length a) w)))
 
 -- a word begins with a relation word where it begins with its X and Y and its Z follows
 pub prefix-whole : (B : List Word) (i : ℕ) (w : Word) → isPrefix (word B i) w ≡ (isPrefix (xyOf B i) w && isPrefix (zOf B i) (drop (xylen B i) w))

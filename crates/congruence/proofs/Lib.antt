@@ -9,9 +9,9 @@ pub mod Activity
 pub mod Merges
 pub mod CleanPrefixes
 pub mod PossiblePrefixes
-pub mod CommonSuffixes
 pub mod Sides
 pub mod FirstRow
+pub mod Drops
 pub mod RowsRight
 pub mod RoundRight
 pub mod ShapeNoPrefix

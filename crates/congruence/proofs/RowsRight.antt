@@ -9,6 +9,7 @@ use mathlib.Core.Logic.{⊎-elim, _⊎_, _↔_}
 use lib.ListN.{length, take, drop}
 use Rattle.words.specs.Words.{Word, isPrefix, commonSuffix}
 use Rattle.words.proofs.Prefixes.{prefix-split, prefix-append}
+use Rattle.words.proofs.CommonSuffixes.{longest-suffix}
 use Rattle.overlap.specs.Pieces.{word}
 use Rattle.overlap.specs.Cuts.{len, xylen, xOf, xyOf, zOf}
 use Rattle.overlap.proofs.Facts.{length-xy}
@@ -24,7 +25,6 @@ use Rattle.congruence.proofs.Activity.InnerFactor.{nothing}
 use Rattle.congruence.proofs.Merges.{Meets, Unlike, reached, reached-prefix}
 use Rattle.congruence.proofs.CleanPrefixes.{PossiblePrefix, Parted, wholes-iff, rests-of-same, rests-of-left, rests-of-right, parted-of-unlikes}
 use Rattle.congruence.proofs.PossiblePrefixes.{possible-nothing, possible-of-x, x-of-possible, possible-of-turn}
-use Rattle.congruence.proofs.CommonSuffixes.{longest-end}
 
 -- the question of a round
 abbrev pub Both : List Word → (ℕ → ℕ) → Word → Word → Word → Type 0
@@ -193,7 +193,7 @@ module _ {B : List Word} (R : Facts B) (fam : ℕ → ℕ) (i : ℕ) (u v p : Wo
       row8-says a b = by-choose (Says B fam u v p) (isPrefix e s && isPrefix f t) _ _ (λ q. goes (simp and-eq-true-iff at q)) stops
         where
           parted : Chain B fam (xyOf B i ++ s) (xyOf B j ++ t) ↔ Parted B fam e f z s t
-          parted = parted-of-unlikes R s t clean-s k d (unlike-of-test (zOf B i) s a) (unlike-of-test (zOf B j) t b) (longest-end (zOf B i) (zOf B j))
+          parted = parted-of-unlikes R s t clean-s k d (unlike-of-test (zOf B i) s a) (unlike-of-test (zOf B j) t b) (longest-suffix (zOf B i) (zOf B j))
 
           here : Chain B fam u v → Chain B fam (xyOf B i ++ s) (xyOf B j ++ t)
           here c = chain-from (sym u-is) (chain-to c v-is)

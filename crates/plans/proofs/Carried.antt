@@ -15,7 +15,7 @@ use Rattle.overlap.specs.Cuts.{len, xylen, xOf, xyOf, zOf}
 use Rattle.congruence.specs.Rows.{choose, alike, hasRelationPrefixBetween, active, row2, row4, row5, row6, row7, row8}
 use Rattle.congruence.specs.Rows.Next.{end, go}
 use Rattle.overlap.proofs.Facts.{length-xy}
-use Rattle.congruence.proofs.CommonSuffixes.{end-within}
+use Rattle.words.proofs.CommonSuffixes.{suffix-within}
 use Rattle.congruence.proofs.RowTests.{prefix-of-clean}
 use Rattle.congruence.proofs.FirstRow.{Fits, xy-of-whole}
 use Rattle.congruence.proofs.FirstRow.Fits.{fits2, fits4, fits5, fits6, fits7, fits8}
@@ -275,8 +275,8 @@ module _ (text : List ℕ) (B : List Word) (i j : ℕ) (s t : Site) (li : Lies t
 
   abbrev both8 : Bool
   both8 =
-      isPrefix (head text B i s li (commonSuffix (zOf B i) (zOf B j)) (end-within (zOf B i) (zOf B j) .0)) (drop (xylen B i) u)
-      && isPrefix (head text B j t lj (commonSuffix (zOf B i) (zOf B j)) (end-within (zOf B i) (zOf B j) .1)) (drop (xylen B j) v)
+      isPrefix (head text B i s li (commonSuffix (zOf B i) (zOf B j)) (suffix-within (zOf B i) (zOf B j) .0)) (drop (xylen B i) u)
+      && isPrefix (head text B j t lj (commonSuffix (zOf B i) (zOf B j)) (suffix-within (zOf B i) (zOf B j) .1)) (drop (xylen B j) v)
 
   pub carried8 : Fits B i j u v p 8 → Carries text B u v p (plan8Of text s t (sharedSuffix text s t) u v p) (row8 B i j u v p)
   unfolding plan8Of plan8 planned row8
@@ -290,10 +290,10 @@ module _ (text : List ℕ) (B : List Word) (i j : ℕ) (s t : Site) (li : Lies t
       l = commonSuffix (zOf B i) (zOf B j)
 
       hi : commonSuffix (zOf B i) (zOf B j) ≤ length (zOf B i)
-      hi = end-within (zOf B i) (zOf B j) .0
+      hi = suffix-within (zOf B i) (zOf B j) .0
 
       hj : commonSuffix (zOf B i) (zOf B j) ≤ length (zOf B j)
-      hj = end-within (zOf B i) (zOf B j) .1
+      hj = suffix-within (zOf B i) (zOf B j) .1
 
       by-test : (q : Bool) → both8 ≡ q → Carries text B u v p (cond q (plan8 s t (commonSuffix (zOf B i) (zOf B j)) (length p)) (End false))
           (choose q (λ _. go (drop (length (take (length (zOf B i) - commonSuffix (zOf B i) (zOf B j)) (zOf B i))) (drop (xylen B i) u))

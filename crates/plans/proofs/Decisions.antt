@@ -10,7 +10,7 @@ use Rattle.words.specs.Words.{Word}
 use Rattle.words.specs.Relations.{other}
 use Rattle.words.proofs.Lists.{part-length}
 use Rattle.congruence.specs.Rows.{cleanRelationPrefix, otherWord, makes, row1, round}
-use Rattle.congruence.proofs.CommonSuffixes.{end-within}
+use Rattle.words.proofs.CommonSuffixes.{suffix-within}
 use Rattle.congruence.proofs.FirstRow.{Fits, fits, prefix-of-fits, row-eight}
 use Rattle.congruence.proofs.FirstRow.Fits.{fits2}
 use Rattle.layout.specs.Layout.{part, wordsIn}
@@ -34,7 +34,7 @@ module _ (text : List ℕ) (s t : Site) (h : SitesInText text s t) (l : ℕ) (e 
   pub shared-lies : TailsHave text s t l
   unfolding sharedSuffix
   shared-lies =
-      let w = end-within (part text (s .tail) (s .stop)) (part text (t .tail) (t .stop)) in
+      let w = suffix-within (part text (s .tail) (s .stop)) (part text (t .tail) (t .stop)) in
       let a = part-length text (s .tail) (s .stop) (h .own .inside) in
       let b = part-length text (t .tail) (t .stop) (h .other .inside) in
       record { own = record { site = h .own; lies = omega arith }; other = record { site = h .other; lies = omega arith } }

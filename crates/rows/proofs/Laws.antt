@@ -1,6 +1,6 @@
 -- A law for each way that the code can go which looks for the first row that fits.
 use Prim.Native.Nat.{ℕ, suc, _+_, _-_, _*_, _≤_, _<_}
-use mathlib.Core.Bool.{Bool, true, false, _&&_, true≢false}
+use mathlib.Core.Bool.{Bool, true, false, _&&_}
 use mathlib.Core.List.{List, [], _∷_, _++_}
 use mathlib.Core.Path.{_≡_, refl, sym, ap, _∙_}
 use native.Mathlib.Omega.{arith}
@@ -8,14 +8,14 @@ use borrow.Author.Needs.{needs}
 use mir.Syntax.{w64}
 use mir.Val.{Fits}
 use lib.Dec.{eqb, leb, ltb}
-use lib.ListN.{length, take, drop}
-use borrow.Author.Tests.{eqb-true, eq-eqb, ne-eqb, le-leb, lt-leb}
+use lib.ListN.{length, drop}
+use borrow.Author.Tests.{ne-eqb, le-leb, lt-leb}
 use Rattle.words.specs.Words.{Word, isEmpty, isPrefix}
 use Rattle.words.specs.Relations.{other}
 use Rattle.words.proofs.Relations.{other-there}
 use Rattle.words.proofs.Tests.{false-of}
 use Rattle.words.proofs.Lists.{part-length}
-use Rattle.words.proofs.Prefixes.{prefix-length}
+use Rattle.words.proofs.Prefixes.{prefix-length, prefix-swap, prefix-take}
 use Rattle.layout.specs.Layout.{startOf, xEndOf, zStartOf, endOf, part, Span, wordsIn, Checked}
 use Rattle.words.proofs.Searching.{NoneBelow, none-more, any-of, any-none}
 use Rattle.overlap.proofs.Facts.{rigid-of-c4}
@@ -92,30 +92,6 @@ unfolding siteOf
 site-read table i a b c d e f g h = rw (e, f, g, h)
 
 pub ruleset siteReads = (site-read, needs)
-
--- two words of one length are prefixes of each other alike
-eqb-swap : (x y : ℕ) → eqb x y ≡ eqb y x
-eqb-swap x y = go (eqb x y) refl (eqb y x) refl
-  where
-    go : (a : Bool) → eqb x y ≡ a → (b : Bool) → eqb y x ≡ b → a ≡ b
-    go true e true f = refl
-    go true e false f = absurd (true≢false (sym (eq-eqb y x (sym (eqb-true x y e))) ∙ f))
-    go false e true f = absurd (true≢false (sym (eq-eqb x y (sym (eqb-true y x f))) ∙ e))
-    go false e false f = refl
-
-prefix-swap : (a b : Word) → length a ≡ length b → isPrefix a b ≡ isPrefix b a
-unfolding isPrefix
-prefix-swap [] [] h = refl
-prefix-swap [] (y ∷ b) h = absurd (omega arith)
-prefix-swap (x ∷ a) [] h = absurd (omega arith)
-prefix-swap (x ∷ a) (y ∷ b) h = rw (eqb-swap x y) (ap (eqb y x &&_) (prefix-swap a b (omega arith)))
-
--- only the first letters of the longer word are asked
-prefix-take : (a b : Word) → isPrefix a b ≡ isPrefix a (take (length a) b)
-unfolding isPrefix
-prefix-take [] b = refl
-prefix-take (x ∷ a) [] = refl
-prefix-take (x ∷ a) (y ∷ b) = ap (eqb x y &&_) (prefix-take a b)
 
 -- the mark and X
 module _ (text : List ℕ) (s : Site) (p : Word) (h : SiteInText text s) where

@@ -6,3 +6,4 @@ pub mod Searching
 pub mod Segments
 pub mod Prefixes
 pub mod Commons
+pub mod CommonSuffixes

@@ -1,11 +1,12 @@
 -- What the test `isPrefix` says of two words: by append, and by position.
 use Prim.Native.Nat.{ℕ, zero, suc, _+_, _-_, _≤_, _<_}
-use mathlib.Core.Bool.{true, true≢false, and-eq-true-iff}
+use mathlib.Core.Bool.{Bool, true, false, _&&_, true≢false, and-eq-true-iff, and-assoc}
 use mathlib.Core.List.{[], _∷_, _++_}
 use mathlib.Core.Path.{_≡_, refl, sym, ap, _∙_}
 use native.Mathlib.Omega.{arith}
 use borrow.Author.Tests.{eqb-true, eq-eqb}
-use lib.ListN.{length, getD, drop, length-drop}
+use lib.Dec.{eqb}
+use lib.ListN.{length, getD, take, drop, length-drop}
 use lib.Seq.{getD-drop}
 use Rattle.words.specs.Words.{Word, isPrefix}
 use Rattle.words.proofs.Segments.{Same}
@@ -59,3 +60,34 @@ prefix-fits a u q h e = let l = prefix-length a (drop q u) e in let d = length-d
 pub same-prefix : (a u : Word) (q : ℕ) → q + length a ≤ length u → Same a 0 u q (length a) → isPrefix a (drop q u) ≡ true
 same-prefix a u q h s =
     at-prefix a (drop q u) (simp length-drop (omega arith)) (λ k l. ap (λ n. getD a n 0) (omega arith) ∙ s .at k l ∙ sym (getD-drop q u k 0))
+
+-- a prefix in two parts
+pub prefix-both : (a b w : Word) → isPrefix (a ++ b) w ≡ (isPrefix a w && isPrefix b (drop (length a) w))
+unfolding isPrefix
+prefix-both [] b w = refl
+prefix-both (x ∷ a) b [] = refl
+prefix-both (x ∷ a) b (y ∷ w) = ap (eqb x y &&_) (prefix-both a b w) ∙ sym (and-assoc (eqb x y) (isPrefix a w) (isPrefix b (drop (length a) w)))
+
+-- two words of one length are prefixes of each other alike
+eqb-swap : (x y : ℕ) → eqb x y ≡ eqb y x
+eqb-swap x y = go (eqb x y) refl (eqb y x) refl
+  where
+    go : (a : Bool) → eqb x y ≡ a → (b : Bool) → eqb y x ≡ b → a ≡ b
+    go true e true f = refl
+    go true e false f = absurd (true≢false (sym (eq-eqb y x (sym (eqb-true x y e))) ∙ f))
+    go false e true f = absurd (true≢false (sym (eq-eqb x y (sym (eqb-true y x f))) ∙ e))
+    go false e false f = refl
+
+pub prefix-swap : (a b : Word) → length a ≡ length b → isPrefix a b ≡ isPrefix b a
+unfolding isPrefix
+prefix-swap [] [] h = refl
+prefix-swap [] (y ∷ b) h = absurd (omega arith)
+prefix-swap (x ∷ a) [] h = absurd (omega arith)
+prefix-swap (x ∷ a) (y ∷ b) h = rw (eqb-swap x y) (ap (eqb y x &&_) (prefix-swap a b (omega arith)))
+
+-- only the first letters of the longer word are asked
+pub prefix-take : (a b : Word) → isPrefix a b ≡ isPrefix a (take (length a) b)
+unfolding isPrefix
+prefix-take [] b = refl
+prefix-take (x ∷ a) [] = refl
+prefix-take (x ∷ a) (y ∷ b) = ap (eqb x y &&_) (prefix-take a b)

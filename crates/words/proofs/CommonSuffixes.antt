@@ -8,28 +8,33 @@ use native.Mathlib.Omega.{arith}
 use native.Mathlib.Decide.{decLe, decLt}
 use lib.ListN.{length, take, drop, length-append, length-drop, take-append-drop, drop-of-length-le}
 use lib.Seq.{length-take-le, drop-at}
 use Rattle.words.specs.Words.{Word, isPrefix, commonSuffix, lastLetters}
 use Rattle.words.proofs.Prefixes.{prefix-split, prefix-append}
 use Rattle.words.proofs.Searching.{greatest-bound, greatest-passes, greatest-last}
-use Rattle.congruence.proofs.CleanPrefixes.{LongestEnd}
+
+-- z is the longest common suffix of a and b, a = e z, b = f z
+pub record LongestSuffix (a b e f z : Word) : Type 0 where
+  pub left : a ≡ e ++ z
+  pub right : b ≡ f ++ z
+  pub most : (c d x : Word) → a ≡ c ++ x → b ≡ d ++ x → length x ≤ length z
 
 -- a prefix of the same length is the word
-prefix-whole : (x y : Word) → length x ≡ length y → isPrefix x y ≡ true → x ≡ y
-prefix-whole x y l e = sym (append-nil x) ∙ ap (x ++_) (sym (drop-of-length-le y {i = length x} (omega arith))) ∙ prefix-split x y e
+equal-of-prefix : (x y : Word) → length x ≡ length y → isPrefix x y ≡ true → x ≡ y
+equal-of-prefix x y l e = sym (append-nil x) ∙ ap (x ++_) (sym (drop-of-length-le y {i = length x} (omega arith))) ∙ prefix-split x y e
 
 -- the common suffix lies in both words
-pub end-within : (a b : Word) → (commonSuffix a b ≤ length a) × (commonSuffix a b ≤ length b)
+pub suffix-within : (a b : Word) → (commonSuffix a b ≤ length a) × (commonSuffix a b ≤ length b)
 unfolding commonSuffix
-end-within a b = let g = greatest-bound (min (length a) (length b)) (λ n. isPrefix (lastLetters n a) (lastLetters n b)) in omega arith
+suffix-within a b = let g = greatest-bound (min (length a) (length b)) (λ n. isPrefix (lastLetters n a) (lastLetters n b)) in omega arith
 
 common-same : (a b : Word) → lastLetters (commonSuffix a b) a ≡ lastLetters (commonSuffix a b) b
 unfolding commonSuffix
 common-same a b =
-    let l = end-within a b in
+    let l = suffix-within a b in
     let x = length-drop (length a - commonSuffix a b) a in
     let y = length-drop (length b - commonSuffix a b) b in
     by-cases (decLt 0 (commonSuffix a b))
-    (λ h. prefix-whole (lastLetters (commonSuffix a b) a) (lastLetters (commonSuffix a b) b) (omega arith) (greatest-passes (min (length a) (length b)) (λ n. isPrefix (lastLetters n a) (lastLetters n b)) h))
+    (λ h. equal-of-prefix (lastLetters (commonSuffix a b) a) (lastLetters (commonSuffix a b) b) (omega arith) (greatest-passes (min (length a) (length b)) (λ n. isPrefix (lastLetters n a) (lastLetters n b)) h))
     (λ h. drop-of-length-le a {i = length a - commonSuffix a b} (omega arith) ∙ sym (drop-of-length-le b {i = length b - commonSuffix a b} (omega arith)))
 
 common-most : (a b c d x : Word) → a ≡ c ++ x → b ≡ d ++ x → length x ≤ commonSuffix a b
@@ -45,15 +50,15 @@ common-most a b c d x e f =
     absurd (true≢false (sym (subst₂ (λ (y z : Word). isPrefix y z ≡ true) (sym ea) (sym eb) more) ∙ no-more)))
 
 -- row 8's e, f and z
-pub longest-end : (a b : Word)
-    → LongestEnd a b (take (length a - commonSuffix a b) a) (take (length b - commonSuffix a b) b) (drop (length (take (length a - commonSuffix a b) a)) a)
-longest-end a b =
+pub longest-suffix : (a b : Word)
+    → LongestSuffix a b (take (length a - commonSuffix a b) a) (take (length b - commonSuffix a b) b) (drop (length (take (length a - commonSuffix a b) a)) a)
+longest-suffix a b =
     record {
       left = sym (ap (λ (n : ℕ). take (length a - commonSuffix a b) a ++ drop n a) la ∙ take-append-drop (length a - commonSuffix a b) a);
       right = sym (ap (λ (n : ℕ). take (length b - commonSuffix a b) b ++ drop n a) la ∙ ap (take (length b - commonSuffix a b) b ++_) (common-same a b) ∙ take-append-drop (length b - commonSuffix a b) b);
       most = λ c d x e f.
           let m = common-most a b c d x e f in
-          let l = end-within a b in
+          let l = suffix-within a b in
           let y = length-drop (length (take (length a - commonSuffix a b) a)) a in
           omega (arith, la);
     }
