@@ -226,7 +226,7 @@ RUNS = ("first run", "second run")
 
 
 def pieces_of(sides):
-    """All pieces: runs found in two places of the sides, and the empty run (document 01)."""
+    """All pieces: runs found in two places of the sides, and the empty run (docs/SPECIFICATION.md)."""
     once, twice = set(), {b""}
     for side in sides:
         for start in range(len(side)):

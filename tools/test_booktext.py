@@ -1,4 +1,4 @@
-"""Tests of the readable form of books (booktext.py): document 01's example, round trips, every error, every explanation."""
+"""Tests of the readable form of books (booktext.py): the specification's example, round trips, every error, every explanation; and of ./compare on a text with an error."""
 
 import glob
 import os
@@ -14,22 +14,28 @@ import booktext
 from booktext import BytesError, Explainer, TextError, decode, encode
 
 TOOL = os.path.join(os.path.dirname(os.path.abspath(__file__)), "booktext.py")
+COMPARE = os.path.join(os.path.dirname(os.path.dirname(TOOL)), "compare")
 
-# document 01, "The program"
+# docs/SPECIFICATION.md, "The program"
 EXAMPLE_TEXT = "letters 4\nabdc = cadb\ncompare abdc cadb 100\n"
 EXAMPLE_BYTES = bytes.fromhex(
     "01 00 01 00 04" "0A 00 02 00 04 04 00 01 03 02 02 00 03 01" "10 00 03 00 64 00 00 00 04 00 04 00 00 01 03 02 02 00 03 01"
 )
 
 
-def run_tool(*arguments, data=b""):
-    """The tool as a command: exit code, standard output, standard error."""
-    done = subprocess.run([sys.executable, TOOL, *arguments], input=data, capture_output=True, check=False)
+def run(*command, data=b""):
+    """A command's exit code, standard output and standard error."""
+    done = subprocess.run(command, input=data, capture_output=True, check=False)
     return done.returncode, done.stdout, done.stderr.decode()
 
 
+def run_tool(*arguments, data=b""):
+    """The tool as a command."""
+    return run(sys.executable, TOOL, *arguments, data=data)
+
+
 class Encoding(unittest.TestCase):
-    def test_the_example_of_document_01_byte_for_byte(self):
+    def test_the_example_of_the_specification_byte_for_byte(self):
         self.assertEqual(encode(EXAMPLE_TEXT), EXAMPLE_BYTES)
 
     def test_comments_blank_lines_and_spacing(self):
@@ -56,7 +62,7 @@ class Encoding(unittest.TestCase):
 
 
 class Decoding(unittest.TestCase):
-    def test_the_example_of_document_01(self):
+    def test_the_example_of_the_specification(self):
         self.assertEqual(decode(EXAMPLE_BYTES), EXAMPLE_TEXT)
 
     def test_numbers_beyond_z(self):
@@ -266,6 +272,20 @@ class Command(unittest.TestCase):
         self.assertEqual(code, 0)
         self.assertIn(b"rule 1, right side, on line 2, column 8", out)
         self.assertEqual(run_tool("explain", text, "nothing")[0], 1)
+
+    def test_compare_ends_at_an_error_in_the_text(self):
+        text = self.file("bad.txt", b"letters 4\nabdc = caDb\ncompare a b 1\n")
+        error = f"{text}:2:10: 'D' is no letter from a to z; a run is letters, numbers with dots between them, or -\n"
+        self.assertEqual(run(COMPARE, text), (1, b"", error))
+        self.assertEqual(run(COMPARE, "--explain", text), (1, b"", error))
+        missing = os.path.join(self.folder.name, "nothing.txt")
+        self.assertEqual(run(COMPARE, missing), (1, b"", f"{missing}: No such file or directory\n"))
+
+    def test_compare_called_wrongly(self):
+        for arguments in (["--explain"], ["--explain", "a.txt", "b.txt"], ["--exmaple"]):
+            code, output, error = run(COMPARE, *arguments)
+            self.assertEqual((code, output), (2, b""))
+            self.assertNotEqual(error, "")
 
     def test_the_help_says_that_it_is_outside_the_proved_part(self):
         for arguments in (["--help"], ["encode", "--help"], ["decode", "--help"], ["explain", "--help"]):
