@@ -1,7 +1,8 @@
 #!/usr/bin/env python3
-"""Compares the numbers of the C header and of the Rust wrapper with those of the proved sources: limits, sizes, and the numbers of refusals.
+"""Holds the C header, the Rust wrapper and the book tool to the proved sources: limits, sizes, structs, outcomes, the version, and refusals.
 
-Fails with a line for each number that differs or is missing.
+The list of refusals is the definition `numbered` (specs/Refusals.antt) beside the enum `Refusal`: a case that has no number there, or whose number is missing
+anywhere else (the header's macros and texts, the wrapper's reasons and texts, the tool's explanations), fails. It ends with 1 and a line for each fault.
 """
 
 import re
@@ -9,103 +10,196 @@ import sys
 from pathlib import Path
 
 ROOT = Path(__file__).resolve().parent.parent
-FORMAT = (ROOT / "crates/format/src/lib.rt").read_text()
-PROGRAM = (ROOT / "crates/program/src/lib.rt").read_text()
+SOURCES = {path.parent.parent.name: path.read_text() for path in sorted(ROOT.glob("crates/*/src/lib.rt"))}
+INTERFACE = SOURCES["vanecitron"]
+DEFINED = (ROOT / "crates/vanecitron/specs/Numbers.antt").read_text()
 HEADER = (ROOT / "host/include/vanecitron.h").read_text()
 WRAPPER = (ROOT / "host/vanecitron/src/lib.rs").read_text()
+RAW = (ROOT / "host/vanecitron/src/raw.rs").read_text()
 REASONS = (ROOT / "host/vanecitron/src/refusal.rs").read_text()
+MANIFEST = (ROOT / "host/Cargo.toml").read_text()
+TOOL = (ROOT / "tools/booktext.py").read_text()
+SPECIFICATION = ROOT / "docs/SPECIFICATION.md"
 
-# what the proved sources say; the header's macro, without VANECITRON_; the wrapper's constant
-LIMITS = [
-    ("Head::LETTERS", "LETTERS", "LETTERS"),
-    ("Relation::MOST", "RULES", "RELATIONS"),
-    ("Relation::LETTERS", "SIDE", "SIDE"),
-    ("Word::COMPARED", "RUN", "COMPARED"),
-    ("Word::ROUND", "ROUND_RUN", "ROUND_WORD"),
-    ("Word::MARK", "ROUND_MARK", "ROUND_MARK"),
-    ("Word::ALLOWANCE", "ALLOWANCE", None),
-    ("Input::MOST", "INPUT", "INPUT"),
-    ("3 * Relation::WORDS", "SHEET_MOST", None),
-    ("Word::NEXT", "NEXT_RUN", "NEXT_WORD"),
-    ("Word::MARK", "NEXT_MARK", "NEXT_MARK"),
-    ("Output::MOST", "OUTPUT", "OUTPUT"),
-]
+# what the proved sources say, and its name in the header, without VANECITRON_, and in the wrapper
+LIMITS = {
+    "Head::LETTERS": "LETTERS",
+    "Relation::MOST": "RULES",
+    "Relation::LETTERS": "SIDE",
+    "Word::COMPARED": "RUN",
+    "Word::ROUND": "ROUND_RUN",
+    "Word::MARK": "ROUND_MARK",
+    "Word::ALLOWANCE": "ALLOWANCE",
+    "Word::SPACING": "PLACE_SPACING",
+    "Input::MOST": "INPUT",
+    "6 * Relation::MOST": "SHEET",
+    "Word::NEXT": "NEXT_RUN",
+    "Word::MARK ": "NEXT_MARK",
+    "Output::MOST": "OUTPUT",
+}
 
-# the case of Refusal, the header's macro, the wrapper's Reason
-REFUSALS = [
-    ("Short", "SHORT", "Short"),
-    ("Kind", "KIND", "Kind"),
-    ("Length", "LENGTH", "Length"),
-    ("Range", "RANGE", "Range"),
-    ("UnknownLetter", "UNKNOWN_STEP", "UnknownStep"),
-    ("TooMany", "THICK", "Thick"),
-    ("Repeated", "TWICE", "Twice"),
-    ("Loose", "LOOSE", "Loose"),
-    ("Long", "LONG", "Long"),
-    ("Stranger", "STRANGER", "Stranger"),
-    ("Spent", "SPENT", "Spent"),
-    ("Narrow", "NARROW", "Narrow"),
-    ("Heavy", "HEAVY", "Heavy"),
-]
+# the header's name where it is another
+HEADER_NAMES = {"SHEET": "SHEET_MOST"}
+
+# the specification's word for a case of `Refusal` whose name is another; the macro and the reason are named by the word
+WORDS = {"UnknownLetter": "unknown step", "TooMany": "thick", "Repeated": "twice"}
+
+C_TYPES = {"u32": "uint32_t", "u64": "uint64_t"}
 
 
-def associated_constants(*texts):
-    """The expressions of the associated constants, by TYPE::NAME."""
+def associated_constants():
+    """The expressions of the associated constants of the proved sources, by TYPE::NAME."""
     found = {}
-    for text in texts:
+    for text in SOURCES.values():
         for kind, block in re.findall(r"^impl (\w+) \{\n(.*?)^\}", text, re.M | re.S):
-            for name, expression in re.findall(r"^    pub const (\w+): usize = ([^;]+);", block, re.M):
+            for name, expression in re.findall(r"^    pub const (\w+): \w+ = ([^;]+);", block, re.M):
                 found[f"{kind}::{name}"] = expression
     return found
 
 
 def value(expression, constants):
     """An expression over constants and numbers; KeyError where a constant is missing."""
-    numbers = re.sub(r"\w+::\w+", lambda match: str(value(constants[match[0]], constants)), expression)
+    numbers = re.sub(r"\w+::\w+", lambda match: str(value(constants[match[0]], constants)), expression.strip())
     return eval(numbers.replace("/", "//"), {"__builtins__": {}})
 
 
 def macros(text):
-    """The values of the header's macros, and those with an argument as functions."""
+    """The values of the header's macros that are expressions, and those with an argument as functions."""
     found = {"__builtins__": {}}
     text = re.sub(r"/\*.*?\*/", "", text, flags=re.S)
     for name, argument, expression in re.findall(r"^#define VANECITRON_(\w+)(?:\((\w+)\))? +(\S.*?) *$", text, re.M):
-        expression = re.sub(r"\b(\d+)u\b", r"\1", expression).replace("VANECITRON_", "")
+        expression = re.sub(r"\b(\d+)u\b", r"\1", expression).replace("VANECITRON_", "").replace("/", "//")
         found[name] = eval(f"lambda {argument}: {expression}" if argument else expression, found)
     return found
 
 
-def compare():
-    """How many numbers of the proved sources were compared, and a line for each that differs or is missing."""
-    constants, header = associated_constants(FORMAT, PROGRAM), macros(HEADER)
-    wrapper = {name: int(number) for name, number in re.findall(r"^pub const (\w+): usize = ([\d_]+);", WRAPPER, re.M)}
-    body = re.search(r"^pub fn number\(.*?^\}", FORMAT, re.M | re.S)[0]
-    numbers = {case: int(number) for case, number in re.findall(r"Refusal::(\w+).* => (\d+),", body)}
-    reasons = {reason: 1 + i for i, reason in enumerate(re.findall(r'\(Reason::(\w+), "', REASONS))}
+def rust_constants(text):
+    return {name: int(number) for name, number in re.findall(r"^pub const (\w+): \w+ = ([\d_]+);", text, re.M)}
 
-    expected, lines = [], []
-    for expression, macro, constant in LIMITS:
+
+def differ(what, expected, places):
+    """A line for each place, by name, whose value is not the expected one."""
+    for place, found in places.items():
+        if found != expected:
+            yield f"{what} is {expected!r}: {place} has {'nothing' if found is None else repr(found)}"
+
+
+def limits(header):
+    constants, wrapper = associated_constants(), rust_constants(WRAPPER) | rust_constants(REASONS)
+    for expression, name in LIMITS.items():
         try:
-            expected.append((expression, value(expression, constants), macro, constant, wrapper))
+            number = value(expression, constants)
         except KeyError as missing:
-            lines.append(f"{missing.args[0]} is missing in the proved sources")
-    for case, macro, reason in REFUSALS:
-        if case in numbers:
-            expected.append((f"Refusal::{case}", numbers[case], macro, reason, reasons))
-        else:
-            lines.append(f"Refusal::{case} has no number in the proved sources")
-    for case in sorted(numbers.keys() - {case for case, _, _ in REFUSALS}):
-        lines.append(f"Refusal::{case}, number {numbers[case]}, is not in the table of this check")
+            yield f"{missing.args[0]} is missing in the proved sources"
+            continue
+        macro = HEADER_NAMES.get(name, name)
+        yield from differ(expression.strip(), number, {f"VANECITRON_{macro} of the header": header.get(macro), f"{name} of the wrapper": wrapper.get(name)})
 
-    for name, number, macro, rust, table in expected:
-        if header.get(macro) != number:
-            lines.append(f"{name} is {number}: VANECITRON_{macro} of the header is {header.get(macro, 'missing')}")
-        if rust is not None and table.get(rust) != number:
-            lines.append(f"{name} is {number}: {rust} of the wrapper is {table.get(rust, 'missing')}")
-    return len(expected), lines
+
+def outcomes(header):
+    """The codes of outcomes: by the code, the header and the wrapper; those of answers are not 0, which the definition gives for a refusal."""
+    codes = {name.split("::")[1]: int(number) for name, number in associated_constants().items() if name.startswith("Outcome::")}
+    raw = rust_constants(RAW)
+    if not {"NONE", "SAME", "DIFFERENT", "NEXT"} <= codes.keys():
+        yield "an outcome is missing in the proved sources"
+    for name, code in codes.items():
+        places = {f"VANECITRON_{name} of the header": header.get(name)}
+        if name != "NONE":
+            places[f"{name} of the wrapper"] = raw.get(name)
+        yield from differ(f"Outcome::{name}", code, places)
+    if len(set(codes.values())) != len(codes) or codes.get("NONE") != 0:
+        yield f"the outcomes are not apart, or NONE is not 0: {codes}"
+
+
+def versions(header):
+    number = value("Version::NUMBER", associated_constants())
+    text = f"{number // 10000}.{number // 100 % 100}.{number % 100}"
+    defined = re.search(r"^version = (\d+)$", DEFINED, re.M)
+    manifest = re.search(r'^version = "(.*)"$', MANIFEST, re.M)
+    yield from differ("the version", number, {"the definition": defined and int(defined[1]), "VANECITRON_VERSION of the header": header.get("VERSION")})
+    yield from differ("the version", text, {"host/Cargo.toml": manifest and manifest[1], "VANECITRON_VERSION_TEXT of the header": header.get("VERSION_TEXT")})
+
+
+def structs():
+    """The fields of the structs, in order and with their types."""
+    fields = lambda body, form: re.findall(form, re.sub(r"/\*.*?\*/|//.*", "", body, flags=re.M), re.M)
+    proved = re.findall(r"^#\[repr\(C\)\]\npub struct (\w+) \{\n(.*?)^\}", INTERFACE, re.M | re.S)
+    raw = dict(re.findall(r"^#\[repr\(C\)\]\npub struct (\w+) \{\n(.*?)^\}", RAW, re.M | re.S))
+    header = {name: body for body, name in re.findall(r"^typedef struct \{\n((?:    .*\n)*)\} (\w+);", HEADER, re.M)}
+    if not proved:
+        yield "the proved sources have no structs for C"
+    for name, body in proved:
+        expected = fields(body, r"^    pub (\w+): (\w+),")
+        c_name = "vanecitron_" + re.sub(r"(?<!^)([A-Z])", r"_\1", name).lower()
+        in_c = [(C_TYPES[kind], field) for field, kind in expected]
+        yield from differ(name, expected, {"the wrapper": fields(raw.get(name, ""), r"^    pub (\w+): (\w+),")})
+        yield from differ(name, in_c, {f"{c_name} of the header": fields(header.get(c_name, ""), r"^    (\w+) (\w+);")})
+
+
+def functions():
+    """Each function for C is declared in the header and in the wrapper, and nothing else is."""
+    proved = sorted(re.findall(r'^pub extern "C" fn (\w+)', INTERFACE, re.M))
+    declared = re.sub(r"/\*.*?\*/|^static inline .*?^\}", "", HEADER, flags=re.M | re.S)
+    yield from differ("the list of functions", proved, {
+        "the header": sorted(re.findall(r"^\w+ (vanecitron_\w+)\(", declared, re.M)),
+        "the wrapper": sorted(re.findall(r"^    fn (\w+)\(", RAW, re.M)),
+    })
+
+
+def defined_refusals():
+    """The number of each case by the definition, and a line for each case of the enum that it lacks or has twice."""
+    definition = next(ROOT.glob("crates/*/specs/Refusals.antt")).read_text()
+    numbers = {case: int(number) for case, number in re.findall(r"^numbered \(?(\w+).*number = (\d+)", definition, re.M)}
+    enum = next(re.search(r"^pub enum Refusal \{\n(.*?)^\}", text, re.M | re.S) for text in SOURCES.values() if "pub enum Refusal {" in text)[1]
+    cases = re.findall(r"^    (\w+)", enum, re.M)
+    lines = [f"Refusal::{case} has no number in the definition" for case in cases if case not in numbers]
+    lines += [f"the definition has {case}, which is no case of Refusal" for case in numbers if case not in cases]
+    if len(set(numbers.values())) != len(numbers):
+        lines.append(f"a number stands twice in the definition: {numbers}")
+    return numbers, lines
+
+
+def refusals(header):
+    numbers, lines = defined_refusals()
+    yield from lines
+    expected = {number: WORDS.get(case, re.sub(r"(?<!^)([A-Z])", r" \1", case).lower()) for case, number in numbers.items()}
+    texts = {macro: (word, text) for macro, word, text in re.findall(r'case VANECITRON_(\w+): return "([^":]*): ([^"]*)";', HEADER)}
+    listed = re.findall(r'^    \(Reason::(\w+), "([^"]*)", "([^"]*)"\),', REASONS, re.M)
+    variants = re.findall(r"^    (\w+),$", re.search(r"^pub enum Reason \{\n(.*?)^\}", REASONS, re.M | re.S)[1], re.M)
+    told = dict(re.findall(r'def refusal_(\d+)\(.*?return f?"([a-z ]+):', TOOL, re.S))
+    names = {number: word.upper().replace(" ", "_") for number, word in expected.items()}
+
+    for number, word in sorted(expected.items()):
+        macro, reason = names[number], word.title().replace(" ", "")
+        in_rust = listed[number - 1] if number <= len(listed) else (None, None, None)
+        yield from differ(f"refusal {number}", number, {f"VANECITRON_{macro} of the header": header.get(macro)})
+        yield from differ(f"the word of refusal {number}", word, {
+            "vanecitron_refusal_text": texts.get(macro, (None, None))[0],
+            "the wrapper": in_rust[1],
+            "the book tool": told.get(str(number)),
+        })
+        yield from differ(f"the reason of refusal {number}", reason, {"the wrapper's list": in_rust[0]})
+        yield from differ(f"the text of refusal {number}", texts.get(macro, (None, None))[1], {"the wrapper": in_rust[2]})
+        if reason not in variants:
+            yield f"refusal {number} is {word!r}: the wrapper's enum has no {reason}"
+    for where, known in [("the wrapper's list", len(listed)), ("the wrapper's enum", len(variants)), ("the header's texts", len(texts)), ("the book tool's", len(told))]:
+        if known != len(expected):
+            yield f"there are {len(expected)} refusals: of {where} there are {known}"
+    if SPECIFICATION.exists():
+        section = re.search(r"^## Refusals by number\n(.*?)^##", SPECIFICATION.read_text(), re.M | re.S)[1]
+        table = {int(number): word for number, word in re.findall(r"^\| (\d+) \| ([a-z ]+) \|", section, re.M)}
+        yield from differ("the table of refusals", expected, {"docs/SPECIFICATION.md": table})
+
+
+def main():
+    header = macros(HEADER)
+    lines = [*limits(header), *outcomes(header), *versions(header), *structs(), *functions(), *refusals(header)]
+    if lines:
+        print("\n".join(lines))
+        return 1
+    print(f"{len(LIMITS)} limits, {len(defined_refusals()[0])} refusals, the outcomes, the version, the structs and the functions agree with the proved sources")
+    return 0
 
 
 if __name__ == "__main__":
-    count, lines = compare()
-    print("\n".join(lines) if lines else f"{count} numbers of the proved sources agree with the header and the wrapper")
-    sys.exit(bool(lines))
+    sys.exit(main())

@@ -1,11 +1,15 @@
-/* Document 01's example book Q through every function of the library. Built and run by host/run-examples; compare.expected is worked out from document 01. */
+/*
+ * The specification's example, book Q, through every function of the library. Built and run by host/run-examples; compare.expected is worked out from
+ * docs/SPECIFICATION.md.
+ */
 #include <stdio.h>
 #include <string.h>
 
-#include "vanecitron.h"
+#include "vanecitron_book.h"
 
-/* four letters, and the rule abdc = cadb */
-static const uint8_t book[] = {1, 0, 1, 0, 4, 10, 0, 2, 0, 4, 4, 0, 1, 3, 2, 2, 0, 3, 1};
+/* book Q */
+static uint8_t bytes[VANECITRON_BOOK_MOST];
+static vanecitron_book book;
 
 /* steps written as letters, at most `room` of them */
 static size_t run_of(const char *letters, uint8_t *run, size_t room)
@@ -15,6 +19,16 @@ static size_t run_of(const char *letters, uint8_t *run, size_t room)
         run[i] = (uint8_t)(letters[i] - 'a');
     }
     return length < room ? length : room;
+}
+
+/* a book of four letters with one rule */
+static vanecitron_book book_of(uint8_t *lent, size_t room, const char *left, const char *right)
+{
+    uint8_t l[VANECITRON_SIDE], r[VANECITRON_SIDE];
+    size_t left_length = run_of(left, l, sizeof l), right_length = run_of(right, r, sizeof r);
+    vanecitron_book made = vanecitron_book_begin(lent, room, 4);
+    vanecitron_book_rule(&made, l, left_length, r, right_length);
+    return made;
 }
 
 static void print_run(const char *name, const uint8_t *run, uint64_t length)
@@ -29,12 +43,12 @@ static void compare(const char *first, const char *second, uint32_t allowance)
 {
     uint8_t u[16], v[16];
     size_t u_length = run_of(first, u, sizeof u), v_length = run_of(second, v, sizeof v);
-    vanecitron_compare_result r = vanecitron_compare(book, sizeof book, u, u_length, v, v_length, allowance);
-    if (r.refusal != VANECITRON_ACCEPTED) {
-        printf("compare '%s' '%s' %u: refused %u %llu\n", first, second, allowance, r.refusal, (unsigned long long)r.place);
-    } else {
-        printf("compare '%s' '%s' %u: %s %llu\n", first, second, allowance, r.outcome == VANECITRON_SAME ? "same" : "different",
-               (unsigned long long)r.rounds);
+    vanecitron_compare_result r = vanecitron_compare(book.bytes, book.length, u, u_length, v, v_length, allowance);
+    printf("compare '%s' '%s' %u: ", first, second, allowance);
+    switch (r.outcome) {
+    case VANECITRON_SAME: printf("same %llu\n", (unsigned long long)r.rounds); break;
+    case VANECITRON_DIFFERENT: printf("different %llu\n", (unsigned long long)r.rounds); break;
+    default: printf("refused %u %llu (%s)\n", r.refusal, (unsigned long long)r.place, vanecitron_refusal_text(r.refusal));
     }
 }
 
@@ -47,7 +61,7 @@ static void follow(const char *first, const char *second)
         uint8_t *u = runs[now][0], *v = runs[now][1], *p = marks[now];
         uint8_t *next_u = runs[1 - now][0], *next_v = runs[1 - now][1], *next_p = marks[1 - now];
         vanecitron_round_result r =
-            vanecitron_round(book, sizeof book, u, u_length, v, v_length, p, p_length, next_u, VANECITRON_NEXT_RUN, next_v, VANECITRON_NEXT_RUN,
+            vanecitron_round(book.bytes, book.length, u, u_length, v, v_length, p, p_length, next_u, VANECITRON_NEXT_RUN, next_v, VANECITRON_NEXT_RUN,
                              next_p, VANECITRON_NEXT_MARK);
         if (r.refusal != VANECITRON_ACCEPTED) {
             printf("round: refused %u %llu\n", r.refusal, (unsigned long long)r.place);
@@ -72,17 +86,17 @@ static void follow(const char *first, const char *second)
 static void program(void)
 {
     static uint8_t output[VANECITRON_OUTPUT];
-    const uint8_t question[] = {16, 0, 3, 0, 100, 0, 0, 0, 4, 0, 4, 0, 0, 1, 3, 2, 2, 0, 3, 1};
-    uint8_t input[sizeof book + sizeof question];
-    memcpy(input, book, sizeof book);
-    memcpy(input + sizeof book, question, sizeof question);
-    vanecitron_program_result r = vanecitron_program(input, sizeof input, output, sizeof output);
+    uint8_t u[16], v[16], input[VANECITRON_BOOK_HEAD + VANECITRON_BOOK_RULE(4, 4) + VANECITRON_BOOK_COMPARISON(4, 4)];
+    size_t u_length = run_of("abdc", u, sizeof u), v_length = run_of("cadb", v, sizeof v);
+    vanecitron_book asked = book_of(input, sizeof input, "abdc", "cadb");
+    vanecitron_book_comparison(&asked, 100, u, u_length, v, v_length);
+    vanecitron_program_result r = vanecitron_program(asked.bytes, asked.length, output, sizeof output);
     printf("program: refused %u, %llu bytes:\n%.*s", r.refusal, (unsigned long long)r.length, (int)r.length, (const char *)output);
     r = vanecitron_program(NULL, 0, output, sizeof output);
     printf("program on nothing: refused %u, %llu bytes:\n%.*s", r.refusal, (unsigned long long)r.length, (int)r.length, (const char *)output);
-    r = vanecitron_program(input, sizeof input, output, sizeof output - 1);
+    r = vanecitron_program(asked.bytes, asked.length, output, sizeof output - 1);
     printf("program in a byte too few: refused %u %llu\n", r.refusal, (unsigned long long)r.place);
-    r = vanecitron_program(input, sizeof input, NULL, 0);
+    r = vanecitron_program(asked.bytes, asked.length, NULL, 0);
     printf("program in no bytes: refused %u %llu\n", r.refusal, (unsigned long long)r.place);
 }
 
@@ -94,30 +108,39 @@ static void empty_buffers(void)
     printf("check of nothing: refused %u %llu\n", c.refusal, (unsigned long long)c.place);
     c = vanecitron_check(nowhere, 0);
     printf("check of nothing: refused %u %llu\n", c.refusal, (unsigned long long)c.place);
-    vanecitron_check_result s = vanecitron_cut_sheet(book, sizeof book, NULL, 0);
+    vanecitron_check_result s = vanecitron_cut_sheet(book.bytes, book.length, NULL, 0);
     printf("sheet of no bytes: refused %u %llu\n", s.refusal, (unsigned long long)s.place);
-    s = vanecitron_cut_sheet(book, 5, NULL, 0);
-    printf("sheet of no bytes for no rules: refused %u, rules %llu\n", s.refusal, (unsigned long long)s.relations);
-    s = vanecitron_cut_sheet(book, sizeof book, sheet, sizeof sheet);
+    s = vanecitron_cut_sheet(book.bytes, VANECITRON_BOOK_HEAD, NULL, 0);
+    printf("sheet of no bytes for no rules: refused %u, rules %llu\n", s.refusal, (unsigned long long)s.rules);
+    s = vanecitron_cut_sheet(book.bytes, book.length, sheet, sizeof sheet);
     printf("sheet of one byte: refused %u %llu, byte %u\n", s.refusal, (unsigned long long)s.place, sheet[0]);
-    vanecitron_compare_result m = vanecitron_compare(book, sizeof book, NULL, 0, nowhere, 0, 0);
+    vanecitron_compare_result m = vanecitron_compare(book.bytes, book.length, NULL, 0, nowhere, 0, 0);
     printf("compare of empty runs: refused %u, outcome %u, rounds %llu\n", m.refusal, m.outcome, (unsigned long long)m.rounds);
-    vanecitron_round_result r = vanecitron_round(book, sizeof book, NULL, 0, NULL, 0, NULL, 0, NULL, 0, nowhere, 0, NULL, 0);
+    vanecitron_round_result r = vanecitron_round(book.bytes, book.length, NULL, 0, NULL, 0, NULL, 0, NULL, 0, nowhere, 0, NULL, 0);
     printf("round in no bytes: refused %u %llu\n", r.refusal, (unsigned long long)r.place);
 }
 
 int main(void)
 {
-    vanecitron_check_result c = vanecitron_check(book, sizeof book);
-    printf("check: refused %u, rules %llu\n", c.refusal, (unsigned long long)c.relations);
+    if (vanecitron_version() != VANECITRON_VERSION) {
+        printf("the archive is not of version %s\n", VANECITRON_VERSION_TEXT);
+        return 1;
+    }
+    book = book_of(bytes, sizeof bytes, "abdc", "cadb");
+    vanecitron_check_result c = vanecitron_check(book.bytes, book.length);
+    if (c.refusal != VANECITRON_ACCEPTED) {
+        printf("check: refused %u (%s)\n", c.refusal, vanecitron_refusal_text(c.refusal));
+        return 1;
+    }
+    printf("check: refused %u, rules %llu\n", c.refusal, (unsigned long long)c.rules);
 
     uint8_t sheet[VANECITRON_SHEET_MOST];
-    vanecitron_check_result s = vanecitron_cut_sheet(book, sizeof book, sheet, sizeof sheet);
+    vanecitron_check_result s = vanecitron_cut_sheet(book.bytes, book.length, sheet, sizeof sheet);
     printf("sheet:");
-    for (uint64_t i = 0; i < VANECITRON_SHEET(s.relations); i++) {
+    for (uint64_t i = 0; i < VANECITRON_SHEET(s.rules); i++) {
         printf(" %u", sheet[i]);
     }
-    printf("\nample allowance for 7 steps: %u\n", vanecitron_ample_allowance(sheet, s.relations, 7));
+    printf("\nample allowance for 7 steps: %u\n", vanecitron_ample_allowance(sheet, s.rules, 7));
 
     compare("", "", 100);
     compare("a", "", 100);
@@ -125,7 +148,7 @@ int main(void)
     compare("abd", "cad", 100);
     compare("abdc", "cadb", 100);
     compare("abdcad", "cadbad", 100);
-    compare("cadbadb", "abdabdc", vanecitron_ample_allowance(sheet, s.relations, 7));
+    compare("cadbadb", "abdabdc", vanecitron_ample_allowance(sheet, s.rules, 7));
     compare("cadbadb", "abdabdc", 2);
     compare("cadbadb", "abdabdc", 3);
     compare("abde", "abd", 100);
@@ -133,11 +156,12 @@ int main(void)
 
     follow("cadbadb", "abdabdc");
 
-    const uint8_t loose[] = {1, 0, 1, 0, 4, 5, 0, 2, 0, 1, 2, 0, 0, 0};
-    c = vanecitron_check(loose, sizeof loose);
-    printf("check of a = aa: refused %u %llu\n", c.refusal, (unsigned long long)c.place);
-    c = vanecitron_check(book, sizeof book - 1);
-    printf("check of a book cut off: refused %u %llu\n", c.refusal, (unsigned long long)c.place);
+    uint8_t lent[VANECITRON_BOOK_MOST];
+    vanecitron_book loose = book_of(lent, sizeof lent, "a", "aa");
+    c = vanecitron_check(loose.bytes, loose.length);
+    printf("check of a = aa: refused %u %llu (%s)\n", c.refusal, (unsigned long long)c.place, vanecitron_refusal_text(c.refusal));
+    c = vanecitron_check(book.bytes, book.length - 1);
+    printf("check of a book cut off: refused %u %llu (%s)\n", c.refusal, (unsigned long long)c.place, vanecitron_refusal_text(c.refusal));
 
     empty_buffers();
     program();

@@ -1,19 +1,23 @@
 /*
  * vanecitron: does a chain of exchanges join two runs of steps under a book of exchange rules?
  *
- * The five functions of the archive are proved against their contracts (crates/vanecitron and crates/entries of this tree; docs/AUDIT.md says what that means).
- * This header is written by hand: its numbers are compared with those of the proved sources (host/limits.py), and vanecitron_ample_allowance is plain
- * inline C, outside the proof. The words are those of document 01: a step is a byte below the book's number of letters A, a run is an array of steps,
- * a rule has two sides, and a book is a list of records in bytes ("Book bytes"). The proved sources call a rule a relation.
+ * The functions of the archive are proved against their contracts (crates/vanecitron and crates/entries of this tree; docs/AUDIT.md says what that
+ * means). This header is written by hand: host/limits.py compares its numbers, words and structs with those of the proved sources. The functions that
+ * are `static inline` here and in vanecitron_book.h are plain C, outside the proof.
+ * The words are those of docs/SPECIFICATION.md, which "the specification" means below: a step is a byte below the book's number of letters, a run is
+ * an array of steps, a rule has two sides, which are runs, and a book is a list of records in bytes ("Book bytes"); vanecitron_book.h writes them.
  *
  * The archive
- *   `rt staticlib vanecitron` at the root of the tree writes target/staticlib/libvanecitron.a. It is for x86-64 Linux (System V calling convention) and holds no
- *   code for another processor. It allocates no memory, keeps no state between calls, reads no file, and starts no thread. Its only undefined symbols
- *   are memcpy and memset of the C library (`nm -u`; host/test compares the list, and fails where the archive has a byte of data or bss).
+ *   `rt staticlib vanecitron` at the root of the tree writes target/staticlib/libvanecitron.a. It is for x86-64 Linux (System V calling convention) and
+ *   holds no code for another processor. It allocates no memory, keeps no state between calls, reads no file, and starts no thread. Its only undefined
+ *   symbols are memcpy and memset of the C library (`nm -u`; host/test compares the list, and fails where the archive has a byte of data or bss).
  *   Build:  cc -I host/include program.c target/staticlib/libvanecitron.a
  *
  * Calls
  *   Calls are reentrant: any number of threads may call any functions at the same time, as long as no buffer that one call writes is used by another.
+ *   Every call checks its book again, since nothing is kept between calls: under a microsecond for a book of one rule with sides of 4 steps, 5
+ *   microseconds for one with sides of 64, and 1.4 milliseconds for a full book, 32 such rules (docs/DECISIONS.md, "Cost grows"). vanecitron_program
+ *   checks its book once for all comparisons of its input: give it many pairs of runs at a time where that matters.
  *   No measured call needs more than VANECITRON_STACK bytes of stack; a call gives them back when it returns. This is measured, not proved:
  *   host/stack calls each function on a painted stack, with the memcpy and memset of the C library there, and host/test fails where a call needs more.
  *   The calls take every row of a round and meet every kind of refusal, with books, runs, marks and inputs at their limits.
@@ -29,8 +33,10 @@
  *
  * Results
  *   Each result has a refusal and a place. The refusal is 0 where the call was not refused; else it is one of the numbers below, and everything but
- *   refusal and place is 0. Where the call was not refused the place is 0. If several refusals could apply, the one that is given is fixed: records of
- *   the book in turn, each in the order 1, 2, 6, 3, 4, 5; then 7, then 8; then 9 and 10 for u, for v, for p; then 12; 11 last.
+ *   refusal and place is 0. Where the call was not refused the place is 0. An outcome of 0 says nothing: a refused result, and one filled with zeros,
+ *   reads as no answer, so that a caller who looks at the outcome alone is never told 'same' or 'different' by a refusal.
+ *   If several refusals could apply, the one that is given is fixed: records of the book in turn, each in the order 1, 2, 6, 3, 4, 5; then 7, then 8;
+ *   then 9 and 10 for u, for v, for p; then 12; 11 last.
  */
 #ifndef VANECITRON_H
 #define VANECITRON_H
@@ -41,6 +47,13 @@
 #ifdef __cplusplus
 extern "C" {
 #endif
+
+/* The version of this header; vanecitron_version gives that of the archive. */
+#define VANECITRON_VERSION_MAJOR 0u
+#define VANECITRON_VERSION_MINOR 2u
+#define VANECITRON_VERSION_PATCH 0u
+#define VANECITRON_VERSION (10000u * VANECITRON_VERSION_MAJOR + 100u * VANECITRON_VERSION_MINOR + VANECITRON_VERSION_PATCH)
+#define VANECITRON_VERSION_TEXT "0.2.0"
 
 /* Limits: more than these is refused. */
 #define VANECITRON_LETTERS 64u           /* the most letters of a book; at least 1 */
@@ -63,10 +76,11 @@ extern "C" {
 #define VANECITRON_STACK 16384u
 
 /*
- * Refusals (document 01, "Refusals by number").
+ * Refusals (the specification, "Refusals by number"); vanecitron_refusal_text says them in words.
  *
  * The place of 1 to 6 is the first byte of the record at fault, counted from the start of the book. Sides are numbered 0 and 1 for the first rule,
- * 2 and 3 for the second, and so on. Given runs are numbered u 0, v 1, p 2; positions in a run count from 0.
+ * 2 and 3 for the second, and so on. Given runs are numbered u 0, v 1, p 2; positions in a run count from 0. VANECITRON_PLACE_RUN and
+ * VANECITRON_PLACE_POSITION take the place of 9 and 10 apart.
  */
 #define VANECITRON_ACCEPTED 0u      /* not refused */
 #define VANECITRON_SHORT 1u         /* the bytes end inside a record, or the book is empty */
@@ -85,22 +99,27 @@ extern "C" {
                                        the program's output 0 */
 #define VANECITRON_HEAVY 13u        /* the program's input is over its limit; place: 60000. Only printed by the program, as a line of its output */
 
-/* Outcomes of a comparison and of a round that are not refused. */
-#define VANECITRON_DIFFERENT 0u
+#define VANECITRON_PLACE_SPACING 5000u /* how far apart the places of the given runs lie in 9 and 10 */
+#define VANECITRON_PLACE_RUN(place) ((place) / VANECITRON_PLACE_SPACING)
+#define VANECITRON_PLACE_POSITION(place) ((place) % VANECITRON_PLACE_SPACING)
+
+/* Outcomes of a comparison and of a round. */
+#define VANECITRON_NONE 0u          /* no answer: the call was refused; look at its refusal */
 #define VANECITRON_SAME 1u
-#define VANECITRON_NEXT 2u          /* of a round alone: it went on, and the next u, v and p are written */
+#define VANECITRON_DIFFERENT 2u
+#define VANECITRON_NEXT 3u          /* of a round alone: it went on, and the next u, v and p are written */
 
 /* of the check and of the cut sheet */
 typedef struct {
     uint32_t refusal;
     uint64_t place;
-    uint64_t relations; /* the number of the book's rules ("relation" is the proved sources' word for a rule) */
+    uint64_t rules; /* the number of the book's rules */
 } vanecitron_check_result;
 
 typedef struct {
     uint32_t refusal;
     uint64_t place;
-    uint32_t outcome;   /* VANECITRON_DIFFERENT, VANECITRON_SAME or VANECITRON_NEXT */
+    uint32_t outcome;   /* VANECITRON_SAME, VANECITRON_DIFFERENT or VANECITRON_NEXT; VANECITRON_NONE where it is refused */
     uint64_t u_length;  /* where it is VANECITRON_NEXT, the lengths of the next u, v and p; else 0 */
     uint64_t v_length;
     uint64_t p_length;
@@ -109,7 +128,7 @@ typedef struct {
 typedef struct {
     uint32_t refusal;
     uint64_t place;
-    uint32_t outcome;   /* VANECITRON_DIFFERENT or VANECITRON_SAME */
+    uint32_t outcome;   /* VANECITRON_SAME or VANECITRON_DIFFERENT; VANECITRON_NONE where it is refused */
     uint64_t rounds;    /* how many rounds the comparison took */
 } vanecitron_compare_result;
 
@@ -118,6 +137,42 @@ typedef struct {
     uint64_t place;
     uint64_t length; /* the bytes of the output */
 } vanecitron_program_result;
+
+/* The structs lie in memory as the archive has them; the Rust wrapper asserts the same numbers. */
+#if defined(__cplusplus)
+#define VANECITRON_ASSERT(name, holds) static_assert(holds, #name)
+#elif defined(__STDC_VERSION__) && __STDC_VERSION__ >= 201112L
+#define VANECITRON_ASSERT(name, holds) _Static_assert(holds, #name)
+#else
+#define VANECITRON_ASSERT(name, holds) typedef char vanecitron_assert_##name[(holds) ? 1 : -1]
+#endif
+#define VANECITRON_AT(type, field, offset) VANECITRON_ASSERT(type##_##field, offsetof(type, field) == (offset))
+VANECITRON_ASSERT(sizes, sizeof(size_t) == 8);
+VANECITRON_ASSERT(check_result, sizeof(vanecitron_check_result) == 24);
+VANECITRON_AT(vanecitron_check_result, refusal, 0);
+VANECITRON_AT(vanecitron_check_result, place, 8);
+VANECITRON_AT(vanecitron_check_result, rules, 16);
+VANECITRON_ASSERT(round_result, sizeof(vanecitron_round_result) == 48);
+VANECITRON_AT(vanecitron_round_result, refusal, 0);
+VANECITRON_AT(vanecitron_round_result, place, 8);
+VANECITRON_AT(vanecitron_round_result, outcome, 16);
+VANECITRON_AT(vanecitron_round_result, u_length, 24);
+VANECITRON_AT(vanecitron_round_result, v_length, 32);
+VANECITRON_AT(vanecitron_round_result, p_length, 40);
+VANECITRON_ASSERT(compare_result, sizeof(vanecitron_compare_result) == 32);
+VANECITRON_AT(vanecitron_compare_result, refusal, 0);
+VANECITRON_AT(vanecitron_compare_result, place, 8);
+VANECITRON_AT(vanecitron_compare_result, outcome, 16);
+VANECITRON_AT(vanecitron_compare_result, rounds, 24);
+VANECITRON_ASSERT(program_result, sizeof(vanecitron_program_result) == 24);
+VANECITRON_AT(vanecitron_program_result, refusal, 0);
+VANECITRON_AT(vanecitron_program_result, place, 8);
+VANECITRON_AT(vanecitron_program_result, length, 16);
+#undef VANECITRON_AT
+#undef VANECITRON_ASSERT
+
+/* The version of the archive, to be held to VANECITRON_VERSION: they differ where a program was built with the header of another archive. */
+uint32_t vanecitron_version(void);
 
 /*
  * Checks a book: it is accepted exactly when it is well-formed, within the limits, has no side twice, and meets C(4).
@@ -134,7 +189,7 @@ vanecitron_check_result vanecitron_check(const uint8_t *book, size_t book_length
 vanecitron_check_result vanecitron_cut_sheet(const uint8_t *book, size_t book_length, uint8_t *sheet, size_t sheet_length);
 
 /*
- * Makes one round from u, v and the front mark p (document 01, "Exchanges and rounds"): it ends, or writes the next u, v and p at the start of the
+ * Makes one round from u, v and the front mark p (the specification, "Exchanges and rounds"): it ends, or writes the next u, v and p at the start of the
  * three lent buffers, which have at least VANECITRON_NEXT_RUN, VANECITRON_NEXT_RUN and VANECITRON_NEXT_MARK bytes. A comparison begins with p empty.
  * Refusals 1 to 10, 12.
  */
@@ -152,7 +207,8 @@ vanecitron_round_result vanecitron_round(
  * rounds that were needed. VANECITRON_SPENT exactly when the two runs need more rounds than the allowance.
  *
  * An allowance that is never spent: the rounds are at most (k + 2) times the number of steps of u, where k is the longest Z, that is, the largest of
- * the third bytes of the cut sheet (0 without rules). vanecitron_ample_allowance reckons it. It is at most 66 times 4096, which fits.
+ * the third bytes of the cut sheet (0 without rules). vanecitron_ample_allowance reckons it. It is at most 66 times 4096, which fits. The rounds are
+ * also at most (k + 1) times the number of steps of the shorter run. Both are proved.
  * Refusals 1 to 11.
  */
 vanecitron_compare_result vanecitron_compare(
@@ -162,7 +218,7 @@ vanecitron_compare_result vanecitron_compare(
     uint32_t allowance);
 
 /*
- * The whole program (document 01, "The program") from its input to what it prints: `input` holds the records of a book and then those of comparisons;
+ * The whole program (the specification, "The program") from its input to what it prints: `input` holds the records of a book and then those of comparisons;
  * `output` is lent, has at least VANECITRON_OUTPUT bytes, and receives the lines, each ended by a newline. Refusals of the book, of a comparison's
  * record and of an input over VANECITRON_INPUT bytes are lines `refused N P` of the output, and not refusals of the call.
  * Refusals: 12 alone. It is decided first: with a buffer that is too small the input is not looked at, so that nothing is printed, not even the line
@@ -182,7 +238,31 @@ static inline uint32_t vanecitron_ample_allowance(const uint8_t *sheet, size_t r
             k = sheet[3 * side + 2];
         }
     }
-    return (k + 2) * (uint32_t)u_length;
+    return u_length > VANECITRON_ALLOWANCE / (k + 2) ? VANECITRON_ALLOWANCE : (k + 2) * (uint32_t)u_length;
+}
+
+/*
+ * What a refusal means: the specification's word for it and an explanation, in a text that is never freed. Plain C, outside the proof.
+ */
+static inline const char *vanecitron_refusal_text(uint32_t refusal)
+{
+    switch (refusal) {
+    case VANECITRON_ACCEPTED: return "not refused";
+    case VANECITRON_SHORT: return "short: the bytes end inside a record, or there is no book";
+    case VANECITRON_KIND: return "kind: the first record is no head, or a later one is no rule";
+    case VANECITRON_LENGTH: return "length: a record's length does not fit it";
+    case VANECITRON_RANGE: return "range: the number of letters, or of the steps of a side, is outside its range";
+    case VANECITRON_UNKNOWN_STEP: return "unknown step: a side has a step that is not below the number of letters";
+    case VANECITRON_THICK: return "thick: there is a rule too many";
+    case VANECITRON_TWICE: return "twice: a side equals an earlier side";
+    case VANECITRON_LOOSE: return "loose: C(4) fails, since a side is a product of three or fewer pieces";
+    case VANECITRON_LONG: return "long: a given run is over its limit";
+    case VANECITRON_STRANGER: return "stranger: a given run has a step that is not below the number of letters";
+    case VANECITRON_SPENT: return "spent: another round was due and the allowance was used up";
+    case VANECITRON_NARROW: return "narrow: a lent buffer is too small";
+    case VANECITRON_HEAVY: return "heavy: the program's input is over its limit";
+    default: return "a refusal that this header does not know";
+    }
 }
 
 #ifdef __cplusplus

@@ -14,15 +14,15 @@
 #include <string.h>
 #include <ucontext.h>
 
-#include "vanecitron.h"
+#include "vanecitron_book.h"
 
 #define STACK (1u << 18)
 #define PAINT 0xa5
-#define RULE (6u + 2u * VANECITRON_SIDE) /* the bytes of a rule whose sides have the most steps */
-#define STRANGER 255u                    /* a step that no book has */
+#define RULE VANECITRON_BOOK_RULE(VANECITRON_SIDE, VANECITRON_SIDE) /* the bytes of a rule whose sides have the most steps */
+#define STRANGER 255u                                               /* a step that no book has */
 
 /* what a call is given; the runs and the input have room for one byte over the limit */
-static uint8_t book[5 + (VANECITRON_RULES + 1) * RULE], input[VANECITRON_INPUT + 1];
+static uint8_t book[VANECITRON_BOOK_MOST + RULE], input[VANECITRON_INPUT + 1];
 static uint8_t u[VANECITRON_ROUND_RUN + 1], v[VANECITRON_ROUND_RUN + 1], p[VANECITRON_ROUND_MARK + 1];
 static size_t book_length, input_length, u_length, v_length, p_length;
 static uint32_t allowance;
@@ -74,6 +74,16 @@ static void tell(const char *word, uint64_t number)
     snprintf(answer, sizeof answer, "%s %llu", word, (unsigned long long)number);
 }
 
+static const char *outcome_text(uint32_t outcome)
+{
+    switch (outcome) {
+    case VANECITRON_SAME: return "same";
+    case VANECITRON_DIFFERENT: return "different";
+    case VANECITRON_NEXT: return "next";
+    default: return "no outcome";
+    }
+}
+
 /* a refusal, if it is one */
 static int tell_refusal(uint32_t refusal, uint64_t place)
 {
@@ -84,7 +94,7 @@ static int tell_refusal(uint32_t refusal, uint64_t place)
 static void tell_checked(void)
 {
     if (!tell_refusal(checked.refusal, checked.place)) {
-        tell("rules", checked.relations);
+        tell("rules", checked.rules);
     }
 }
 
@@ -105,11 +115,10 @@ static void tell_run(const uint8_t *run, uint64_t length)
 
 static void tell_rounded(void)
 {
-    static const char *const outcomes[] = {"different", "same", "next"};
     if (tell_refusal(rounded.refusal, rounded.place)) {
         return;
     }
-    strcpy(answer, outcomes[rounded.outcome]);
+    strcpy(answer, outcome_text(rounded.outcome));
     if (rounded.outcome == VANECITRON_NEXT) {
         tell_run(next_u, rounded.u_length);
         tell_run(next_v, rounded.v_length);
@@ -120,7 +129,7 @@ static void tell_rounded(void)
 static void tell_compared(void)
 {
     if (!tell_refusal(compared.refusal, compared.place)) {
-        tell(compared.outcome == VANECITRON_SAME ? "same" : "different", compared.rounds);
+        tell(outcome_text(compared.outcome), compared.rounds);
     }
 }
 
@@ -188,31 +197,18 @@ static void measure(struct function *function, const char *expected)
 
 /* --- books and runs --- */
 
-/* a field of so many bytes, little-endian */
-static void put_field(uint8_t *at, unsigned bytes, size_t number)
-{
-    for (unsigned i = 0; i < bytes; i++) {
-        at[i] = (uint8_t)(number >> 8 * i);
-    }
-}
+static vanecitron_book writing;
 
 static void begin_book(uint8_t letters)
 {
-    const uint8_t head[] = {1, 0, 1, 0, letters};
-    memcpy(book, head, sizeof head);
-    book_length = sizeof head;
+    writing = vanecitron_book_begin(book, sizeof book, letters);
+    book_length = writing.length;
 }
 
 static void add_rule(const uint8_t *left, size_t m, const uint8_t *right, size_t n)
 {
-    uint8_t *record = book + book_length;
-    put_field(record, 2, 2 + m + n);
-    put_field(record + 2, 2, 2);
-    put_field(record + 4, 1, m);
-    put_field(record + 5, 1, n);
-    memcpy(record + 6, left, m);
-    memcpy(record + 6 + m, right, n);
-    book_length += 6 + m + n;
+    vanecitron_book_rule(&writing, left, m, right, n);
+    book_length = writing.length;
 }
 
 /* the steps of a word in letters; ~ is a stranger */
@@ -278,7 +274,7 @@ static void full_shared_book(void)
 /* a side of a full book */
 static const uint8_t *full_side(unsigned side)
 {
-    return book + 5 + side / 2 * RULE + 6 + side % 2 * VANECITRON_SIDE;
+    return book + VANECITRON_BOOK_HEAD + side / 2 * RULE + VANECITRON_BOOK_RULE(0, 0) + side % 2 * VANECITRON_SIDE;
 }
 
 /* everything lent in full, an allowance that is not spent, and empty runs */
@@ -334,19 +330,11 @@ static void begin_input(void)
 /* a comparison of u and v, if the input has room for it */
 static int ask(void)
 {
-    const size_t length = 8 + u_length + v_length;
-    if (input_length + 4 + length > VANECITRON_INPUT) {
+    vanecitron_book asking = {input, VANECITRON_INPUT, input_length, 0};
+    if (!vanecitron_book_comparison(&asking, allowance, u, u_length, v, v_length)) {
         return 0;
     }
-    uint8_t *record = input + input_length;
-    put_field(record, 2, length);
-    put_field(record + 2, 2, 3);
-    put_field(record + 4, 4, allowance);
-    put_field(record + 8, 2, u_length);
-    put_field(record + 10, 2, v_length);
-    memcpy(record + 12, u, u_length);
-    memcpy(record + 12 + u_length, v, v_length);
-    input_length += 4 + length;
+    input_length = asking.length;
     return 1;
 }
 

@@ -2,17 +2,17 @@
 
 use std::cell::RefCell;
 
-use difftest::unit::{Compared, Refused, Rounded, Unit};
+use difftest::entries::{Compared, Entries, Refused, Rounded};
 use gen::{books, inputs, words, Book, Chance};
 
-/// Something to run with a unit; the numbers it gives are only there to be equal for both.
+/// Something to run with the entries of either; the numbers it gives are only there to be equal for both.
 pub struct Case {
     pub group: &'static str,
     pub name: String,
     pub run: Run,
 }
 
-pub type Run = Box<dyn Fn(&dyn Unit) -> [u64; 2]>;
+pub type Run = Box<dyn Fn(&dyn Entries) -> [u64; 2]>;
 
 /// An answer or a refusal as numbers.
 fn numbers<T>(result: Result<T, Refused>, value: impl FnOnce(T) -> u64) -> [u64; 2] {
@@ -24,7 +24,7 @@ fn numbers<T>(result: Result<T, Refused>, value: impl FnOnce(T) -> u64) -> [u64;
 
 fn check(group: &'static str, name: impl Into<String>, book: &Book) -> Case {
     let bytes = book.bytes();
-    Case { group, name: name.into(), run: Box::new(move |unit| numbers(unit.check(&bytes), |relations| relations)) }
+    Case { group, name: name.into(), run: Box::new(move |entries| numbers(entries.check(&bytes), |relations| relations)) }
 }
 
 /// Comparisons through the program, so that one check serves them all; the same two words as often as fit.
@@ -39,10 +39,10 @@ fn compare_many(group: &'static str, name: impl Into<String>, book: &Book, u: &[
 
 fn program(group: &'static str, name: impl Into<String>, input: Vec<u8>) -> Case {
     let output = RefCell::new(Vec::new());
-    let run = move |unit: &dyn Unit| {
+    let run = move |entries: &dyn Entries| {
         let mut output = output.borrow_mut();
-        output.resize(unit.output_size(), 0);
-        numbers(unit.program(&input, &mut output), |length| length as u64)
+        output.resize(entries.output_size(), 0);
+        numbers(entries.program(&input, &mut output), |length| length as u64)
     };
     Case { group, name: name.into(), run: Box::new(run) }
 }
@@ -53,7 +53,7 @@ fn compare(group: &'static str, name: impl Into<String>, book: &Book, u: Vec<u8>
         Compared::Same(rounds) => 2 * rounds,
         Compared::Different(rounds) => 2 * rounds + 1,
     };
-    Case { group, name: name.into(), run: Box::new(move |unit| numbers(unit.compare(&bytes, &u, &v, u32::MAX), rounds)) }
+    Case { group, name: name.into(), run: Box::new(move |entries| numbers(entries.compare(&bytes, &u, &v, u32::MAX), rounds)) }
 }
 
 /// Document 01's book Q.
@@ -109,18 +109,18 @@ fn checks(all: &mut Vec<Case>, chance: &mut Chance) {
 fn sheet_and_round(all: &mut Vec<Case>, chance: &mut Chance) {
     let book = books::full_random(chance, 64);
     let bytes = book.bytes();
-    let run = move |unit: &dyn Unit| {
+    let run = move |entries: &dyn Entries| {
         let mut sheet = [0; 192];
-        let result = unit.cut_sheet(&bytes, &mut sheet);
+        let result = entries.cut_sheet(&bytes, &mut sheet);
         numbers(result, |relations| relations + sheet.iter().map(|&length| length as u64).sum::<u64>())
     };
     all.push(Case { group: SHEET, name: "cut sheet of a full random book".to_string(), run: Box::new(run) });
     for (name, book) in [("a full random book", book), ("book Q", q())] {
         let bytes = book.bytes();
         let word = sides(&book, 4_160);
-        let run = move |unit: &dyn Unit| {
+        let run = move |entries: &dyn Entries| {
             let (mut u, mut v, mut p) = ([0; 4_224], [0; 4_224], [0; 64]);
-            numbers(unit.round(&bytes, [&word, &word, &[]], [&mut u, &mut v, &mut p]), |rounded| match rounded {
+            numbers(entries.round(&bytes, [&word, &word, &[]], [&mut u, &mut v, &mut p]), |rounded| match rounded {
                 Rounded::Next([u, v, p]) => u + v + p,
                 _ => 0,
             })

@@ -1,4 +1,4 @@
-//! The unit beside the fast unverified version of the same design: same inputs, same process, ratios printed.
+//! The entries beside the fast unverified version of the same design: same inputs, same process, ratios printed.
 //!
 //! `bench [PART ..] [--limit RATIO]` times the cases whose name has one of the parts in it, or all; with a limit it fails where a ratio is above it.
 
@@ -8,7 +8,7 @@ mod clock;
 use std::process::ExitCode;
 use std::time::Duration;
 
-use difftest::unit::{chosen, Fast, Unit};
+use difftest::entries::{chosen, Entries, Fast};
 
 use cases::{all, Case};
 
@@ -19,10 +19,10 @@ const BATCH: Duration = Duration::from_millis(1);
 const ENOUGH: Duration = Duration::from_millis(500);
 
 /// How often a case runs in one batch.
-fn batch_size(unit: &dyn Unit, case: &Case) -> u32 {
+fn batch_size(entries: &dyn Entries, case: &Case) -> u32 {
     let mut count = 1;
     loop {
-        let took = batch(unit, case, count);
+        let took = batch(entries, case, count);
         if took >= BATCH || count >= 1 << 20 {
             return count;
         }
@@ -30,27 +30,27 @@ fn batch_size(unit: &dyn Unit, case: &Case) -> u32 {
     }
 }
 
-fn batch(unit: &dyn Unit, case: &Case, count: u32) -> Duration {
+fn batch(entries: &dyn Entries, case: &Case, count: u32) -> Duration {
     let began = clock::spent();
     for _ in 0..count {
-        std::hint::black_box((case.run)(std::hint::black_box(unit)));
+        std::hint::black_box((case.run)(std::hint::black_box(entries)));
     }
     clock::spent() - began
 }
 
-/// The best time of one run, for the fast version and for the unit.
-fn timed(fast: &dyn Unit, unit: &dyn Unit, case: &Case) -> (f64, f64) {
+/// The best time of one run, for the fast version and for what is tried.
+fn timed(fast: &dyn Entries, entries: &dyn Entries, case: &Case) -> (f64, f64) {
     let count = batch_size(fast, case);
-    let (mut best_fast, mut best_unit) = (Duration::MAX, Duration::MAX);
+    let (mut best_fast, mut best_tried) = (Duration::MAX, Duration::MAX);
     let began = clock::spent();
     for turn in 0..TURNS.end {
         if turn >= TURNS.start && clock::spent() - began > ENOUGH {
             break;
         }
         best_fast = best_fast.min(batch(fast, case, count));
-        best_unit = best_unit.min(batch(unit, case, count));
+        best_tried = best_tried.min(batch(entries, case, count));
     }
-    (best_fast.as_secs_f64() / count as f64, best_unit.as_secs_f64() / count as f64)
+    (best_fast.as_secs_f64() / count as f64, best_tried.as_secs_f64() / count as f64)
 }
 
 fn shown(seconds: f64) -> String {
@@ -71,8 +71,8 @@ fn main() -> ExitCode {
             parts.push(argument);
         }
     }
-    let (fast, unit) = (Fast, chosen());
-    println!("{:<66} {:>12} {:>12} {:>7}", "case", fast.name(), unit.name(), "ratio");
+    let (fast, entries) = (Fast, chosen());
+    println!("{:<66} {:>12} {:>12} {:>7}", "case", fast.name(), entries.name(), "ratio");
     let (mut group, mut worst) = ("", 0.0f64);
     for case in all() {
         if !parts.is_empty() && !parts.iter().any(|part| case.group.contains(&part[..]) || case.name.contains(&part[..])) {
@@ -82,11 +82,11 @@ fn main() -> ExitCode {
             group = case.group;
             println!("{group}");
         }
-        assert_eq!((case.run)(&fast), (case.run)(&unit), "the two answer differently: {}", case.name);
-        let (of_fast, of_unit) = timed(&fast, &unit, &case);
-        let ratio = of_unit / of_fast;
+        assert_eq!((case.run)(&fast), (case.run)(&entries), "the two answer differently: {}", case.name);
+        let (of_fast, of_tried) = timed(&fast, &entries, &case);
+        let ratio = of_tried / of_fast;
         worst = worst.max(ratio);
-        println!("  {:<64} {:>12} {:>12} {:>7.2}", case.name, shown(of_fast), shown(of_unit), ratio);
+        println!("  {:<64} {:>12} {:>12} {:>7.2}", case.name, shown(of_fast), shown(of_tried), ratio);
     }
     println!("worst ratio {worst:.2}");
     if worst > limit {

@@ -19,7 +19,7 @@ pub enum Rounded {
 }
 
 /// The five entries.
-pub trait Unit {
+pub trait Entries {
     fn name(&self) -> &'static str;
     /// the least size of the program's output buffer
     fn output_size(&self) -> usize;
@@ -37,7 +37,7 @@ fn of_fast(refusal: fast::Refusal) -> Refused {
     (refusal.number, refusal.place)
 }
 
-impl Unit for Fast {
+impl Entries for Fast {
     fn name(&self) -> &'static str {
         "fast"
     }
@@ -80,11 +80,11 @@ pub struct Proved;
 
 #[cfg(feature = "proved")]
 fn of_proved(refusal: vanecitron::Refusal) -> Refused {
-    (refusal.reason.number(), refusal.place)
+    (refusal.reason.number(), refusal.place.number())
 }
 
 #[cfg(feature = "proved")]
-impl Unit for Proved {
+impl Entries for Proved {
     fn name(&self) -> &'static str {
         "proved"
     }
@@ -94,11 +94,11 @@ impl Unit for Proved {
     }
 
     fn check(&self, book: &[u8]) -> Result<u64, Refused> {
-        vanecitron::check(book).map(|relations| relations as u64).map_err(of_proved)
+        vanecitron::check(book).map(|rules| rules as u64).map_err(of_proved)
     }
 
     fn cut_sheet(&self, book: &[u8], sheet: &mut [u8]) -> Result<u64, Refused> {
-        vanecitron::cut_sheet_into(book, sheet).map(|relations| relations as u64).map_err(of_proved)
+        vanecitron::cut_sheet_into(book, sheet).map(|rules| rules as u64).map_err(of_proved)
     }
 
     fn round(&self, book: &[u8], [u, v, p]: [&[u8]; 3], [next_u, next_v, next_p]: [&mut [u8]; 3]) -> Result<Rounded, Refused> {
@@ -121,14 +121,14 @@ impl Unit for Proved {
     }
 }
 
-/// The unit that is tried.
+/// What is tried.
 #[cfg(feature = "proved")]
-pub fn chosen() -> impl Unit {
+pub fn chosen() -> impl Entries {
     Proved
 }
 
-/// The unit that is tried.
+/// What is tried.
 #[cfg(not(feature = "proved"))]
-pub fn chosen() -> impl Unit {
+pub fn chosen() -> impl Entries {
     Fast
 }

@@ -1,14 +1,14 @@
-//! Differential tests: every entry of a unit beside the independent reference.
+//! Differential tests: every entry beside the independent reference.
 //!
-//! A unit is anything with the five entries. With the feature `proved` it is the proved library through its wrapper; without, the fast version stands in.
+//! What is tried has the five entries. With the feature `proved` it is the proved library through its wrapper; without, the fast version stands in.
 //! The trials are functions of a seed and a size: the tests of this crate run them with fixed ones, and the command `difftest` for as long as it is told.
 
+pub mod entries;
 pub mod lent;
 pub mod tally;
 pub mod trial;
 pub mod trials;
-pub mod unit;
 
+pub use entries::{chosen, Entries};
 pub use tally::Tally;
 pub use trial::Trial;
-pub use unit::{chosen, Unit};

@@ -2,7 +2,7 @@
 
 use std::time::{Duration, Instant};
 
-use difftest::{chosen, trials, Tally, Trial, Unit};
+use difftest::{chosen, trials, Entries, Tally, Trial};
 use gen::Chance;
 
 /// A trial by name.
@@ -28,11 +28,11 @@ fn main() {
     let mut arguments = std::env::args().skip(1);
     let mut number = |otherwise: u64| arguments.next().map_or(otherwise, |text| text.parse().expect("difftest SECONDS [SEED]"));
     let (seconds, mut seed) = (number(60), number(1_000));
-    let unit = chosen();
+    let entries = chosen();
     let end = Instant::now() + Duration::from_secs(seconds);
     let mut sum = Tally::default();
-    println!("unit: {}", unit.name());
-    let mut trial = Trial::new(&unit);
+    println!("tried: {}", entries.name());
+    let mut trial = Trial::new(&entries);
     trials::most_rounds(&mut trial, 4_096);
     trials::longest_next(&mut trial);
     trials::heavy_programs(&mut trial);
@@ -41,7 +41,7 @@ fn main() {
     while Instant::now() < end {
         for (name, run) in TRIALS {
             let began = Instant::now();
-            let mut trial = Trial::new(&unit);
+            let mut trial = Trial::new(&entries);
             println!("seed {seed}: {name}");
             run(&mut trial, &mut Chance::new(seed));
             println!("    {:.1} s, {}", began.elapsed().as_secs_f64(), trial.tally);

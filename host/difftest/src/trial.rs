@@ -1,11 +1,11 @@
-//! One call of the unit beside the reference, for each entry. A difference ends the trial with the call as it is recorded in vectors/entries.txt.
+//! One call of an entry beside the reference, for each entry. A difference ends the trial with the call as it is recorded in vectors/entries.txt.
 
 use reference::{Accepted, Refusal};
 use vectors::hex;
 
+use crate::entries::{Compared, Entries, Refused, Rounded};
 use crate::lent::Lent;
 use crate::tally::Tally;
-use crate::unit::{Compared, Refused, Rounded, Unit};
 
 /// The sizes that the single round's buffers need.
 pub const NEXT: [usize; 3] = [4_224, 4_224, 64];
@@ -17,15 +17,15 @@ fn of_reference(refusal: Refusal) -> Refused {
     (refusal.number, refusal.place)
 }
 
-/// A unit under trial, and what was met so far.
+/// The entries under trial, and what was met so far.
 pub struct Trial<'a> {
-    pub unit: &'a dyn Unit,
+    pub entries: &'a dyn Entries,
     pub tally: Tally,
 }
 
 impl<'a> Trial<'a> {
-    pub fn new(unit: &'a dyn Unit) -> Trial<'a> {
-        Trial { unit, tally: Tally::default() }
+    pub fn new(entries: &'a dyn Entries) -> Trial<'a> {
+        Trial { entries, tally: Tally::default() }
     }
 
     fn met<T>(&mut self, result: &Result<T, Refused>) {
@@ -39,7 +39,7 @@ impl<'a> Trial<'a> {
     pub fn check(&mut self, book: &[u8]) -> Known {
         let known = reference::accept(book);
         let expected = known.as_ref().map(|accepted| accepted.relations() as u64).map_err(|refusal| of_reference(*refusal));
-        assert_eq!(self.unit.check(book), expected, "check {}", hex(book));
+        assert_eq!(self.entries.check(book), expected, "check {}", hex(book));
         self.met(&expected);
         self.tally.accepted += expected.is_ok() as u64;
         known
@@ -59,7 +59,7 @@ impl<'a> Trial<'a> {
             }
         }
         let mut sheet = Lent::new(size);
-        let result = self.unit.cut_sheet(book, sheet.slice());
+        let result = self.entries.cut_sheet(book, sheet.slice());
         assert_eq!(result, expected, "sheet {} {size}", hex(book));
         assert_eq!(sheet.fault(&written), None, "a byte of the sheet: sheet {} {size}", hex(book));
         self.met(&expected);
@@ -75,7 +75,7 @@ impl<'a> Trial<'a> {
                 Err(refusal) => Err(of_reference(refusal)),
             },
         };
-        let result = self.unit.compare(book, u, v, allowance);
+        let result = self.entries.compare(book, u, v, allowance);
         assert_eq!(result, expected, "compare {} {} {} {allowance}", hex(book), hex(u), hex(v));
         self.met(&expected);
         match expected {
@@ -104,7 +104,7 @@ impl<'a> Trial<'a> {
             next.truncate(length as usize);
         }
         let mut lent = sizes.map(Lent::new);
-        let result = self.unit.round(book, words, lent.each_mut().map(Lent::slice));
+        let result = self.entries.round(book, words, lent.each_mut().map(Lent::slice));
         let call = || format!("round {} {} {} {} {sizes:?}", hex(book), hex(u), hex(v), hex(p));
         assert_eq!(result, expected, "{}", call());
         for i in 0..3 {
@@ -123,8 +123,8 @@ impl<'a> Trial<'a> {
     /// The program, with an output buffer of the size it needs and some bytes more; gives its lines.
     pub fn program(&mut self, input: &[u8], more: usize) -> String {
         let expected = reference::program(input);
-        let mut output = Lent::new(self.unit.output_size() + more);
-        let result = self.unit.program(input, output.slice());
+        let mut output = Lent::new(self.entries.output_size() + more);
+        let result = self.entries.program(input, output.slice());
         let told = |length: usize| String::from_utf8_lossy(output.front(length)).into_owned();
         assert_eq!(result, Ok(expected.len()), "program {}: {:?}", hex(input), result.map(told));
         assert_eq!(output.fault(&expected), None, "a byte of the output: program {}: {}", hex(input), told(expected.len()));
@@ -135,7 +135,7 @@ impl<'a> Trial<'a> {
     /// The program with an output buffer that is too small: 12, and nothing is written.
     pub fn program_in_narrow_buffer(&mut self, input: &[u8], size: usize) {
         let mut output = Lent::new(size);
-        let result = self.unit.program(input, output.slice());
+        let result = self.entries.program(input, output.slice());
         assert_eq!(result, Err((12, 0)), "program {} in {size} bytes", hex(input));
         assert_eq!(output.fault(&[]), None, "a byte of the output: program {} in {size} bytes", hex(input));
         self.met(&result);

@@ -5,8 +5,8 @@ use std::collections::HashMap;
 use gen::{books, damage, inputs, words, Book, Chance};
 use reference::pieces::longest_tail;
 
+use crate::entries::Compared;
 use crate::trial::{Known, Trial, NEXT};
-use crate::unit::Compared;
 
 /// A book that the reference accepts, with its bytes.
 fn accepted(chance: &mut Chance, make: fn(&mut Chance) -> Book) -> (Book, Vec<u8>, Known) {
@@ -293,7 +293,7 @@ pub fn programs(trial: &mut Trial, chance: &mut Chance, cases: usize) {
         let more = chance.below(3);
         trial.program(&input, more);
         if chance.once_in(20) {
-            let size = trial.unit.output_size();
+            let size = trial.entries.output_size();
             trial.program_in_narrow_buffer(&input, size - 1);
             trial.program_in_narrow_buffer(&input, chance.below(size));
             trial.program_in_narrow_buffer(&input, 0);
@@ -382,8 +382,8 @@ fn all_pairs(trial: &mut Trial, book: &Book, bytes: &[u8], known: &Known, most: 
         for &(i, j) in part {
             input.extend(inputs::question(u32::MAX, &all[i], &all[j]));
         }
-        let mut output = vec![0; trial.unit.output_size()];
-        let length = trial.unit.program(&input, &mut output).expect("room enough");
+        let mut output = vec![0; trial.entries.output_size()];
+        let length = trial.entries.program(&input, &mut output).expect("room enough");
         let told = std::str::from_utf8(&output[..length]).expect("text");
         let mut lines = told.lines();
         assert_eq!(lines.next(), Some(&format!("book {}", book.relations())[..]));

@@ -5,8 +5,8 @@ use gen::Chance;
 
 /// Runs a trial with a fixed seed and gives what it met.
 fn tried(seed: u64, run: impl FnOnce(&mut Trial, &mut Chance)) -> Tally {
-    let unit = chosen();
-    let mut trial = Trial::new(&unit);
+    let entries = chosen();
+    let mut trial = Trial::new(&entries);
     run(&mut trial, &mut Chance::new(seed));
     println!("{}", trial.tally);
     trial.tally

@@ -1,7 +1,7 @@
 //! The recorded calls and inputs, and document 01's bench cases, with answers that are written down: the reference has no part in these.
 
-use difftest::unit::{Compared, Refused, Rounded};
-use difftest::{chosen, Unit};
+use difftest::entries::{Compared, Refused, Rounded};
+use difftest::{chosen, Entries};
 use gen::{books, Book};
 use vectors::{bytes, hex, Call};
 
@@ -18,16 +18,16 @@ fn compared(answer: Result<Compared, Refused>) -> String {
 }
 
 /// The answer to a call as it is recorded.
-fn answer(unit: &dyn Unit, call: &Call) -> String {
+fn answer(entries: &dyn Entries, call: &Call) -> String {
     match call {
-        Call::Compare { book, u, v, allowance } => compared(unit.compare(book, u, v, *allowance)),
+        Call::Compare { book, u, v, allowance } => compared(entries.compare(book, u, v, *allowance)),
         Call::Sheet { book, size } => {
             let mut sheet = vec![0xaa; *size];
-            unit.cut_sheet(book, &mut sheet).map_or_else(refused, |_| format!("sheet {}", hex(&sheet)))
+            entries.cut_sheet(book, &mut sheet).map_or_else(refused, |_| format!("sheet {}", hex(&sheet)))
         }
         Call::Round { book, words, sizes } => {
             let mut next = sizes.map(|size| vec![0xaa; size]);
-            match unit.round(book, words.each_ref().map(|word| &word[..]), next.each_mut().map(|buffer| &mut buffer[..])) {
+            match entries.round(book, words.each_ref().map(|word| &word[..]), next.each_mut().map(|buffer| &mut buffer[..])) {
                 Ok(Rounded::Same) => "end same".to_string(),
                 Ok(Rounded::Different) => "end different".to_string(),
                 Ok(Rounded::Next(lengths)) => {
@@ -40,9 +40,9 @@ fn answer(unit: &dyn Unit, call: &Call) -> String {
     }
 }
 
-fn printed(unit: &dyn Unit, input: &[u8]) -> String {
-    let mut output = vec![0; unit.output_size()];
-    let length = unit.program(input, &mut output).expect("room enough");
+fn printed(entries: &dyn Entries, input: &[u8]) -> String {
+    let mut output = vec![0; entries.output_size()];
+    let length = entries.program(input, &mut output).expect("room enough");
     String::from_utf8(output[..length].to_vec()).expect("text")
 }
 
@@ -125,24 +125,24 @@ fn bench_cases_of_comparisons() {
 
 #[test]
 fn bench_cases_at_the_limits() {
-    let unit = chosen();
+    let entries = chosen();
     let long = |m: usize, n: usize| [books::head(64), books::rule(&vec![0; m], &vec![1; n])].concat();
     // sides of one letter over and over are loose, but not out of range
-    assert_eq!(unit.check(&long(64, 64)), Err((8, 0)));
-    assert_eq!(unit.check(&long(65, 64)), Err((4, 5)));
-    assert_eq!(unit.check(&long(64, 65)), Err((4, 5)));
+    assert_eq!(entries.check(&long(64, 64)), Err((8, 0)));
+    assert_eq!(entries.check(&long(65, 64)), Err((4, 5)));
+    assert_eq!(entries.check(&long(64, 65)), Err((4, 5)));
     let mut many = books::head(64);
     for i in 0..32 {
         many.extend(books::rule(&[2 * i], &[2 * i + 1]));
     }
-    assert_eq!(unit.check(&many), Ok(32));
+    assert_eq!(entries.check(&many), Ok(32));
     let place = many.len() as u64;
     many.extend(books::rule(&[0], &[1]));
-    assert_eq!(unit.check(&many), Err((6, place)));
+    assert_eq!(entries.check(&many), Err((6, place)));
     let run = vec![0; 4_097];
-    assert_eq!(unit.compare(&book("abdc = cadb"), &run[1..], &run[1..], u32::MAX), Ok(Compared::Same(4_096)));
-    assert_eq!(unit.compare(&book("abdc = cadb"), &run, &run, u32::MAX), Err((9, 0)));
-    assert_eq!(unit.compare(&book("abdc = cadb"), &run[1..], &run, u32::MAX), Err((9, 5_000)));
+    assert_eq!(entries.compare(&book("abdc = cadb"), &run[1..], &run[1..], u32::MAX), Ok(Compared::Same(4_096)));
+    assert_eq!(entries.compare(&book("abdc = cadb"), &run, &run, u32::MAX), Err((9, 0)));
+    assert_eq!(entries.compare(&book("abdc = cadb"), &run[1..], &run, u32::MAX), Err((9, 5_000)));
 }
 
 #[test]

@@ -1,21 +1,31 @@
-//! Document 01's example book Q, through every function of the library: `cargo run --offline --release -p vanecitron --example compare`.
+//! The specification's example, book Q, through every function of the library: `cargo run --offline --release -p vanecitron --example compare`.
 
-use vanecitron::{ample_allowance, check, compare, cut_sheet, program, round, Refusal};
+use std::error::Error;
 
-fn main() -> Result<(), Refusal> {
-    // four letters, and the relation abdc = cadb
-    let book = [1, 0, 1, 0, 4, 10, 0, 2, 0, 4, 4, 0, 1, 3, 2, 2, 0, 3, 1];
-    println!("relations: {}", check(&book)?);
-    let sheet = cut_sheet(&book)?;
-    println!("cuts: {sheet:?}");
+use vanecitron::{ample_allowance, check, compare, cut_sheet, cut_sheet_into, program, round, BookWriter, BOOK, SHEET};
+
+fn main() -> Result<(), Box<dyn Error>> {
+    // abdc and cadb over four letters
     let (u, v) = ([0, 1, 3, 2], [2, 0, 3, 1]);
-    println!("first round: {:?}", round(&book, &u, &v, &[])?);
-    println!("comparison: {:?}", compare(&book, &u, &v, ample_allowance(&sheet, u.len()))?);
-    let question = [16, 0, 3, 0, 100, 0, 0, 0, 4, 0, 4, 0, 0, 1, 3, 2, 2, 0, 3, 1];
-    print!("{}", String::from_utf8_lossy(&program(&[&book[..], &question].concat())?));
-    match compare(&book, &u, &v, 1) {
+    let mut lent = [0; BOOK];
+    let mut writer = BookWriter::new(&mut lent, 4)?;
+    writer.rule(&u, &v)?;
+    let book = writer.bytes();
+
+    println!("rules: {}", check(book)?);
+    println!("cuts: {:?}", cut_sheet(book)?);
+    println!("first round: {:?}", round(book, &u, &v, &[])?);
+
+    let mut sheet = [0; SHEET];
+    let rules = cut_sheet_into(book, &mut sheet)?;
+    let allowance = ample_allowance(&sheet[..6 * rules], u.len());
+    println!("comparison within {allowance} rounds: {:?}", compare(book, &u, &v, allowance)?);
+    match compare(book, &u, &v, 1) {
         Err(refusal) => println!("with an allowance of 1: {refusal}"),
         Ok(answer) => println!("with an allowance of 1: {answer:?}"),
     }
+
+    writer.comparison(100, &u, &v)?;
+    print!("{}", String::from_utf8_lossy(&program(writer.bytes())?));
     Ok(())
 }

@@ -1,29 +1,71 @@
 //! Safe Rust functions over the proved library: the C(4) check of a book, its cut sheet, the comparison of two runs, one single round of it, and the
 //! whole program as bytes to bytes.
 //!
-//! A step is a code below the book's number of letters; a run is a slice of steps. A book is given as bytes (document 01, "Book bytes").
-//! Every call is reentrant. The functions whose names end in `_into` write to buffers that the caller lends and allocate nothing; the others allocate
-//! what they give back. A refusal leaves every lent byte as it was.
+//! A step is a byte below the book's number of letters; a run is a slice of steps; a rule has two sides, which are runs. A book is given as bytes
+//! (docs/SPECIFICATION.md, "Book bytes"), which [`BookWriter`] writes.
+//!
+//! Every call is reentrant, and a refusal leaves every lent byte as it was. Every call checks its book again, since nothing is kept between calls: under
+//! a microsecond for a book of one rule with sides of 4 steps, 5 microseconds for one with sides of 64, and 1.4 milliseconds for a full book, 32 such rules
+//! (docs/DECISIONS.md, "Cost grows"). [`program_into`] checks its book once for all comparisons of its input.
+//!
+//! The crate needs `core` alone. The functions whose names end in `_into` write to buffers that the caller lends; those that allocate what they give back
+//! come with the feature `alloc`, which is on unless it is turned off.
+//!
+//! ```
+//! use vanecitron::{ample_allowance, compare, cut_sheet_into, BookWriter, Comparison, BOOK, SHEET};
+//!
+//! // four letters, and the rule abdc = cadb
+//! let mut bytes = [0; BOOK];
+//! let mut book = BookWriter::new(&mut bytes, 4)?;
+//! book.rule(&[0, 1, 3, 2], &[2, 0, 3, 1])?;
+//!
+//! // an allowance that no comparison of a first run of 7 steps spends
+//! let mut sheet = [0; SHEET];
+//! let rules = cut_sheet_into(book.bytes(), &mut sheet)?;
+//! let allowance = ample_allowance(&sheet[..6 * rules], 7);
+//! assert_eq!(allowance, 21);
+//!
+//! // cadbadb and abdabdc are joined by a chain of exchanges; cadbadb and abdabda are not
+//! let u = [2, 0, 3, 1, 0, 3, 1];
+//! assert_eq!(compare(book.bytes(), &u, &[0, 1, 3, 0, 1, 3, 2], allowance)?, Comparison::Same { rounds: 3 });
+//! assert!(matches!(compare(book.bytes(), &u, &[0, 1, 3, 0, 1, 3, 0], allowance)?, Comparison::Different { .. }));
+//! # Ok::<(), Box<dyn std::error::Error>>(())
+//! ```
 
+#![no_std]
+
+#[cfg(feature = "alloc")]
+extern crate alloc;
+
+mod book;
+#[cfg(feature = "alloc")]
+mod owned;
 mod raw;
 mod refusal;
 
-pub use refusal::{Reason, Refusal};
+pub use book::{BookWriter, NoRoom, BOOK};
+#[cfg(feature = "alloc")]
+pub use owned::{cut_sheet, program, round, Cut, Round};
+pub use refusal::{Place, Reason, Refusal, Run, PLACE_SPACING};
 
 /// The most letters of a book.
 pub const LETTERS: usize = 64;
-/// The most relations (rules) of a book.
-pub const RELATIONS: usize = 32;
-/// The most letters of a relation word (side).
+/// The most rules of a book.
+pub const RULES: usize = 32;
+/// The most steps of a side.
 pub const SIDE: usize = 64;
-/// The most letters of a word (run) that is compared.
-pub const COMPARED: usize = 4_096;
-/// The most letters of the single round's u and v.
-pub const ROUND_WORD: usize = 4_160;
-/// The most letters of the single round's p.
+/// The most steps of a run that is compared.
+pub const RUN: usize = 4_096;
+/// The most steps of the single round's u and v.
+pub const ROUND_RUN: usize = 4_160;
+/// The most steps of the single round's p.
 pub const ROUND_MARK: usize = 64;
+/// The most rounds that an allowance can give.
+pub const ALLOWANCE: u32 = 4_294_967_295;
+/// The least size of the buffer lent for the cut sheet of any book; six bytes a rule are enough for one.
+pub const SHEET: usize = 192;
 /// The least size of the buffers lent for the next u and the next v.
-pub const NEXT_WORD: usize = 4_224;
+pub const NEXT_RUN: usize = 4_224;
 /// The least size of the buffer lent for the next p.
 pub const NEXT_MARK: usize = 64;
 /// The most bytes of the program's input.
@@ -31,18 +73,10 @@ pub const INPUT: usize = 60_000;
 /// The least size of the buffer lent for the program's output.
 pub const OUTPUT: usize = 110_022;
 
-/// The lengths of the three parts of a relation word: X, its longest front that is a piece, Z, its longest end that is a piece, and Y, the rest.
-#[derive(Debug, Clone, Copy, PartialEq, Eq, Hash)]
-pub struct Cut {
-    pub x: u8,
-    pub y: u8,
-    pub z: u8,
-}
-
 /// A comparison's answer, with the count of rounds.
 #[derive(Debug, Clone, Copy, PartialEq, Eq, Hash)]
 pub enum Comparison {
-    /// a chain of exchanges joins the two words
+    /// a chain of exchanges joins the two runs
     Same { rounds: u64 },
     /// no chain joins them
     Different { rounds: u64 },
@@ -56,55 +90,72 @@ pub enum RoundLengths {
     Next { u: usize, v: usize, p: usize },
 }
 
-/// What a single round gives: the end, or the next u, v and p.
-#[derive(Debug, Clone, PartialEq, Eq, Hash)]
-pub enum Round {
-    Same,
-    Different,
-    Next { u: Vec<u8>, v: Vec<u8>, p: Vec<u8> },
+/// The version of the archive that is linked: 10,000 times the first part, 100 times the second, and the third.
+///
+/// ```
+/// let parts = [env!("CARGO_PKG_VERSION_MAJOR"), env!("CARGO_PKG_VERSION_MINOR"), env!("CARGO_PKG_VERSION_PATCH")];
+/// let [major, minor, patch] = parts.map(|part| part.parse::<u32>().unwrap());
+/// assert_eq!(vanecitron::version(), 10_000 * major + 100 * minor + patch);
+/// ```
+pub fn version() -> u32 {
+    raw::version()
 }
 
-/// The number of relations of a book that is accepted: well-formed, no side twice, and C(4).
+/// The number of rules of a book that is accepted: well-formed, within the limits, no side twice, and C(4).
+///
+/// ```
+/// use vanecitron::{check, Place, Reason};
+///
+/// // four letters and no rules; then the rule a = aa, which is loose
+/// assert_eq!(check(&[1, 0, 1, 0, 4]), Ok(0));
+/// let refusal = check(&[1, 0, 1, 0, 4, 5, 0, 2, 0, 1, 2, 0, 0, 0]).unwrap_err();
+/// assert_eq!((refusal.reason, refusal.place), (Reason::Loose, Place::Side(0)));
+/// ```
 pub fn check(book: &[u8]) -> Result<usize, Refusal> {
     let result = raw::check(book);
     refusal::none(result.refusal, result.place)?;
-    Ok(result.relations as usize)
+    Ok(result.rules as usize)
 }
 
-/// Writes the lengths of X, Y and Z of each side in order, three bytes a side, and gives the number of relations.
-/// Bytes beyond three times the number of sides are untouched.
+/// Writes the lengths of X, Y and Z of each side in order, three bytes a side, and gives the number of rules.
+/// X is the longest front of the side that is a piece, Z its longest end that is one, and Y the rest. Bytes behind them are untouched.
 pub fn cut_sheet_into(book: &[u8], sheet: &mut [u8]) -> Result<usize, Refusal> {
     let result = raw::cut_sheet(book, sheet);
     refusal::none(result.refusal, result.place)?;
-    Ok(result.relations as usize)
+    Ok(result.rules as usize)
 }
 
-/// The cut of each side in order.
-pub fn cut_sheet(book: &[u8]) -> Result<Vec<Cut>, Refusal> {
-    let mut sheet = [0; 6 * RELATIONS];
-    let relations = cut_sheet_into(book, &mut sheet)?;
-    Ok(sheet[..6 * relations].chunks_exact(3).map(|side| Cut { x: side[0], y: side[1], z: side[2] }).collect())
+/// An allowance that no comparison of a first run of this length uses up: (k + 2) times the length, where k is the longest Z of the sheet, which is
+/// given as its bytes. Plain Rust, outside the proof.
+pub fn ample_allowance(sheet: &[u8], first_length: usize) -> u32 {
+    let k = sheet.chunks_exact(3).map(|side| side[2] as u64).max().unwrap_or(0);
+    u32::try_from((k + 2).saturating_mul(first_length as u64)).unwrap_or(ALLOWANCE)
 }
 
-/// An allowance that no comparison of a first word of this length uses up: (k + 2) times the length, where k is the longest Z of the sheet.
-/// Plain Rust, outside the proof.
-pub fn ample_allowance(sheet: &[Cut], first_length: usize) -> u32 {
-    let k = sheet.iter().map(|cut| cut.z as u64).max().unwrap_or(0);
-    u32::try_from((k + 2) * first_length as u64).unwrap_or(u32::MAX)
-}
-
-/// Compares two words under a book with an allowance of rounds.
+/// Compares two runs under a book with an allowance of rounds.
+///
+/// ```
+/// use vanecitron::{compare, Comparison, Place, Reason};
+///
+/// // no rules: only equal runs are joined, with a round for each step
+/// let book = [1, 0, 1, 0, 4];
+/// assert_eq!(compare(&book, &[0, 1], &[0, 1], 2), Ok(Comparison::Same { rounds: 2 }));
+/// assert_eq!(compare(&book, &[0], &[1], 2), Ok(Comparison::Different { rounds: 0 }));
+/// let refusal = compare(&book, &[0, 1], &[0, 1], 1).unwrap_err();
+/// assert_eq!((refusal.reason, refusal.place), (Reason::Spent, Place::Rounds(1)));
+/// ```
 pub fn compare(book: &[u8], u: &[u8], v: &[u8], allowance: u32) -> Result<Comparison, Refusal> {
     let result = raw::compare(book, u, v, allowance);
     refusal::none(result.refusal, result.place)?;
     match result.outcome {
         raw::SAME => Ok(Comparison::Same { rounds: result.rounds }),
-        _ => Ok(Comparison::Different { rounds: result.rounds }),
+        raw::DIFFERENT => Ok(Comparison::Different { rounds: result.rounds }),
+        other => another_archive(other),
     }
 }
 
 /// One round from u, v and the front mark p; the next ones are written at the start of the three buffers.
-/// They have at least `NEXT_WORD`, `NEXT_WORD` and `NEXT_MARK` bytes; an end writes nothing.
+/// They have at least [`NEXT_RUN`], `NEXT_RUN` and [`NEXT_MARK`] bytes; an end writes nothing.
 pub fn round_into(
     book: &[u8],
     u: &[u8],
@@ -118,37 +169,20 @@ pub fn round_into(
     refusal::none(result.refusal, result.place)?;
     match result.outcome {
         raw::SAME => Ok(RoundLengths::Same),
+        raw::DIFFERENT => Ok(RoundLengths::Different),
         raw::NEXT => Ok(RoundLengths::Next { u: result.u_length as usize, v: result.v_length as usize, p: result.p_length as usize }),
-        _ => Ok(RoundLengths::Different),
+        other => another_archive(other),
     }
 }
 
-/// One round from u, v and the front mark p.
-pub fn round(book: &[u8], u: &[u8], v: &[u8], p: &[u8]) -> Result<Round, Refusal> {
-    let (mut next_u, mut next_v, mut next_p) = (vec![0; NEXT_WORD], vec![0; NEXT_WORD], vec![0; NEXT_MARK]);
-    match round_into(book, u, v, p, &mut next_u, &mut next_v, &mut next_p)? {
-        RoundLengths::Same => Ok(Round::Same),
-        RoundLengths::Different => Ok(Round::Different),
-        RoundLengths::Next { u, v, p } => {
-            next_u.truncate(u);
-            next_v.truncate(v);
-            next_p.truncate(p);
-            Ok(Round::Next { u: next_u, v: next_v, p: next_p })
-        }
-    }
-}
-
-/// Writes the program's whole output for an input and gives its length. The buffer has at least `OUTPUT` bytes.
+/// Writes the program's whole output for an input and gives its length. The buffer has at least [`OUTPUT`] bytes.
 pub fn program_into(input: &[u8], output: &mut [u8]) -> Result<usize, Refusal> {
     let result = raw::program(input, output);
     refusal::none(result.refusal, result.place)?;
     Ok(result.length as usize)
 }
 
-/// The program's whole output for an input.
-pub fn program(input: &[u8]) -> Result<Vec<u8>, Refusal> {
-    let mut output = vec![0; OUTPUT];
-    let length = program_into(input, &mut output)?;
-    output.truncate(length);
-    Ok(output)
+/// The archive of this version has no such outcome, so none is made up for it.
+fn another_archive(outcome: u32) -> ! {
+    panic!("outcome {outcome}: the archive that is linked is not of this crate's version")
 }

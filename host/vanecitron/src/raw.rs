@@ -1,36 +1,42 @@
 //! The C functions of the proved library and the only unsafe code: each slice passes as its pointer and its length.
 
+use core::mem::{offset_of, size_of};
+
+// What a round or a comparison says. A refused result says 0, which is none of these.
 pub const SAME: u32 = 1;
-pub const NEXT: u32 = 2;
+pub const DIFFERENT: u32 = 2;
+/// Of a round alone: it went on.
+pub const NEXT: u32 = 3;
 
 /// Of the check and of the cut sheet.
 #[repr(C)]
 pub struct CheckResult {
     pub refusal: u32,
     pub place: u64,
-    pub relations: u64,
+    pub rules: u64,
 }
 
+/// Of a single round.
 #[repr(C)]
 pub struct RoundResult {
     pub refusal: u32,
     pub place: u64,
-    /// 0 different, 1 same, 2 next
     pub outcome: u32,
     pub u_length: u64,
     pub v_length: u64,
     pub p_length: u64,
 }
 
+/// Of a comparison.
 #[repr(C)]
 pub struct CompareResult {
     pub refusal: u32,
     pub place: u64,
-    /// 0 different, 1 same
     pub outcome: u32,
     pub rounds: u64,
 }
 
+/// Of the program.
 #[repr(C)]
 pub struct ProgramResult {
     pub refusal: u32,
@@ -38,7 +44,33 @@ pub struct ProgramResult {
     pub length: u64,
 }
 
+// The structs lie in memory as the archive has them; the C header asserts the same numbers.
+const _: () = {
+    assert!(size_of::<usize>() == 8);
+    assert!(size_of::<CheckResult>() == 24);
+    assert!(offset_of!(CheckResult, refusal) == 0);
+    assert!(offset_of!(CheckResult, place) == 8);
+    assert!(offset_of!(CheckResult, rules) == 16);
+    assert!(size_of::<RoundResult>() == 48);
+    assert!(offset_of!(RoundResult, refusal) == 0);
+    assert!(offset_of!(RoundResult, place) == 8);
+    assert!(offset_of!(RoundResult, outcome) == 16);
+    assert!(offset_of!(RoundResult, u_length) == 24);
+    assert!(offset_of!(RoundResult, v_length) == 32);
+    assert!(offset_of!(RoundResult, p_length) == 40);
+    assert!(size_of::<CompareResult>() == 32);
+    assert!(offset_of!(CompareResult, refusal) == 0);
+    assert!(offset_of!(CompareResult, place) == 8);
+    assert!(offset_of!(CompareResult, outcome) == 16);
+    assert!(offset_of!(CompareResult, rounds) == 24);
+    assert!(size_of::<ProgramResult>() == 24);
+    assert!(offset_of!(ProgramResult, refusal) == 0);
+    assert!(offset_of!(ProgramResult, place) == 8);
+    assert!(offset_of!(ProgramResult, length) == 16);
+};
+
 extern "C" {
+    fn vanecitron_version() -> u32;
     fn vanecitron_check(book: *const u8, book_length: usize) -> CheckResult;
     fn vanecitron_cut_sheet(book: *const u8, book_length: usize, sheet: *mut u8, sheet_length: usize) -> CheckResult;
     fn vanecitron_round(
@@ -71,6 +103,11 @@ extern "C" {
 
 // Each call below passes slices that live through the call, the lent ones by unique borrow, as pointer and length of the same slice;
 // the functions keep none of them.
+
+pub fn version() -> u32 {
+    // SAFETY: it is given nothing
+    unsafe { vanecitron_version() }
+}
 
 pub fn check(book: &[u8]) -> CheckResult {
     // SAFETY: as said above

@@ -1,31 +1,33 @@
-//! Refusals as an ordinary Rust error (document 01, "Refusals by number").
+//! Refusals as an ordinary Rust error (docs/SPECIFICATION.md, "Refusals by number").
 
-use std::error::Error;
-use std::fmt;
+use core::fmt;
+
+/// How far apart the places of the given runs lie in refusals 9 and 10.
+pub const PLACE_SPACING: u64 = 5_000;
 
 /// Why a call was refused.
 #[derive(Debug, Clone, Copy, PartialEq, Eq, Hash)]
 #[non_exhaustive]
 pub enum Reason {
-    /// 1: the bytes end inside a record, or the book is empty
+    /// 1: the bytes end inside a record, or there is no book
     Short,
-    /// 2: the first record is no head, or a later one no rule
+    /// 2: the first record is no head, or a later one is no rule
     Kind,
-    /// 3: a length does not fit its record
+    /// 3: a record's length does not fit it
     Length,
-    /// 4: a number is outside its range
+    /// 4: the number of letters, or of the steps of a side, is outside its range
     Range,
-    /// 5: a side has a letter that the book does not have
+    /// 5: a side has a step that is not below the number of letters
     UnknownStep,
-    /// 6: a 33rd relation
+    /// 6: there is a rule too many
     Thick,
     /// 7: a side equals an earlier side
     Twice,
-    /// 8: C(4) fails
+    /// 8: C(4) fails, since a side is a product of three or fewer pieces
     Loose,
-    /// 9: a given word is over its limit
+    /// 9: a given run is over its limit
     Long,
-    /// 10: a given word has a letter that the book does not have
+    /// 10: a given run has a step that is not below the number of letters
     Stranger,
     /// 11: another round was due and the allowance was used up
     Spent,
@@ -37,65 +39,178 @@ pub enum Reason {
     Other(u32),
 }
 
-const KNOWN: [(Reason, &str); 13] = [
-    (Reason::Short, "short"),
-    (Reason::Kind, "kind"),
-    (Reason::Length, "length"),
-    (Reason::Range, "range"),
-    (Reason::UnknownStep, "unknown step"),
-    (Reason::Thick, "thick"),
-    (Reason::Twice, "twice"),
-    (Reason::Loose, "loose"),
-    (Reason::Long, "long"),
-    (Reason::Stranger, "stranger"),
-    (Reason::Spent, "spent"),
-    (Reason::Narrow, "narrow"),
-    (Reason::Heavy, "heavy"),
+/// Each reason with the specification's word for it and an explanation, by number from 1 on; the C header has the same.
+const KNOWN: [(Reason, &str, &str); 13] = [
+    (Reason::Short, "short", "the bytes end inside a record, or there is no book"),
+    (Reason::Kind, "kind", "the first record is no head, or a later one is no rule"),
+    (Reason::Length, "length", "a record's length does not fit it"),
+    (Reason::Range, "range", "the number of letters, or of the steps of a side, is outside its range"),
+    (Reason::UnknownStep, "unknown step", "a side has a step that is not below the number of letters"),
+    (Reason::Thick, "thick", "there is a rule too many"),
+    (Reason::Twice, "twice", "a side equals an earlier side"),
+    (Reason::Loose, "loose", "C(4) fails, since a side is a product of three or fewer pieces"),
+    (Reason::Long, "long", "a given run is over its limit"),
+    (Reason::Stranger, "stranger", "a given run has a step that is not below the number of letters"),
+    (Reason::Spent, "spent", "another round was due and the allowance was used up"),
+    (Reason::Narrow, "narrow", "a lent buffer is too small"),
+    (Reason::Heavy, "heavy", "the program's input is over its limit"),
 ];
 
 impl Reason {
-    /// The reason with this number of document 01.
+    /// The reason with this number.
     pub fn from_number(number: u32) -> Reason {
         match KNOWN.get((number as usize).wrapping_sub(1)) {
-            Some((reason, _)) => *reason,
+            Some((reason, _, _)) => *reason,
             None => Reason::Other(number),
         }
     }
 
-    /// Document 01's number.
+    /// The specification's number.
     pub fn number(self) -> u32 {
         match self {
             Reason::Other(number) => number,
-            known => 1 + KNOWN.iter().position(|(reason, _)| *reason == known).expect("every known reason is listed") as u32,
+            known => 1 + KNOWN.iter().position(|(reason, _, _)| *reason == known).expect("every known reason is listed") as u32,
         }
     }
 
-    /// Document 01's word.
+    /// The specification's word.
     pub fn word(self) -> &'static str {
-        KNOWN.iter().find(|(reason, _)| *reason == self).map_or("refused", |(_, word)| word)
+        self.known().map_or("refused", |(_, word, _)| word)
+    }
+
+    /// What it means.
+    pub fn text(self) -> &'static str {
+        self.known().map_or("a refusal that this version does not know", |(_, _, text)| text)
+    }
+
+    fn known(self) -> Option<&'static (Reason, &'static str, &'static str)> {
+        KNOWN.iter().find(|(reason, _, _)| *reason == self)
     }
 }
 
-/// A refusal is its number and place: a byte for reasons 1 to 6, a side for 7 and 8, 5,000 times the word's number plus a position for 9 and 10,
-/// the rounds done for 11, the buffer's number for 12.
+/// The runs that a call is given; their numbers in a place are 0, 1 and 2.
+#[derive(Debug, Clone, Copy, PartialEq, Eq, Hash)]
+pub enum Run {
+    U,
+    V,
+    /// the front mark of a single round
+    P,
+}
+
+/// Where a call was refused. What kind of place it is follows from the reason.
+#[derive(Debug, Clone, Copy, PartialEq, Eq, Hash)]
+#[non_exhaustive]
+pub enum Place {
+    /// Reasons 1 to 6: the first byte of the record at fault, counted from the start of the book.
+    Byte(u64),
+    /// Reasons 7 and 8: the side at fault; rule `i`, counted from 0, has the sides `2 * i`, its left one, and `2 * i + 1`.
+    Side(u64),
+    /// Reason 9: the run that is too long.
+    Run(Run),
+    /// Reason 10: the first step at fault, by its run and its position there, counted from 0.
+    Step { run: Run, position: u64 },
+    /// Reason 11: the rounds done.
+    Rounds(u64),
+    /// Reason 12: the buffer that is too small, counted from 0 in the order of the call.
+    Buffer(u64),
+    /// Reason 13: the most bytes of an input.
+    Limit(u64),
+    /// The place of a reason that this version does not know.
+    Other(u64),
+}
+
+impl Place {
+    /// The place of a refusal for this reason, from the specification's number for it.
+    pub fn from_number(reason: Reason, place: u64) -> Place {
+        let run = match place / PLACE_SPACING {
+            0 => Some(Run::U),
+            1 => Some(Run::V),
+            2 => Some(Run::P),
+            _ => None,
+        };
+        match (reason, run) {
+            (Reason::Short | Reason::Kind | Reason::Length | Reason::Range | Reason::UnknownStep | Reason::Thick, _) => Place::Byte(place),
+            (Reason::Twice | Reason::Loose, _) => Place::Side(place),
+            (Reason::Long, Some(run)) => Place::Run(run),
+            (Reason::Stranger, Some(run)) => Place::Step { run, position: place % PLACE_SPACING },
+            (Reason::Spent, _) => Place::Rounds(place),
+            (Reason::Narrow, _) => Place::Buffer(place),
+            (Reason::Heavy, _) => Place::Limit(place),
+            (Reason::Long | Reason::Stranger | Reason::Other(_), _) => Place::Other(place),
+        }
+    }
+
+    /// The specification's number.
+    pub fn number(self) -> u64 {
+        match self {
+            Place::Run(run) => PLACE_SPACING * run as u64,
+            Place::Step { run, position } => PLACE_SPACING * run as u64 + position,
+            Place::Byte(number)
+            | Place::Side(number)
+            | Place::Rounds(number)
+            | Place::Buffer(number)
+            | Place::Limit(number)
+            | Place::Other(number) => number,
+        }
+    }
+}
+
+impl fmt::Display for Run {
+    fn fmt(&self, f: &mut fmt::Formatter<'_>) -> fmt::Result {
+        f.write_str(match self {
+            Run::U => "u",
+            Run::V => "v",
+            Run::P => "p",
+        })
+    }
+}
+
+impl fmt::Display for Place {
+    fn fmt(&self, f: &mut fmt::Formatter<'_>) -> fmt::Result {
+        match self {
+            Place::Byte(byte) => write!(f, "byte {byte}"),
+            Place::Side(side) => write!(f, "side {side}"),
+            Place::Run(run) => write!(f, "run {run}"),
+            Place::Step { run, position } => write!(f, "run {run}, position {position}"),
+            Place::Rounds(rounds) => write!(f, "rounds done: {rounds}"),
+            Place::Buffer(buffer) => write!(f, "buffer {buffer}"),
+            Place::Limit(bytes) => write!(f, "at most {bytes} bytes"),
+            Place::Other(place) => write!(f, "place {place}"),
+        }
+    }
+}
+
+/// A refusal: why, and where.
+///
+/// ```
+/// use vanecitron::{compare, Place, Reason, Run};
+///
+/// // four letters and no rules; the second run has a step 9
+/// let refusal = compare(&[1, 0, 1, 0, 4], &[0, 1], &[0, 1, 9], 100).unwrap_err();
+/// assert_eq!(refusal.reason, Reason::Stranger);
+/// assert_eq!(refusal.place, Place::Step { run: Run::V, position: 2 });
+/// assert_eq!((refusal.reason.number(), refusal.place.number()), (10, 5_002));
+/// assert_eq!(refusal.to_string(), "stranger: a given run has a step that is not below the number of letters (run v, position 2)");
+/// ```
 #[derive(Debug, Clone, Copy, PartialEq, Eq, Hash)]
 pub struct Refusal {
     pub reason: Reason,
-    pub place: u64,
+    pub place: Place,
 }
 
 impl fmt::Display for Refusal {
     fn fmt(&self, f: &mut fmt::Formatter<'_>) -> fmt::Result {
-        write!(f, "refused {} {} ({})", self.reason.number(), self.place, self.reason.word())
+        write!(f, "{}: {} ({})", self.reason.word(), self.reason.text(), self.place)
     }
 }
 
-impl Error for Refusal {}
+impl core::error::Error for Refusal {}
 
 /// Nothing where the library's number is 0, else the refusal.
 pub(crate) fn none(number: u32, place: u64) -> Result<(), Refusal> {
-    match number {
-        0 => Ok(()),
-        number => Err(Refusal { reason: Reason::from_number(number), place }),
-    }
+    let reason = match number {
+        0 => return Ok(()),
+        number => Reason::from_number(number),
+    };
+    Err(Refusal { reason, place: Place::from_number(reason, place) })
 }

@@ -1,0 +1,85 @@
+//! What the wrapper adds to the archive: typed places and reasons, and the writer of books with its bounds.
+
+use vanecitron::{check, BookWriter, NoRoom, Place, Reason, Run, BOOK, RULES, SIDE};
+
+/// Book Q and the comparison abdc, cadb with the allowance 100, as the specification writes their bytes ("The program").
+const EXAMPLE: [u8; 39] = [
+    0x01, 0x00, 0x01, 0x00, 0x04, 0x0a, 0x00, 0x02, 0x00, 0x04, 0x04, 0x00, 0x01, 0x03, 0x02, 0x02, 0x00, 0x03, 0x01, 0x10, 0x00, 0x03, 0x00, 0x64,
+    0x00, 0x00, 0x00, 0x04, 0x00, 0x04, 0x00, 0x00, 0x01, 0x03, 0x02, 0x02, 0x00, 0x03, 0x01,
+];
+
+fn example(lent: &mut [u8]) -> Result<usize, NoRoom> {
+    let mut book = BookWriter::new(lent, 4)?;
+    book.rule(&[0, 1, 3, 2], &[2, 0, 3, 1])?;
+    book.comparison(100, &[0, 1, 3, 2], &[2, 0, 3, 1])?;
+    Ok(book.bytes().len())
+}
+
+#[test]
+fn the_writer_keeps_within_its_buffer() {
+    for room in 0..EXAMPLE.len() + 2 {
+        let mut bytes = [0xa5; EXAMPLE.len() + 8];
+        let written = example(&mut bytes[..room]);
+        if room < EXAMPLE.len() {
+            assert_eq!(written, Err(NoRoom), "{room}");
+        } else {
+            assert_eq!(written, Ok(EXAMPLE.len()));
+            assert_eq!(bytes[..EXAMPLE.len()], EXAMPLE);
+        }
+        assert!(bytes[room.min(EXAMPLE.len())..].iter().all(|&byte| byte == 0xa5), "{room}");
+    }
+}
+
+#[test]
+fn a_record_that_does_not_fit_writes_nothing() {
+    let mut bytes = vec![0; 5 + 4 + 65_535];
+    let steps = vec![0; 65_536];
+    let mut book = BookWriter::new(&mut bytes, 1).unwrap();
+    assert_eq!(book.rule(&steps[..256], &steps[..1]), Err(NoRoom));
+    assert_eq!(book.rule(&steps[..1], &steps[..256]), Err(NoRoom));
+    assert_eq!(book.comparison(0, &steps, &[]), Err(NoRoom));
+    assert_eq!(book.comparison(0, &steps[..65_535 - 8], &steps[..1]), Err(NoRoom));
+    assert_eq!(book.bytes(), [1, 0, 1, 0, 1]);
+    assert_eq!(book.comparison(0, &steps[..65_535 - 8], &[]), Ok(()));
+    assert_eq!(book.bytes().len(), bytes.len());
+    let mut bytes = [0; 5 + 6 + 2 * 255];
+    let mut book = BookWriter::new(&mut bytes, 1).unwrap();
+    assert_eq!(book.rule(&steps[..255], &steps[..255]), Ok(()));
+    assert_eq!(book.bytes().len(), bytes.len());
+}
+
+/// The longest book has just the bytes that `BOOK` says: it is whole, and refused for its sides alone.
+#[test]
+fn the_longest_book_fits() {
+    let mut bytes = [0; BOOK];
+    let mut book = BookWriter::new(&mut bytes, 64).unwrap();
+    for rule in 0..RULES as u8 {
+        book.rule(&[2 * rule; SIDE], &[2 * rule + 1; SIDE]).unwrap();
+    }
+    assert_eq!(book.bytes().len(), BOOK);
+    assert_eq!(check(book.bytes()).unwrap_err().reason, Reason::Loose);
+    assert_eq!(book.rule(&[0], &[1]), Err(NoRoom));
+}
+
+#[test]
+fn reasons_and_places_have_their_numbers() {
+    for number in 0..40 {
+        let reason = Reason::from_number(number);
+        assert_eq!(reason.number(), number);
+        assert_eq!(matches!(reason, Reason::Other(_)), !(1..=13).contains(&number), "{number}");
+        for place in [0, 1, 4_999, 5_000, 5_003, 10_000, 10_063, 15_000, 60_000, u64::MAX] {
+            // the place of 9 is the start of a run
+            if reason != Reason::Long || place % 5_000 == 0 {
+                assert_eq!(Place::from_number(reason, place).number(), place, "{number} {place}");
+            }
+        }
+    }
+    assert_eq!(Place::from_number(Reason::Thick, 7), Place::Byte(7));
+    assert_eq!(Place::from_number(Reason::Twice, 7), Place::Side(7));
+    assert_eq!(Place::from_number(Reason::Long, 5_000), Place::Run(Run::V));
+    assert_eq!(Place::from_number(Reason::Stranger, 10_063), Place::Step { run: Run::P, position: 63 });
+    assert_eq!(Place::from_number(Reason::Spent, 7), Place::Rounds(7));
+    assert_eq!(Place::from_number(Reason::Narrow, 2), Place::Buffer(2));
+    assert_eq!(Place::from_number(Reason::Heavy, 60_000), Place::Limit(60_000));
+    assert_eq!(Place::from_number(Reason::Other(14), 7), Place::Other(7));
+}
