@@ -1,5 +1,5 @@
 -- The walk through the words of one letter: where each parts from the word that is compared, and that at most one X and Y stand at a place.
-use Prim.Native.Nat.{ℕ, _+_, _*_, _-_, _≤_, _<_}
+use Prim.Native.Nat.{ℕ, _+_, _-_, _≤_, _<_}
 use mathlib.Core.Bool.{Bool, true, false, cond, true≢false}
 use mathlib.Core.List.{List, _++_}
 use mathlib.Core.Path.{_≡_, refl, sym, ap, _∙_, subst}
@@ -22,7 +22,7 @@ use Rattle.overlap.proofs.Rigid.{Rigid}
 use Rattle.overlap.proofs.Facts.{length-xy}
 use Rattle.congruence.proofs.RowTests.{one-prefix}
 use Rattle.layout.specs.Places.{lettersBound, startCell, zStartCell, firstCell, orderCell, sharedCell}
-use Rattle.layout.specs.Layout.{startOf, zStartOf, part, wordAt, wordsIn, firstOf, orderOf, sharedOf, Checked}
+use Rattle.layout.specs.Layout.{startOf, zStartOf, part, wordsIn, firstOf, orderOf, sharedOf, Checked}
 use Rattle.layout.proofs.Placed.{words-length, word-part}
 use Rattle.layout.proofs.CutPlaces.{xy-span, xy-long, xy-part, checked-rigid}
 use Rattle.index.specs.declared.Meeting.{Meeting}
@@ -40,7 +40,7 @@ met-at : (text table : List ℕ) (n : ℕ) → Checked text table n → (k : ℕ
 unfolding metAt metOf
 met-at text table n c k h v = rw (xy-part text table n (c .laid) (c .cut) k h, word-part text table n k h)
 
--- where the front marker of words is rigid
+-- where the marker of words, X with the letter behind it, is rigid
 module _ (B : List Word) (g : Rigid B (xlen B) (xylen B)) where
   -- a word that shares all of its X and Y with another is that word
   pub marked : (i k : ℕ) → i < length B → k < length B → xylen B i ≤ commonPrefix (word B k) (word B i) → i ≡ k
@@ -49,7 +49,7 @@ module _ (B : List Word) (g : Rigid B (xlen B) (xylen B)) where
       let w = common-within (word B k) (word B i) in
       g .marker i k 0 (xylen B i) h l s (omega arith) (omega arith) (record { at = λ j c. let z : 0 + j ≡ j = omega arith in rw z (sym (common-at (word B k) (word B i) j (omega arith))) }) .0
 
-  -- letters in common are X and Y in front of v, and the other way
+  -- so many letters in common make X and Y a prefix of v, and the other way
   pub common-xy : (k : ℕ) (v : Word) → xylen B k ≤ commonPrefix (word B k) v → isPrefix (xyOf B k) v ≡ true
   common-xy k v h =
       let c = common-take (xylen B k) (word B k) v (omega arith) in

@@ -39,7 +39,15 @@ fn shared_under(table: &[u16], from: usize, j: usize) -> usize
 }
 
 // Relation word k is compared with the word at place q, where m letters of its X and Y are known to agree.
-fn compare_on(text: &[u8], table: &[u16], a: &[u8], b: &[u8], q: usize, k: usize, m: usize) -> Meeting
+fn compare_on(
+    text: &[u8],
+    table: &[u16],
+    a: &[u8],
+    b: &[u8],
+    q: usize,
+    k: usize,
+    m: usize,
+) -> Meeting
     requires { ⌜ Meets (now text) (now table) (now a ++ now b) q k m ⌝ }
     ensures { λ r. ⌜ r ≡ metAt (now (text .entry)) (now (table .entry)) k (drop q (now (a .entry) ++ now (b .entry))) ⌝ }
 {
@@ -107,7 +115,15 @@ fn seek(
 }
 
 // The same for all the words, where c is the letter at place q.
-fn under_letter(text: &[u8], table: &[u16], n: usize, a: &[u8], b: &[u8], q: usize, c: usize) -> usize
+fn under_letter(
+    text: &[u8],
+    table: &[u16],
+    n: usize,
+    a: &[u8],
+    b: &[u8],
+    q: usize,
+    c: usize,
+) -> usize
     requires { ⌜ AtLetter (now text) (now table) n (now a ++ now b) q c ⌝ }
     ensures { λ r. ⌜ r ≡ relationPrefixAt (wordsIn (now (text .entry)) (now (table .entry)) n) (now (a .entry) ++ now (b .entry)) q ⌝ }
 {
@@ -130,4 +146,3 @@ pub fn prefix_at(text: &[u8], table: &[u16], n: usize, a: &[u8], b: &[u8], q: us
     }
     n
 }
-

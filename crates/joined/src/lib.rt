@@ -1,6 +1,6 @@
 // A word that is given as two slices, a and b, and is a followed by b: its letters, and what a part of the text has in common with it.
 ghost use mathlib.Core.Path.{_≡_};
-ghost use Prim.Native.Nat.{_+_, _-_, _<_, _≤_, min};
+ghost use Prim.Native.Nat.{_+_, _-_, _<_};
 ghost use mathlib.Core.List.{_++_};
 ghost use lib.ListN.{length, getD, drop};
 ghost use Rattle.words.specs.Words.{isPrefix, commonPrefix};
@@ -18,6 +18,7 @@ pub fn has_place(a: &[u8], b: &[u8], q: usize) -> bool
     q - a.len() < b.len()
 }
 
+// The letter of the word at place q.
 pub fn letter_at(a: &[u8], b: &[u8], q: usize) -> u8
     requires { ⌜ q < length (now a) + length (now b) ⌝ }
     ensures { λ r. ⌜ r ≡ getD (now (a .entry) ++ now (b .entry)) q 0 ⌝ }
@@ -48,7 +49,15 @@ pub fn common_prefix_in(text: &[u8], from: usize, to: usize, s: &[u8], q: usize,
 }
 
 // How many letters of text[from..to) agree with the word at place q, where m are known to.
-pub fn common_prefix(text: &[u8], from: usize, to: usize, a: &[u8], b: &[u8], q: usize, m: usize) -> usize
+pub fn common_prefix(
+    text: &[u8],
+    from: usize,
+    to: usize,
+    a: &[u8],
+    b: &[u8],
+    q: usize,
+    m: usize,
+) -> usize
     requires { ⌜ Agreed (now text) from to (now a ++ now b) q m ⌝ }
     ensures { λ r. ⌜ r ≡ commonPrefix (part (now (text .entry)) from to) (drop q (now (a .entry) ++ now (b .entry))) ⌝ }
 {

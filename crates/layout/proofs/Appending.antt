@@ -1,5 +1,5 @@
 -- One relation word more: what a word and its fence in the text, and two numbers in the table, make of the words laid before.
-use Prim.Native.Nat.{ℕ, suc, _+_, _*_, _-_, _≤_, _<_}
+use Prim.Native.Nat.{ℕ, suc, _+_, _-_, _≤_, _<_}
 use mathlib.Core.List.{List, [], _∷_, _++_, append-assoc}
 use mathlib.Core.Path.{_≡_, refl, sym, ap, _∙_, subst}
 use mathlib.Core.Logic.{by-cases}
@@ -9,7 +9,7 @@ use native.Mathlib.Decide.{decLt}
 use borrow.Author.Needs.{needs}
 use lib.ListN.{length, getD, take, drop, set, length-append, length-drop, length-set, List·getD-append}
 use lib.Seq.{length-take-le, getD-take, getD-append-add, getD-set-same, getD-set-other, drop-cons, set-at, take-at, drop-at, paste, paste-zero, paste-suc, length-paste-head, take-length}
-use mir.Syntax.{w8}
+use mir.Syntax.{w8, w16}
 use mir.Val.{Fits}
 use Rattle.words.specs.Words.{Word}
 use Rattle.layout.specs.Places.{wordMost, textRoom, tableRoom, lettersBound, fenceOf, startCell, endCell}
@@ -232,14 +232,17 @@ module _ (word text table : List ℕ) (i : ℕ) (r : WordRoom word text table i)
     pub room-text : s + length word < length text
     room-text = omega (arith, start-low word text table i r, r .short, r .arrays .textLong)
 
-    pub room-end : s + length word < 65536
+    pub room-start : Fits w16 s
+    room-start = omega (arith, start-low word text table i r)
+
+    pub room-end : Fits w16 (s + length word)
     room-end = omega (arith, start-low word text table i r, r .short)
 
-    pub room-next : s + length word + 1 < 65536
+    pub room-next : Fits w16 (s + length word + 1)
     room-next = omega (arith, start-low word text table i r, r .short)
 
-    pub room-appended : (b : List ℕ) → b ≡ written word (fenceOf i) s text → (x y : ℕ) → x ≡ s + length word → y ≡ s + length word + 1
-        → Appended word text table i b (set (set table (endCell i) x) (startCell (i + 1)) y)
-    room-appended b f x y g h = rw (f, g, h, e) (appended word text table i r)
+    pub room-appended : (b : List ℕ) → b ≡ written word (fenceOf i) s text
+        → Appended word text table i b (set (set table (endCell i) (s + length word)) (startCell (i + 1)) (s + length word + 1))
+    room-appended b f = rw (f, e) (appended word text table i r)
 
-pub ruleset rooms = (room-read, room-fence, room-write, room-write-next, room-text, room-end, room-next, room-appended, needs)
+pub ruleset rooms = (room-read, room-fence, room-write, room-write-next, room-text, room-start, room-end, room-next, room-appended, needs)

@@ -1,7 +1,7 @@
 -- How the relation words lie in arrays. One text holds them one after the other, and behind each stands its fence, a code of its own that is no letter.
 -- A table of numbers has the positions of each word and of its cuts, and behind the last word's the length of all. Behind the positions stands an index: for
 -- each letter, where the words that begin with it are listed; the list; and how much each shares with the one before it. Places.antt says where in the table.
-use Prim.Native.Nat.{ℕ, zero, suc, _+_, _*_, _-_, _<_, _≤_}
+use Prim.Native.Nat.{ℕ, zero, suc, _+_, _-_, _<_, _≤_}
 use mathlib.Core.List.{List, [], _∷_, _++_}
 use mathlib.Core.Path.{_≡_}
 use lib.ListN.{length, getD, take, drop}

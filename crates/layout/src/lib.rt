@@ -7,7 +7,6 @@ ghost use Rattle.layout.specs.Layout.{startOf, xEndOf, zStartOf, endOf, 
 ghost use Rattle.layout.specs.Appending.{written, WordRoom, Appended};
 use limits::Head;
 use limits::Relation;
-use numbers::narrow;
 use numbers::wide16;
 
 // The text: the relation words one after the other, each with a fence behind it.
@@ -155,6 +154,6 @@ pub fn append_word(word: &[u8], text: &mut [u8], table: &mut [u16], i: usize)
     let fence = Text::LETTERS + i;
     write_word(word, text, start, fence as u8);
     let end = start + word.len();
-    table[Table::COLUMNS * i + Table::END] = narrow(end);
-    table[Table::COLUMNS * (i + 1) + Table::START] = narrow(end + 1);
+    table[Table::COLUMNS * i + Table::END] = end as u16;
+    table[Table::COLUMNS * (i + 1) + Table::START] = (end + 1) as u16;
 }

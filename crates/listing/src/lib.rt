@@ -1,8 +1,7 @@
 // The making of the index: relation words are listed by first letter, sorted within a letter, each with how many letters it shares with the one before it.
 ghost use mathlib.Core.Path.{_≡_};
-ghost use Prim.Native.Nat.{_+_, _-_, _<_, _≤_};
+ghost use Prim.Native.Nat.{_+_, _-_, _<_};
 ghost use lib.Dec.{eqb};
-ghost use lib.ListN.{length};
 ghost use Rattle.words.specs.Words.{commonPrefix};
 ghost use Rattle.layout.specs.Places.{lettersBound};
 ghost use Rattle.layout.specs.Layout.{orderOf, wordAt, KnownWord, WordPair};

@@ -4,16 +4,13 @@ use mathlib.Core.List.{List}
 use mathlib.Core.Logic.{by-cases}
 use mathlib.Core.Path.{_≡_, refl, sym, ap, _∙_, subst}
 use native.Mathlib.Omega.{arith}
-use native.Mathlib.Numerals.{add-one}
 use mir.Syntax.{w8}
 use mir.Val.{Fits}
 use native.Mathlib.Decide.{decLt, ℕ-discrete}
 use borrow.Author.Needs.{needs}
 use borrow.Author.Tests.{eq-eqb, ne-eqb}
-use lib.ListN.{length, getD, drop, set, replicate, length-set, length-replicate, getD-replicate, drop-of-length-le}
-use lib.Seq.{drop-cons, getD-set-same, getD-set-other}
-use Rattle.words.specs.Words.{commonPrefix}
-use Rattle.words.proofs.Commons.{common-empty}
+use lib.ListN.{length, getD, set, replicate, length-set, length-replicate, getD-replicate}
+use lib.Seq.{getD-set-same, getD-set-other}
 use Rattle.layout.specs.Places.{textRoom}
 use Rattle.longest.specs.Longest.{most, shared, longestAt, next, entry, PassRoom, Passed, RowOf, Ready, Advanced, Space, Tabled}
 use Rattle.longest.proofs.Shared.{shared-next, shared-past, shared-from-past}

@@ -1,7 +1,7 @@
 // The table of longest pieces: for each place of the text how many letters the longest piece there has (document 01, "Pieces, C(4) and cuts").
 // The loops know nothing of relation words: a fence stands once in the text, so no common prefix of two places goes past one.
 ghost use mathlib.Core.Path.{_≡_};
-ghost use Prim.Native.Nat.{_≤_, max};
+ghost use Prim.Native.Nat.{_≤_};
 ghost use Rattle.longest.specs.Longest.{next, PassRoom, Passed, Ready, Advanced, Space, Tabled};
 use layout::Text;
 use numbers::larger;

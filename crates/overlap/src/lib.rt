@@ -22,7 +22,7 @@ pub fn cuts_are_maximal()
     ensures { λ _. ⌜ CutsMaximal ⌝ }
 {}
 
-// Under C(4), Y is not empty and no piece, XY occurs nowhere else, and a piece in front is in X.
+// Under C(4), Y is not empty and no piece, XY occurs nowhere else, and a prefix that is a piece is a prefix of X.
 pub fn cuts_are_good()
     ensures { λ _. ⌜ CutsGood ⌝ }
 {}

@@ -1,5 +1,5 @@
 -- The cuts of the relation words: the loops that set them, and that they are the definition's.
-use Prim.Native.Nat.{ℕ, _+_, _*_, _-_, _<_, _≤_}
+use Prim.Native.Nat.{ℕ, _+_, _-_, _<_, _≤_}
 use mathlib.Core.Bool.{Bool, true, false}
 use mathlib.Core.List.{List}
 use mathlib.Core.Logic.{by-cases}
@@ -11,8 +11,7 @@ use borrow.Author.Tests.{le-leb, lt-leb}
 use lib.Dec.{leb}
 use lib.ListN.{length, getD, set, length-set}
 use lib.Seq.{getD-set-same, getD-set-other}
-use Rattle.words.specs.Search.{greatest}
-use Rattle.words.proofs.Searching.{greatest-bound, greatest-passes, greatest-last, greatest-is, greatest-same}
+use Rattle.words.proofs.Searching.{greatest-bound, greatest-is, greatest-same}
 use Rattle.overlap.specs.Cuts.{pieceAt, xlen, zlen}
 use Rattle.layout.specs.Places.{startCell, xEndCell, zStartCell, endCell}
 use Rattle.layout.specs.Layout.{Laid, Cut, wordsIn, startOf, xEndOf, zStartOf, endOf}

@@ -1,5 +1,5 @@
 -- Common prefixes of two places of a fenced text never cross a fence, so they are the factors that two places of the relation words share.
-use Prim.Native.Nat.{ℕ, zero, suc, _+_, _-_, _<_, _≤_}
+use Prim.Native.Nat.{ℕ, _+_, _-_, _<_, _≤_}
 use mathlib.Core.Bool.{Bool, true, false, _&&_, true≢false, false≢true, and-eq-true-iff}
 use mathlib.Core.List.{List}
 use mathlib.Core.Logic.{by-cases}
@@ -12,7 +12,6 @@ use lib.ListN.{length, getD, take, drop, length-drop}
 use lib.Seq.{getD-take, getD-drop, length-take-le}
 use Rattle.words.specs.Search.{anyBelow}
 use Rattle.words.proofs.Tests.{false-of}
-use Rattle.words.proofs.Commons.{common-within, common-at, common-most}
 use Rattle.words.proofs.Prefixes.{prefix-at, at-prefix, prefix-length}
 use Rattle.words.proofs.Searching.{any-of, any-none}
 use Rattle.overlap.specs.Pieces.{word}

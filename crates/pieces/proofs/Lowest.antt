@@ -1,16 +1,15 @@
 -- The lowest relation word that is a product of three or fewer pieces: the loop, and what the table of longest pieces says of the words.
-use Prim.Native.Nat.{ℕ, zero, suc, _+_, _-_, _<_, _≤_}
+use Prim.Native.Nat.{ℕ, _+_, _-_, _<_, _≤_}
 use mathlib.Core.Bool.{Bool, true, false, _&&_}
 use mathlib.Core.List.{List}
 use mathlib.Core.Logic.{by-cases}
-use mathlib.Core.Path.{_≡_, refl, sym, ap, _∙_, subst}
+use mathlib.Core.Path.{_≡_, sym, ap, _∙_, subst}
 use native.Mathlib.Omega.{arith}
 use native.Mathlib.Decide.{decLe}
 use borrow.Author.Needs.{needs}
 use borrow.Author.Tests.{lt-leb}
 use lib.Dec.{leb}
 use lib.ListN.{length}
-use Rattle.words.specs.Search.{anyBelow, least}
 use Rattle.words.proofs.Searching.{NoneBelow, none-start, none-more, any-same, least-is, least-none, least-same}
 use Rattle.overlap.specs.Cuts.{pieceAt, three, loose, firstLoose}
 use Rattle.layout.specs.Places.{startCell, endCell}

@@ -12,7 +12,7 @@ use Rattle.overlap.specs.Cuts.{firstLoose}
 use Rattle.overlap.specs.Verdict.{judge, firstRepeated}
 use Rattle.overlap.specs.Verdict.Verdict.{repeated, loose}
 use Rattle.overlap.proofs.Verdicts.{judge-accepts-iff-c4}
-use Rattle.layout.specs.Places.{startCell, textRoom}
+use Rattle.layout.specs.Places.{textRoom}
 use Rattle.layout.specs.Layout.{Laid, wordsIn, startOf, endOf}
 use Rattle.layout.proofs.Parts.{part-of-take}
 use Rattle.layout.proofs.Placed.{words-length, end-before}

@@ -5,8 +5,7 @@ use mathlib.Core.Path.{_≡_, refl, sym, ap, _∙_, subst}
 use native.Mathlib.Omega.{arith}
 use borrow.Author.Needs.{needs}
 use borrow.Author.Tests.{le-leb, lt-leb}
-use lib.ListN.{length, getD, set, length-append, length-set}
-use lib.Seq.{getD-set-same}
+use lib.ListN.{length, set, length-append, length-set}
 use Rattle.words.specs.Relations.{Relation, relationWords}
 use Rattle.layout.specs.Layout.{wordsIn, Laid}
 use Rattle.refusals.specs.declared.Refusal.{Refusal}

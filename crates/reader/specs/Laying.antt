@@ -2,8 +2,7 @@
 use Prim.Native.Nat.{ℕ, _+_, _*_, _≤_, _<_}
 use mathlib.Core.List.{List, [], _∷_, _++_}
 use mathlib.Core.Path.{_≡_}
-use lib.ListN.{length, getD, take, drop}
-use Rattle.words.specs.Words.{Word}
+use lib.ListN.{length}
 use Rattle.words.specs.Relations.{relationWords}
 use Rattle.layout.specs.Layout.{Laid, wordsIn}
 use Rattle.layout.specs.Appending.{Arrays}

@@ -1,4 +1,5 @@
-use Rattle.layout.proofs.Appending.{rooms}
+use borrow.Author.Needs.{needs}
+use Rattle.layout.proofs.Appending.{rooms, room-appended}
 use Rattle.layout.proofs.append_word.Statement.{statement}
 use Rattle.layout.proofs.append_word.Tie as tie
 
@@ -11,13 +12,6 @@ append-word-spec =
     (λ c. search rooms)
     (λ c κs. search rooms)
     (λ c. search rooms)
-    (λ c κs. search rooms)
-    (λ c. search rooms)
-    (λ c. search rooms)
-    (λ c. search rooms)
-    (λ c. search rooms)
-    (λ c. search rooms)
-    (λ c κs. search rooms)
     (λ c. search rooms)
     (λ c. search rooms)
     (λ c. search rooms)
@@ -25,4 +19,11 @@ append-word-spec =
     (λ c. search rooms)
     (λ c. search rooms)
     (λ c. search rooms)
-    (λ c. search rooms))
+    (λ c. search rooms)
+    (λ c. search rooms)
+    (λ c. search rooms)
+    (λ c. search rooms)
+    (λ c. search rooms)
+    (λ c. search rooms)
+    (λ c. search rooms)
+    (λ c. room-appended _ _ _ _ (search needs) _ (search needs) _ (search needs)))
