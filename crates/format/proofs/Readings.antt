@@ -24,7 +24,7 @@ use Rattle.format.specs.Book.{Presentation, adding, BookReading, read, b
 use Rattle.format.specs.Bytes.{RelationWithin, AllWithin, none, more, Within, ReadWithin}
 
 -- a check that was passed: what is given was not the answer for its failure
-passed : {A : Type 0} (b : Bool) (stop x good : A) → (stop ≡ good → ⊥) → cond b stop x ≡ good → (b ≡ false) × (x ≡ good)
+pub passed : {A : Type 0} (b : Bool) (stop x good : A) → (stop ≡ good → ⊥) → cond b stop x ≡ good → (b ≡ false) × (x ≡ good)
 passed true stop x good f e = absurd (f e)
 passed false stop x good f e = (refl, e)
 
@@ -60,7 +60,7 @@ whole-at book at kind from to e =
     let g : to ≡ at + 4 + field book at = cc in
     record { kinds = cc; start = cc; end = g; fits = omega arith }
 
-passed-whole : {A : Type 0} (o : Record) (short : A) (next : ℕ → ℕ → ℕ → A) (good : A) → (short ≡ good → ⊥) → onWhole o short next ≡ good
+pub passed-whole : {A : Type 0} (o : Record) (short : A) (next : ℕ → ℕ → ℕ → A) (good : A) → (short ≡ good → ⊥) → onWhole o short next ≡ good
     → (kind : ℕ) × (from : ℕ) × (to : ℕ) × (o ≡ Whole kind from to) × (next kind from to ≡ good)
 passed-whole CutOff short next good f e = absurd (f e)
 passed-whole (Whole kind from to) short next good f e = (kind, from, to, refl, e)

@@ -1,6 +1,7 @@
 pub mod Examples
-pub mod Size
 pub mod Reading
+pub mod Fuel
+pub mod Size
 pub mod Writing
 pub mod Lines
 pub mod Whole

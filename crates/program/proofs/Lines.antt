@@ -1,25 +1,17 @@
 -- Laws of the code that answers the records of the kind 3 part and writes their lines behind each other.
 use Prim.Native.Nat.{ℕ, zero, suc, _+_, _*_, _-_, _≤_, _<_}
-use mathlib.Core.Bool.{Bool, true, false, cond}
-use mathlib.Core.List.{List, [], _∷_, _++_, append-assoc, append-nil}
+use mathlib.Core.List.{List, [], _++_, append-assoc, append-nil}
 use mathlib.Core.Path.{_≡_, refl, sym, ap, _∙_, subst}
 use native.Mathlib.Omega.{arith}
 use native.Mathlib.Nat.{add-zero}
 use borrow.Author.Needs.{needs}
 use borrow.Author.Tests.{lt-leb, le-leb}
 use lib.ListN.{length, length-append, take-append-drop}
-use lib.Seq.{slice, take-nil}
 use mir.Val.{Fits}
 use mir.Syntax.{w64}
-use Rattle.words.specs.Words.{Word}
 use Rattle.layout.specs.Layout.{wordsIn}
 use Rattle.refusals.specs.declared.Refusal.{Refusal}
-use Rattle.refusals.specs.declared.Refusal.the-variants.{Kind, Length}
-use Rattle.limits.specs.declared.Record.{Record}
-use Rattle.limits.specs.declared.Record.the-variants.{Whole, CutOff}
-use Rattle.limits.specs.Limits.{comparisonKind, comparisonLength}
-use Rattle.format.specs.Book.{field, between, recordAt, differs}
-use Rattle.format.proofs.Readings.{equal-of, WholeAt, whole-at}
+use Rattle.format.specs.Book.{between}
 use Rattle.comparison.specs.declared.Comparison.{Comparison}
 use Rattle.comparison.specs.State.{Ready}
 use Rattle.comparison.specs.Comparing.{comparisonOf}
@@ -27,86 +19,10 @@ use Rattle.lines.specs.Lines.{WrittenTo, lineOf}
 use Rattle.lines.proofs.Laws.{put-both, room-first, room-second}
 use Rattle.program.specs.declared.Request.{Request}
 use Rattle.program.specs.declared.Request.the-variants.{Compare, Refused}
-use Rattle.program.specs.Program.{bookText, longField, refusedLine, comparisonLine, comparisonIn, lineThen, linesFrom}
-use Rattle.program.specs.Requests.{fieldsOf, requestOf, requestAt}
+use Rattle.program.specs.Requests.{requestAt}
+use Rattle.program.specs.Program.{bookText, refusedLine, comparisonLine, byRequest, linesFrom}
 use Rattle.program.specs.Writing.{linesUnder, Lined, linesOfAccepted, Accepted}
-
--- a part of the input, as the code takes it and as the definition does
-slice-between : (from to : ℕ) (l : List ℕ) → between l from to ≡ slice from to l
-slice-between zero to l = let e : to - 0 ≡ to = omega arith in rw e
-slice-between (suc from) zero [] = let e : 0 - suc from ≡ 0 = omega arith in rw e
-slice-between (suc from) zero (x ∷ l) = let e : 0 - suc from ≡ 0 = omega arith in rw e
-slice-between (suc from) (suc to) [] = take-nil (suc to - suc from)
-slice-between (suc from) (suc to) (x ∷ l) = let e : suc to - suc from ≡ to - from = omega arith in rw e (slice-between from to l)
-
--- where the words of a comparison lie
-pub record Lies (input : List ℕ) (at first second end : ℕ) : Type 0 where
-  pub order : first ≤ second
-  pub next : second ≤ end
-  pub inside : end ≤ length input
-  pub behind : at < end
-
--- the lines from a record on by what it asks for, where `next` gives those behind it
-abbrev byRequest : (ℕ → List ℕ) → ℕ → List Word → List ℕ → Request → List ℕ
-byRequest next letters B input (Refused r) = refusedLine r
-byRequest next letters B input (Compare a first second end) = comparisonLine (comparisonOf letters B (slice first second input) (slice second end input) a) ++ next end
-
--- what a record asks for, and the line that the definition gives for it
-module _ (input : List ℕ) (at : ℕ) where
-  lies-in : (o : Record) → recordAt input at ≡ o → (a first second end : ℕ) → requestOf input at o ≡ Compare a first second end → Lies input at first second end
-  unfolding fieldsOf
-  lies-in CutOff q a first second end e = absurd (let z : _≡_ {A = ℕ} 0 1 = cc in omega arith)
-  lies-in (Whole kind from to) q a first second end e = first-test (differs kind comparisonKind) e
-    where
-      L : ℕ
-      L = comparisonLength + field input (from + 4) + field input (from + 6)
-
-      w : WholeAt input at kind from to
-      w = whole-at input at kind from to q
-
-      good : Request
-      good = Compare (longField input from) (from + comparisonLength) (from + comparisonLength + field input (from + 4)) to
-
-      second-test : (b : Bool) → differs (to - from) L ≡ b → cond b (Refused (Length at)) good ≡ Compare a first second end → Lies input at first second end
-      second-test true d e = absurd (let z : _≡_ {A = ℕ} 0 1 = cc in omega arith)
-      second-test false d e =
-          let l = equal-of (to - from) L d in
-          let x : from + comparisonLength ≡ first = cc e in
-          let y : from + comparisonLength + field input (from + 4) ≡ second = cc e in
-          let z : to ≡ end = cc e in
-          record { order = omega arith; next = omega arith; inside = omega (arith, w .fits); behind = omega (arith, w .start) }
-
-      first-test : (b : Bool) → cond b (Refused (Kind at)) (cond (differs (to - from) L) (Refused (Length at)) good) ≡ Compare a first second end → Lies input at first second end
-      first-test true e = absurd (let z : _≡_ {A = ℕ} 0 1 = cc in omega arith)
-      first-test false e = second-test (differs (to - from) L) refl e
-
-  pub lies-of : (r : Request) → r ≡ requestAt input at → (a first second end : ℕ) → r ≡ Compare a first second end → Lies input at first second end
-  unfolding requestAt
-  lies-of r e a first second end f = lies-in (recordAt input at) refl a first second end (sym e ∙ f)
-
-  line-asked : (next : ℕ → List ℕ) (letters : ℕ) (B : List Word) (o : Record)
-      → lineThen next letters B input at o ≡ byRequest next letters B input (requestOf input at o)
-  unfolding fieldsOf comparisonIn
-  line-asked next letters B CutOff = refl
-  line-asked next letters B (Whole kind from to) = first-test (differs kind comparisonKind)
-    where
-      L : ℕ
-      L = comparisonLength + field input (from + 4) + field input (from + 6)
-
-      good : Request
-      good = Compare (longField input from) (from + comparisonLength) (from + comparisonLength + field input (from + 4)) to
-
-      line : List ℕ
-      line = comparisonLine (comparisonIn letters B input from to) ++ next to
-
-      second-test : (b : Bool) → cond b (refusedLine (Length at)) line ≡ byRequest next letters B input (cond b (Refused (Length at)) good)
-      second-test true = refl
-      second-test false = refl
-
-      first-test : (b : Bool) → cond b (refusedLine (Kind at)) (cond (differs (to - from) L) (refusedLine (Length at)) line)
-          ≡ byRequest next letters B input (cond b (Refused (Kind at)) (cond (differs (to - from) L) (Refused (Length at)) good))
-      first-test true = refl
-      first-test false = second-test (differs (to - from) L)
+use Rattle.program.proofs.Reading.{Lies, lies-of}
 
 -- a record that asks for a comparison
 module _ (input : List ℕ) (at : ℕ) (r : Request) (e : r ≡ requestAt input at) (a first second end : ℕ) (f : r ≡ Compare a first second end) where
@@ -167,16 +83,14 @@ module _ (text table : List ℕ) (n letters : ℕ) (input : List ℕ) (start : �
       -- the lines from here on, by what the record asks for
       on : (m : ℕ) × (length input ≤ at + suc m)
           × (linesUnder text table n letters input start ≡ l .written ++ byRequest (linesFrom m letters (wordsIn text table n) input) letters (wordsIn text table n) input r)
-      unfolding linesFrom requestAt
+      unfolding linesFrom
       on = step (l .most) (l .enough) (l .whole)
         where
           step : (m : ℕ) → length input ≤ at + m → linesUnder text table n letters input start ≡ l .written ++ linesFrom m letters (wordsIn text table n) input at
               → (m : ℕ) × (length input ≤ at + suc m)
               × (linesUnder text table n letters input start ≡ l .written ++ byRequest (linesFrom m letters (wordsIn text table n) input) letters (wordsIn text table n) input r)
           step zero k q = absurd (omega arith)
-          step (suc m) k q =
-              let s = line-asked input at (linesFrom m letters (wordsIn text table n) input) letters (wordsIn text table n) (recordAt input at) in
-              (m, k, q ∙ rw (lt-leb (length input) at h, e) (ap (λ t. l .written ++ t) s))
+          step (suc m) k q = (m, k, q ∙ rw (lt-leb (length input) at h, e))
 
       -- room for a text that comes next, and behind it
       room-next : (s t : List ℕ) → linesUnder text table n letters input start ≡ l .written ++ (s ++ t) → end + length s ≤ length b
@@ -198,7 +112,7 @@ module _ (text table : List ℕ) (n letters : ℕ) (input : List ℕ) (start : �
             (put-both out place (l .written) b end (refusedLine x) b′ end′ (subst (λ (s : List ℕ). place + length s ≤ length out) last-whole (l .room)) (l .put) p)
 
       module _ (a first second to : ℕ) (f : r ≡ Compare a first second to) where
-        lies : Lies input at first second to
+        lies : Lies input at a first second to
         lies = lies-of input at r e a first second to f
 
         pub lining-less : length input - to < length input - at
@@ -208,7 +122,7 @@ module _ (text table : List ℕ) (n letters : ℕ) (input : List ℕ) (start : �
           next-whole : linesUnder text table n letters input start ≡ l .written ++ (comparisonLine c ++ linesFrom (on .0) letters (wordsIn text table n) input to)
           next-whole =
               on .2 ∙ ap (λ (t : Request). l .written ++ byRequest (linesFrom (on .0) letters (wordsIn text table n) input) letters (wordsIn text table n) input t) f
-              ∙ rw (g, slice-between first second input, slice-between second to input)
+              ∙ rw g
 
           pub lining-room : end + length (comparisonLine c) ≤ length b
           lining-room = room-next (comparisonLine c) (linesFrom (on .0) letters (wordsIn text table n) input to) next-whole

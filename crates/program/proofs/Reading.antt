@@ -2,7 +2,7 @@
 use Prim.Native.Nat.{ℕ, zero, suc, _+_, _-_, _≤_, _<_}
 use mathlib.Core.Bool.{Bool, true, false}
 use mathlib.Core.List.{List}
-use mathlib.Core.Path.{_≡_, refl, sym, _∙_}
+use mathlib.Core.Path.{_≡_, refl, sym, ap, _∙_}
 use native.Mathlib.Omega.{arith}
 use borrow.Author.Needs.{needs}
 use borrow.Author.Tests.{eq-eqb, ne-eqb, lt-ltb, le-ltb}
@@ -10,18 +10,18 @@ use lib.Dec.{eqb, ltb}
 use lib.ListN.{length}
 use mir.Val.{Fits}
 use mir.Syntax.{w64}
+use Rattle.refusals.specs.declared.Refusal.{Refusal}
 use Rattle.refusals.specs.declared.Refusal.the-variants.{Short, Kind, Length}
 use Rattle.limits.specs.declared.Record.{Record}
 use Rattle.limits.specs.declared.Record.the-variants.{Whole, CutOff}
-use Rattle.limits.specs.Limits.{comparisonKind}
-use Rattle.format.specs.Book.{field, recordAt}
-use Rattle.format.proofs.Readings.{WholeAt, whole-at}
-use Rattle.reader.specs.Reads.{Payload}
+use Rattle.limits.specs.Limits.{comparisonKind, comparisonLength}
+use Rattle.format.specs.Book.{field, recordAt, differs}
+use Rattle.format.proofs.Readings.{passed, passed-whole, equal-of, WholeAt, whole-at}
+use Rattle.records.specs.Reads.{Field, Payload}
 use Rattle.program.specs.declared.Request.{Request}
 use Rattle.program.specs.declared.Request.the-variants.{Compare, Refused}
-use Rattle.program.specs.Program.{longField, bookEndFrom, bookEnd}
-use Rattle.program.specs.Requests.{fieldsOf, requestAt}
-use Rattle.reader.specs.Reads.{Field}
+use Rattle.program.specs.Requests.{longField, fieldsOf, requestAt}
+use Rattle.program.specs.Program.{bookEndFrom, bookEnd}
 
 -- the book goes on at a position
 pub record Ending (input : List ℕ) (at : ℕ) : Type 0 where
@@ -113,8 +113,8 @@ module _ (input : List ℕ) (at : ℕ) (e : Ending input at) where
 pub ruleset endings = (ending-start, ending-stray, ending-room, ending-found, ending-cut, ending-more, ending-less, needs)
 
 -- the fields of a comparison
-module _ (input : List ℕ) (at from to : ℕ) (p : Payload input from to) where
-  pub fields-none : to - from < 8 → Refused (Length at) ≡ fieldsOf input at from to
+module _ (input : List ℕ) (place from to : ℕ) (p : Payload input from to) where
+  pub fields-none : to - from < 8 → Refused (Length place) ≡ fieldsOf input place from to
   unfolding fieldsOf
   fields-none h = rw (ne-eqb (to - from) (8 + field input (from + 4) + field input (from + 6)) (λ q. omega arith))
 
@@ -132,11 +132,11 @@ module _ (input : List ℕ) (at from to : ℕ) (p : Payload input from to) where
     pub fields-sum : Fits w64 (8 + m + n)
     fields-sum = omega (arith, v .small, w .small)
 
-    pub fields-length : (to - from ≡ 8 + m + n → ⊥) → Refused (Length at) ≡ fieldsOf input at from to
+    pub fields-length : (to - from ≡ 8 + m + n → ⊥) → Refused (Length place) ≡ fieldsOf input place from to
     unfolding fieldsOf
     fields-length h = rw (← v .same, ← w .same, ne-eqb (to - from) (8 + m + n) h)
 
-    pub fields-good : to - from ≡ 8 + m + n → (a : ℕ) → a ≡ longField input from → Compare a (from + 8) (from + 8 + m) to ≡ fieldsOf input at from to
+    pub fields-good : to - from ≡ 8 + m + n → (a : ℕ) → a ≡ longField input from → Compare a (from + 8) (from + 8 + m) to ≡ fieldsOf input place from to
     unfolding fieldsOf
     fields-good h a e = rw (← v .same, ← w .same, eq-eqb (to - from) (8 + m + n) h, e)
 
@@ -161,3 +161,35 @@ module _ (input : List ℕ) (at : ℕ) (o : Record) (e : o ≡ recordAt input at
     request-fields k r g = rw (← e, f, eq-eqb kind 3 k) g
 
 pub ruleset requests = (request-short, request-payload, request-kind, request-fields, needs)
+
+-- where the words of a comparison lie in the input, and what its allowance is
+pub record Lies (input : List ℕ) (at allowance first second end : ℕ) : Type 0 where
+  pub order : first ≤ second
+  pub next : second ≤ end
+  pub inside : end ≤ length input
+  pub behind : at + 12 ≤ end
+  pub allowed : allowance ≡ longField input (at + 4)
+
+refused-or-compare : (a first second end : ℕ) (r : Refusal) → Refused r ≡ Compare a first second end → ⊥
+refused-or-compare a first second end r e = let z : _≡_ {A = ℕ} 0 1 = cc in omega arith
+
+pub lies-of : (input : List ℕ) (at : ℕ) (r : Request) → r ≡ requestAt input at → (a first second end : ℕ) → r ≡ Compare a first second end → Lies input at a first second end
+unfolding requestAt fieldsOf
+lies-of input at r e a first second end f =
+    let other = refused-or-compare a first second end in
+    let o = passed-whole (recordAt input at) _ _ _ (other _) (sym e ∙ f) in
+    let w = whole-at input at (o .0) (o .1) (o .2) (o .3) in
+    let b = passed (differs (o .0) comparisonKind) _ _ _ (other _) (o .4) in
+    let c = passed (differs (o .2 - o .1) (comparisonLength + field input (o .1 + 4) + field input (o .1 + 6))) _ _ _ (other _) (b .1) in
+    let l = equal-of (o .2 - o .1) (comparisonLength + field input (o .1 + 4) + field input (o .1 + 6)) (c .0) in
+    let t : longField input (o .1) ≡ a = cc (c .1) in
+    let x : o .1 + comparisonLength ≡ first = cc (c .1) in
+    let y : o .1 + comparisonLength + field input (o .1 + 4) ≡ second = cc (c .1) in
+    let z : o .2 ≡ end = cc (c .1) in
+    record {
+      order = omega arith;
+      next = omega arith;
+      inside = omega (arith, w .fits);
+      behind = omega (arith, w .start);
+      allowed = sym t ∙ ap (longField input) (w .start);
+    }

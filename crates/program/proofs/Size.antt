@@ -2,12 +2,11 @@
 use Prim.Native.Nat.{ℕ, zero, suc, _+_, _*_, _-_, _<_, _≤_}
 use mathlib.Core.Bool.{Bool, true, false, cond}
 use mathlib.Core.List.{List, [], _∷_, _++_}
-use mathlib.Core.Path.{_≡_, refl}
+use mathlib.Core.Path.{_≡_, refl, sym, subst}
 use native.Mathlib.Omega.{arith}
 use borrow.Author.Tests.{ltb-true, ltb-false, leb-false}
 use lib.Dec.{eqb, leb, ltb}
 use lib.ListN.{length, take, length-append, length-take}
-use lib.Seq.{slice}
 use Rattle.words.specs.Words.{Word}
 use Rattle.words.specs.Relations.{Relation, relationWords}
 use Rattle.overlap.specs.Cuts.{firstLoose}
@@ -16,18 +15,20 @@ use Rattle.congruence.specs.Rows.{Next, round}
 use Rattle.congruence.specs.Rows.Next.{end, go}
 use Rattle.congruence.specs.Rounds.{CompareAnswer, answerFrom, compareUnder}
 use Rattle.congruence.specs.Rounds.CompareAnswer.{same, different, spent}
-use Rattle.refusals.specs.declared.Refusal.{Refusal}
-use Rattle.refusals.specs.declared.Refusal.the-variants.{Short, Kind, Length, Range, UnknownLetter, TooMany, Repeated, Loose, Long, Stranger, Spent, Narrow, Heavy}
 use Rattle.limits.specs.declared.Record.{Record}
 use Rattle.limits.specs.declared.Record.the-variants.{Whole, CutOff}
-use Rattle.format.specs.declared.Reading.{Reading}
-use Rattle.format.specs.declared.Reading.the-variants as Readings
-use Rattle.limits.specs.Limits.{inputMost, lettersMost, relationsMost, comparisonKind, comparisonLength, comparedMost}
-use Rattle.refusals.specs.Refusals.{numberOf, placeOf}
+use Rattle.limits.specs.Limits.{inputMost, lettersMost, relationsMost, comparisonKind, comparedMost}
+use Rattle.refusals.specs.declared.Refusal.{Refusal}
+use Rattle.refusals.specs.declared.Refusal.the-variants.{Short, Kind, Length, Range, UnknownLetter, TooMany, Repeated, Loose, Long, Stranger, Spent, Narrow, Heavy}
+use Rattle.refusals.specs.Refusals.{numberAndPlace}
 use Rattle.letters.specs.Letters.{firstUnknown}
-use Rattle.format.specs.Book.{BookReading, field, recordAt, differs, headAt, fieldsAt, relationAt, relationIn, onWhole, onRead, relationsFrom, readBook}
-use Rattle.format.proofs.Readings.{equal-of, WholeAt, whole-at, read-within}
-use Rattle.presentation.specs.Loading.{BookLoading, byVerdict, byReading, loadBook}
+use Rattle.format.specs.declared.HeadReading.{HeadReading}
+use Rattle.format.specs.declared.HeadReading.the-variants as Heads
+use Rattle.format.specs.declared.RelationReading.{RelationReading}
+use Rattle.format.specs.declared.RelationReading.the-variants as Relations
+use Rattle.format.specs.Book.{Presentation, adding, BookReading, field, between, recordAt, differs, headAt, fieldsAt, relationAt, relationIn, onWhole, onHead, onRelation, relationsFrom, readBook}
+use Rattle.format.proofs.Readings.{whole-at, read-within}
+use Rattle.presentation.specs.Loading.{byVerdict, byReading, loadBook}
 use Rattle.given.specs.declared.Given.{Given}
 use Rattle.given.specs.declared.Given.the-variants as Givens
 use Rattle.given.specs.Given.{givenOf, andThen, pairOf}
@@ -37,8 +38,12 @@ use Rattle.comparison.specs.Comparing.{byAnswer, byGiven, answerOf, comparisonO
 use Rattle.lines.specs.Decimal.{digitCount}
 use Rattle.lines.specs.Lines.{numbered, lineOf, pairLineOf}
 use Rattle.lines.proofs.Laws.{count-small, count-below, length-decimal}
-use Rattle.program.specs.Program.{bookText, sameText, differentText, refusedLine, comparisonLine, longField, bookEndFrom, bookEnd, comparisonIn, lineThen, linesFrom, byLoading, programOf}
+use Rattle.program.specs.declared.Request.{Request}
+use Rattle.program.specs.declared.Request.the-variants as Requests
+use Rattle.program.specs.Requests.{longField, fieldsOf, requestAt}
+use Rattle.program.specs.Program.{bookText, sameText, differentText, refusedLine, comparisonLine, bookEndFrom, bookEnd, byRequest, linesFrom, byLoading, loadedOutput, programOf}
 use Rattle.program.specs.Size.{lineMost, outputMost, AreBytes, OutputFits}
+use Rattle.program.proofs.Reading.{lies-of}
 
 -- a number that is printed: it has at most ten digits
 abbrev numberMost : ℕ
@@ -70,7 +75,7 @@ line-short text n h k =
     let d = digits-10 n k in
     simp length-append (omega (arith, length-decimal n))
 
-number-small : (r : Refusal) → numberOf r < 100
+number-small : (r : Refusal) → numberAndPlace r .number < 100
 number-small (Short at) = omega arith
 number-small (Kind at) = omega arith
 number-small (Length at) = omega arith
@@ -86,12 +91,12 @@ number-small (Narrow n) = omega arith
 number-small Heavy = omega arith
 
 -- the line of a refusal
-pub refused-short : (r : Refusal) → placeOf r < numberMost → length (refusedLine r) ≤ lineMost
+pub refused-short : (r : Refusal) → numberAndPlace r .place < numberMost → length (refusedLine r) ≤ lineMost
 unfolding refusedLine pairLineOf numbered
 refused-short r h =
-    let d = digits-2 (numberOf r) (number-small r) in
-    let e = digits-10 (placeOf r) h in
-    simp length-append (omega (arith, length-decimal (numberOf r), length-decimal (placeOf r)))
+    let d = digits-2 (numberAndPlace r .number) (number-small r) in
+    let e = digits-10 (numberAndPlace r .place) h in
+    simp length-append (omega (arith, length-decimal (numberAndPlace r .number), length-decimal (numberAndPlace r .place)))
 
 -- the rounds counted in an answer
 abbrev counted : CompareAnswer → ℕ
@@ -120,7 +125,7 @@ count-allowed B (suc left) m u v p = step (count-allowed B left (m + 1)) (round 
 abbrev Small : Comparison → Type 0
 Small (Same n) = n < numberMost
 Small (Different n) = n < numberMost
-Small (Refused r) = placeOf r < numberMost
+Small (Refused r) = numberAndPlace r .place < numberMost
 
 small-answer : (a : CompareAnswer) → counted a < numberMost → Small (byAnswer a)
 small-answer (same n) h = h
@@ -130,7 +135,7 @@ small-answer (spent n) h = h
 -- the refusal of a given word has a small place
 abbrev SmallGiven : Given → Type 0
 SmallGiven Givens.Fine = Unit {0}
-SmallGiven (Givens.Refused r) = placeOf r < numberMost
+SmallGiven (Givens.Refused r) = numberAndPlace r .place < numberMost
 
 small-word : (number letters : ℕ) (w : Word) → number ≤ 2 → SmallGiven (givenOf number comparedMost letters w)
 unfolding givenOf
@@ -189,146 +194,157 @@ few-more n at to s t h k f =
     let l = length-append s t in
     record { count = suc (f .count); lines = omega (arith, f .lines); records = omega (arith, f .records) }
 
+-- the refusals of a record, which report a place
+data RecordRefusal (place : ℕ) : Refusal → Type 0 where
+  short-there : RecordRefusal place (Short place)
+  kind-there : RecordRefusal place (Kind place)
+  length-there : RecordRefusal place (Length place)
+  range-there : RecordRefusal place (Range place)
+  unknown-there : RecordRefusal place (UnknownLetter place)
+  many-there : RecordRefusal place (TooMany place)
+
+refusal-place : (place : ℕ) (r : Refusal) → RecordRefusal place r → numberAndPlace r .place ≡ place
+refusal-place place r RecordRefusal.short-there = refl
+refusal-place place r RecordRefusal.kind-there = refl
+refusal-place place r RecordRefusal.length-there = refl
+refusal-place place r RecordRefusal.range-there = refl
+refusal-place place r RecordRefusal.unknown-there = refl
+refusal-place place r RecordRefusal.many-there = refl
+
+-- what a record of the kind 3 part asks for, or its refusal
+data PlacedAt (place : ℕ) : Request → Type 0 where
+  refused-there : {r : Refusal} → RecordRefusal place r → PlacedAt place (Requests.Refused r)
+  asked : {a first second to : ℕ} → PlacedAt place (Requests.Compare a first second to)
+
+request-cond : (place : ℕ) (b : Bool) (x y : Request) → PlacedAt place x → PlacedAt place y → PlacedAt place (cond b x y)
+request-cond place true x y h k = h
+request-cond place false x y h k = k
+
+ruleset requests = (request-cond, PlacedAt.refused-there, PlacedAt.asked, RecordRefusal.short-there, RecordRefusal.kind-there, RecordRefusal.length-there)
+
+request-whole : (input : List ℕ) (at : ℕ) (o : Record)
+    → PlacedAt at (onWhole o (Requests.Refused (Short at)) (λ kind from to. cond (differs kind comparisonKind) (Requests.Refused (Kind at)) (fieldsOf input at from to)))
+unfolding fieldsOf
+request-whole input at CutOff = search requests
+request-whole input at (Whole kind from to) = search requests depth 8
+
+request-place : (input : List ℕ) (at : ℕ) (r : Refusal) → requestAt input at ≡ Requests.Refused r → numberAndPlace r .place ≡ at
+unfolding requestAt
+request-place input at r e = placed (subst (PlacedAt at) e (request-whole input at (recordAt input at)))
+  where
+    placed : PlacedAt at (Requests.Refused r) → numberAndPlace r .place ≡ at
+    placed (refused-there h) = refusal-place at r h
+
 module _ (letters : ℕ) (B : List Word) (input : List ℕ) (bytes : AreBytes input) (small : length input ≤ inputMost) where
-  -- a whole record of the right kind and length
-  few-record : (next : ℕ → List ℕ) (at kind from to : ℕ) → at < length input → WholeAt input at kind from to → ((to : ℕ) → to ≤ length input → Few (length input) to (next to))
-      → Few (length input) at (lineThen next letters B input at (Whole kind from to))
-  unfolding comparisonIn
-  few-record next at kind from to h w f = first (differs kind comparisonKind)
-    where
-      L : ℕ
-      L = comparisonLength + field input (from + 4) + field input (from + 6)
-
-      line : List ℕ
-      line = comparisonLine (comparisonIn letters B input from to)
-
-      short : length line ≤ lineMost
-      short =
-          comparison-short (comparisonIn letters B input from to)
-          (small-comparison letters B (slice (from + 8) (from + 8 + field input (from + 4)) input) (slice (from + 8 + field input (from + 4)) to input) (longField input from)
-          (field-small input from bytes))
-
-      second : (b : Bool) → differs (to - from) L ≡ b → Few (length input) at (cond b (refusedLine (Length at)) (line ++ next to))
-      second true e = few-one _ at _ h (refused-short (Length at) (omega arith))
-      second false e =
-          let q = equal-of (to - from) L e in
-          few-more _ at to line (next to) (omega (arith, w .start)) short (f to (w .fits))
-
-      first : (b : Bool) → Few (length input) at (cond b (refusedLine (Kind at)) (cond (differs (to - from) L) (refusedLine (Length at)) (line ++ next to)))
-      first true = few-one _ at _ h (refused-short (Kind at) (omega arith))
-      first false = second (differs (to - from) L) refl
+  -- the lines from a record on
+  few-request : (next : ℕ → List ℕ) (at : ℕ) → at < length input → ((to : ℕ) → to ≤ length input → Few (length input) to (next to)) → (r : Request) → requestAt input at ≡ r
+      → Few (length input) at (byRequest next letters B input r)
+  few-request next at h f (Requests.Refused x) e =
+      let p = request-place input at x e in
+      few-one _ at _ h (refused-short x (omega arith))
+  few-request next at h f (Requests.Compare a first second to) e =
+      let w = lies-of input at (Requests.Compare a first second to) (sym e) a first second to refl in
+      let k = field-small input (at + 4) bytes in
+      let c = comparisonOf letters B (between input first second) (between input second to) a in
+      let l = small-comparison letters B (between input first second) (between input second to) a (omega (arith, w .allowed)) in
+      few-more _ at to (comparisonLine c) (next to) (omega (arith, w .behind)) (comparison-short c l) (f to (w .inside))
 
   few-lines : (most at : ℕ) → at ≤ length input → Few (length input) at (linesFrom most letters B input at)
   unfolding linesFrom
   few-lines zero at h = few-none _ at (omega arith)
-  few-lines (suc most) at h = first (few-lines most) (leb (length input) at) refl
+  few-lines (suc most) at h = go (few-lines most) (leb (length input) at) refl
     where
-      second : ((to : ℕ) → to ≤ length input → Few (length input) to (linesFrom most letters B input to)) → at < length input
-          → (o : Record) → recordAt input at ≡ o → Few (length input) at (lineThen (linesFrom most letters B input) letters B input at o)
-      second f k CutOff e = few-one _ at _ k (refused-short (Short at) (omega arith))
-      second f k (Whole kind from to) e = few-record (linesFrom most letters B input) at kind from to k (whole-at input at kind from to e) f
+      go : ((to : ℕ) → to ≤ length input → Few (length input) to (linesFrom most letters B input to)) → (b : Bool) → leb (length input) at ≡ b
+          → Few (length input) at (cond b [] (byRequest (linesFrom most letters B input) letters B input (requestAt input at)))
+      go f true e = few-none _ at (omega arith)
+      go f false e = few-request (linesFrom most letters B input) at (leb-false (length input) at e) f (requestAt input at) refl
 
-      first : ((to : ℕ) → to ≤ length input → Few (length input) to (linesFrom most letters B input to)) → (b : Bool) → leb (length input) at ≡ b
-          → Few (length input) at (cond b [] (lineThen (linesFrom most letters B input) letters B input at (recordAt input at)))
-      first f true e = few-none _ at (omega arith)
-      first f false e = second f (leb-false (length input) at e) (recordAt input at) refl
+-- what reading a record gives: its refusal, or a position up to n
+data HeadUpto (n place : ℕ) : HeadReading → Type 0 where
+  refused-at : {r : Refusal} → RecordRefusal place r → HeadUpto n place (Heads.Refused r)
+  read-to : {letters to : ℕ} → to ≤ n → HeadUpto n place (Heads.Read letters to)
 
--- what reading gives of a place up to n: a refusal there, or a position
-data Upto (n : ℕ) : Reading → Type 0 where
-  refused-at : {r : Refusal} → placeOf r ≤ n → Upto n (Readings.Refused r)
-  read-to : {x to : ℕ} → to ≤ n → Upto n (Readings.Read x to)
+data RelationUpto (n place : ℕ) : RelationReading → Type 0 where
+  refused-at : {r : Refusal} → RecordRefusal place r → RelationUpto n place (Relations.Refused r)
+  read-to : {left right to : ℕ} → to ≤ n → RelationUpto n place (Relations.Read left right to)
 
-upto-cond : (n : ℕ) (b : Bool) (x y : Reading) → Upto n x → Upto n y → Upto n (cond b x y)
-upto-cond n true x y h k = h
-upto-cond n false x y h k = k
+head-cond : (n place : ℕ) (b : Bool) (x y : HeadReading) → HeadUpto n place x → HeadUpto n place y → HeadUpto n place (cond b x y)
+head-cond n place true x y h k = h
+head-cond n place false x y h k = k
 
-module _ (n at : ℕ) (h : at ≤ n) where
-  upto-kind : Upto n (Readings.Refused (Kind at))
-  upto-kind = refused-at h
+relation-cond : (n place : ℕ) (b : Bool) (x y : RelationReading) → RelationUpto n place x → RelationUpto n place y → RelationUpto n place (cond b x y)
+relation-cond n place true x y h k = h
+relation-cond n place false x y h k = k
 
-  upto-length : Upto n (Readings.Refused (Length at))
-  upto-length = refused-at h
+ruleset uptos = (head-cond, relation-cond, HeadUpto.refused-at, HeadUpto.read-to, RelationUpto.refused-at, RelationUpto.read-to, RecordRefusal.short-there, RecordRefusal.kind-there, RecordRefusal.length-there, RecordRefusal.range-there, RecordRefusal.unknown-there, RecordRefusal.many-there)
 
-  upto-range : Upto n (Readings.Refused (Range at))
-  upto-range = refused-at h
-
-  upto-unknown : Upto n (Readings.Refused (UnknownLetter at))
-  upto-unknown = refused-at h
-
-  upto-many : Upto n (Readings.Refused (TooMany at))
-  upto-many = refused-at h
-
-  upto-read : (x : ℕ) → Upto n (Readings.Read x at)
-  upto-read x = read-to h
-
-ruleset uptos = (upto-cond, upto-kind, upto-length, upto-range, upto-unknown, upto-many, upto-read)
-
-module _ (book : List ℕ) (at : ℕ) (h : at ≤ length book) where
+module _ (book : List ℕ) (at place : ℕ) where
   -- a record that is there, by its checks
-  upto-whole : (next : ℕ → ℕ → ℕ → Reading) → ((kind from to : ℕ) → to ≤ length book → Upto (length book) (next kind from to)) → (o : Record) → recordAt book at ≡ o
-      → Upto (length book) (onWhole o at next)
-  upto-whole next f CutOff e = refused-at h
-  upto-whole next f (Whole kind from to) e = f kind from to (whole-at book at kind from to e .fits)
+  upto-whole : {A : Type 0} (P : A → Type 0) (none : A) (next : ℕ → ℕ → ℕ → A) → P none → ((kind from to : ℕ) → to ≤ length book → P (next kind from to)) → (o : Record)
+      → recordAt book at ≡ o → P (onWhole o none next)
+  upto-whole P none next s f CutOff e = s
+  upto-whole P none next s f (Whole kind from to) e = f kind from to (whole-at book at kind from to e .fits)
 
-  head-upto : (most : ℕ) → Upto (length book) (headAt most book at)
+  head-upto : (most : ℕ) → HeadUpto (length book) place (headAt most place book at)
   unfolding headAt
-  head-upto most = upto-whole _ (λ kind from to k. search uptos depth 8) (recordAt book at) refl
+  head-upto most = upto-whole (HeadUpto (length book) place) _ _ (search uptos) (λ kind from to k. search uptos depth 8) (recordAt book at) refl
 
-  relation-upto : (letters count : ℕ) → Upto (length book) (relationAt letters count book at)
+  relation-upto : (letters count : ℕ) → RelationUpto (length book) place (relationAt letters count place book at)
   unfolding relationAt fieldsAt
-  relation-upto letters count = upto-whole _ (λ kind from to k. search uptos depth 8) (recordAt book at) refl
+  relation-upto letters count = upto-whole (RelationUpto (length book) place) _ _ (search uptos) (λ kind from to k. search uptos depth 8) (recordAt book at) refl
 
 -- a book that is read, or refused at a place up to its length
 abbrev BookUpto : ℕ → BookReading → Type 0
-BookUpto n (BookReading.refused r) = placeOf r ≤ n
-BookUpto n (BookReading.read letters relations) = Unit {0}
+BookUpto n (BookReading.refused r) = numberAndPlace r .place ≤ n
+BookUpto n (BookReading.read presentation) = Unit {0}
 
-relations-upto : (fuel letters : ℕ) (done : List Relation) (book : List ℕ) (at : ℕ) → at ≤ length book → BookUpto (length book) (relationsFrom fuel letters done book at)
+relations-upto : (fuel : ℕ) (p : Presentation) (book : List ℕ) (at : ℕ) → at ≤ length book → BookUpto (length book) (relationsFrom fuel p book at)
 unfolding relationsFrom
-relations-upto zero letters done book at h = tt
-relations-upto (suc fuel) letters done book at h =
-    step (λ m to. relations-upto fuel letters (done ++ (relationIn book at m to ∷ [])) book to) (leb (length book) at) (relationAt letters (length done) book at)
-    (relation-upto book at h letters (length done))
+relations-upto zero p book at h = tt
+relations-upto (suc fuel) p book at h =
+    step (λ left right to. relations-upto fuel (adding p (relationIn book left right to)) book to) (leb (length book) at) (relationAt (p .letters) (length (p .relations)) at book at)
+    (relation-upto book at at (p .letters) (length (p .relations)))
   where
-    step : ((m to : ℕ) → to ≤ length book → BookUpto (length book) (relationsFrom fuel letters (done ++ (relationIn book at m to ∷ [])) book to)) → (b : Bool) (o : Reading)
-        → Upto (length book) o
-        → BookUpto (length book) (cond b (BookReading.read letters done) (onRead o (λ m to. relationsFrom fuel letters (done ++ (relationIn book at m to ∷ [])) book to)))
+    step : ((left right to : ℕ) → to ≤ length book → BookUpto (length book) (relationsFrom fuel (adding p (relationIn book left right to)) book to)) → (b : Bool)
+        (o : RelationReading) → RelationUpto (length book) at o
+        → BookUpto (length book) (cond b (BookReading.read p) (onRelation o (λ left right to. relationsFrom fuel (adding p (relationIn book left right to)) book to)))
     step f true o k = tt
-    step f false (Readings.Refused r) (refused-at k) = k
-    step f false (Readings.Read m to) (read-to k) = f m to k
+    step f false (Relations.Refused r) (RelationUpto.refused-at k) = omega (arith, refusal-place at r k)
+    step f false (Relations.Read left right to) (RelationUpto.read-to k) = f left right to k
 
 book-upto : (book : List ℕ) → BookUpto (length book) (readBook book)
 unfolding readBook
-book-upto book = step (headAt lettersMost book 0) (head-upto book 0 (omega arith) lettersMost)
+book-upto book = step (headAt lettersMost 0 book 0) (head-upto book 0 0 lettersMost)
   where
-    step : (o : Reading) → Upto (length book) o → BookUpto (length book) (onRead o (λ letters to. relationsFrom (length book) letters [] book to))
-    step (Readings.Refused r) (refused-at k) = k
-    step (Readings.Read letters to) (read-to k) = relations-upto (length book) letters [] book to k
+    step : (o : HeadReading) → HeadUpto (length book) 0 o
+        → BookUpto (length book) (onHead o (λ letters to. relationsFrom (length book) (record { letters = letters; relations = [] }) book to))
+    step (Heads.Refused r) (HeadUpto.refused-at k) = omega (arith, refusal-place 0 r k)
+    step (Heads.Read letters to) (HeadUpto.read-to k) = relations-upto (length book) (record { letters = letters; relations = [] }) book to k
 
 -- a book's loading: few relations, or a refusal with a small place
-abbrev SmallLoading : BookLoading → Type 0
-SmallLoading (BookLoading.refused r) = placeOf r < numberMost
-SmallLoading (BookLoading.loaded letters relations) = length relations ≤ relationsMost
+abbrev SmallLoading : BookReading → Type 0
+SmallLoading (BookReading.refused r) = numberAndPlace r .place < numberMost
+SmallLoading (BookReading.read p) = length (p .relations) ≤ relationsMost
 
-length-sides : (relations : List Relation) → length (relationWords relations) ≡ 2 * length relations
+length-words : (relations : List Relation) → length (relationWords relations) ≡ 2 * length relations
 unfolding relationWords
-length-sides [] = refl
-length-sides (r ∷ rs) = omega (arith, length-sides rs)
+length-words [] = refl
+length-words (r ∷ rs) = omega (arith, length-words rs)
 
-small-judged : (letters : ℕ) (relations : List Relation) → length relations ≤ relationsMost → SmallLoading (byVerdict letters relations (judge (relationWords relations)))
+small-judged : (p : Presentation) → length (p .relations) ≤ relationsMost → SmallLoading (byVerdict p (judge (relationWords (p .relations))))
 unfolding judge
-small-judged letters relations h = first (ltb (firstRepeated B) (length B)) refl
+small-judged p h = first (ltb (firstRepeated B) (length B)) refl
   where
     B : List Word
-    B = relationWords relations
+    B = relationWords (p .relations)
 
-    second : (b : Bool) → ltb (firstLoose B) (length B) ≡ b → SmallLoading (byVerdict letters relations (cond b (Verdict.loose (firstLoose B)) Verdict.accepted))
-    second true e = omega (arith, ltb-true (firstLoose B) (length B) e, length-sides relations)
+    second : (b : Bool) → ltb (firstLoose B) (length B) ≡ b → SmallLoading (byVerdict p (cond b (Verdict.loose (firstLoose B)) Verdict.accepted))
+    second true e = omega (arith, ltb-true (firstLoose B) (length B) e, length-words (p .relations))
     second false e = h
 
     first : (b : Bool) → ltb (firstRepeated B) (length B) ≡ b
-        → SmallLoading (byVerdict letters relations (cond b (Verdict.repeated (firstRepeated B)) (cond (ltb (firstLoose B) (length B)) (Verdict.loose (firstLoose B)) Verdict.accepted)))
-    first true e = omega (arith, ltb-true (firstRepeated B) (length B) e, length-sides relations)
+        → SmallLoading (byVerdict p (cond b (Verdict.repeated (firstRepeated B)) (cond (ltb (firstLoose B) (length B)) (Verdict.loose (firstLoose B)) Verdict.accepted)))
+    first true e = omega (arith, ltb-true (firstRepeated B) (length B) e, length-words (p .relations))
     first false e = second (ltb (firstLoose B) (length B)) refl
 
 small-loading : (book : List ℕ) → length book ≤ inputMost → SmallLoading (loadBook book)
@@ -337,7 +353,7 @@ small-loading book h = step (readBook book) refl (book-upto book)
   where
     step : (o : BookReading) → readBook book ≡ o → BookUpto (length book) o → SmallLoading (byReading o)
     step (BookReading.refused r) e k = omega arith
-    step (BookReading.read letters relations) e k = small-judged letters relations (read-within book letters relations e .fewRelations)
+    step (BookReading.read p) e k = small-judged p (read-within book p e .fewRelations)
 
 pub end-within : (most : ℕ) (input : List ℕ) (at : ℕ) → at ≤ length input → bookEndFrom most input at ≤ length input
 unfolding bookEndFrom
@@ -363,19 +379,20 @@ end-within (suc most) input at h = first (end-within most input (at + 4 + field 
     first f false e = second f (eqb (field input (at + 2)) comparisonKind)
 
 -- the output of an input that is not too long
-loading-fits : (input : List ℕ) (o : BookLoading) → AreBytes input → length input ≤ inputMost → SmallLoading o → length (byLoading input o) ≤ outputMost
-loading-fits input (BookLoading.refused r) b h k = let l = refused-short r k in omega arith
-loading-fits input (BookLoading.loaded letters relations) b h k =
-    let f = few-lines letters (relationWords relations) input b h (length input) (bookEnd input) (end-within (length input) input 0 (omega arith)) in
-    let l = line-short bookText (length relations) (omega arith) (omega arith) in
-    let a = length-append (lineOf bookText (length relations)) (linesFrom (length input) letters (relationWords relations) input (bookEnd input)) in
+loading-fits : (input : List ℕ) (o : BookReading) → AreBytes input → length input ≤ inputMost → SmallLoading o → length (byLoading input o) ≤ outputMost
+loading-fits input (BookReading.refused r) b h k = let l = refused-short r k in omega arith
+loading-fits input (BookReading.read p) b h k =
+    let B = relationWords (p .relations) in
+    let f = few-lines (p .letters) B input b h (length input) (bookEnd input) (end-within (length input) input 0 (omega arith)) in
+    let l = line-short bookText (length (p .relations)) (omega arith) (omega arith) in
+    let a = length-append (lineOf bookText (length (p .relations))) (linesFrom (length input) (p .letters) B input (bookEnd input)) in
     omega (arith, f .lines, f .records)
 
 pub output-fits : OutputFits
 unfolding programOf
 output-fits input b = step (ltb inputMost (length input)) refl
   where
-    step : (t : Bool) → ltb inputMost (length input) ≡ t → length (cond t (refusedLine Heavy) (byLoading input (loadBook (take (bookEnd input) input)))) ≤ outputMost
+    step : (t : Bool) → ltb inputMost (length input) ≡ t → length (cond t (refusedLine Heavy) (loadedOutput input)) ≤ outputMost
     step true e = let l = refused-short Heavy (omega arith) in omega arith
     step false e =
         let h = ltb-false inputMost (length input) e in

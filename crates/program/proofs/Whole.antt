@@ -18,12 +18,13 @@ use Rattle.limits.specs.declared.Input.{Input}
 use Rattle.limits.specs.declared.MadeInput.{MadeInput}
 use Rattle.limits.specs.declared.MadeInput.the-variants as Inputs
 use Rattle.limits.specs.Limits.{inputMost, inputOf}
-use Rattle.presentation.specs.Loading.{BookLoading, loadBook, Holding, BookLoaded}
+use Rattle.format.specs.Book.{BookReading}
+use Rattle.presentation.specs.Loading.{loadBook, Holding, BookLoaded}
 use Rattle.presentation.proofs.Laws.{load-refused}
 use Rattle.lines.specs.Lines.{WrittenTo}
-use Rattle.program.specs.Program.{refusedLine, bookEnd, byLoading, programOf}
+use Rattle.program.specs.Program.{refusedLine, bookEnd, byLoading, loadedOutput, programOf}
 use Rattle.program.specs.Size.{outputMost}
-use Rattle.program.specs.Writing.{linesOfAccepted, Accepted, outputOf, Roomy}
+use Rattle.program.specs.Writing.{linesOfAccepted, Accepted, Roomy}
 use Rattle.program.proofs.Size.{end-within, refused-short, output-fits}
 
 -- loading the book, and what is written for it
@@ -36,27 +37,28 @@ module _ (input : List ℕ) (end : ℕ) (e : end ≡ bookEnd input) where
 
   module _ (r : Reading) (text table : List ℕ) (l : BookLoaded (take end input) r text table) where
     module _ (x : Refusal) (f : r ≡ Readings.Refused x) where
-      refused-whole : outputOf input ≡ refusedLine x
+      refused-whole : loadedOutput input ≡ refusedLine x
       refused-whole =
-          let q : loadBook (take (bookEnd input) input) ≡ BookLoading.refused x =
-          subst (λ (n : ℕ). loadBook (take n input) ≡ BookLoading.refused x) e (load-refused (take end input) r text table l x f) in
+          let q : loadBook (take (bookEnd input) input) ≡ BookReading.refused x =
+          subst (λ (n : ℕ). loadBook (take n input) ≡ BookReading.refused x) e (load-refused (take end input) r text table l x f) in
           ap (byLoading input) q
 
       pub refused-fits : (out : List ℕ) → Roomy input out → 0 + length (refusedLine x) ≤ length out
       refused-fits out h = omega (arith, h .room, ap length refused-whole)
 
-      pub refused-written : (out b : List ℕ) (q : ℕ) → WrittenTo out 0 (refusedLine x) b q → WrittenTo out 0 (outputOf input) b q
+      pub refused-written : (out b : List ℕ) (q : ℕ) → WrittenTo out 0 (refusedLine x) b q → WrittenTo out 0 (loadedOutput input) b q
       refused-written out b q p = subst (λ (s : List ℕ). WrittenTo out 0 s b q) (sym refused-whole) p
 
     module _ (letters count : ℕ) (f : r ≡ Readings.Read letters count) where
       held : Holding (take end input) letters count text table
       held = l .held letters count f
 
-      accepted-whole : outputOf input ≡ linesOfAccepted text table count letters input end
+      accepted-whole : loadedOutput input ≡ linesOfAccepted text table count letters input end
       accepted-whole =
           let h = held in
-          let q : loadBook (take (bookEnd input) input) ≡ BookLoading.loaded letters (h .relations) = subst (λ (n : ℕ). loadBook (take n input) ≡ BookLoading.loaded letters (h .relations)) e (h .is) in
-          ap (byLoading input) q ∙ rw (h .words, ← e, ← h .many)
+          let q : loadBook (take (bookEnd input) input) ≡ BookReading.read (h .presentation) =
+          subst (λ (n : ℕ). loadBook (take n input) ≡ BookReading.read (h .presentation)) e (h .is) in
+          ap (byLoading input) q ∙ rw (h .words, ← e, ← h .many, ← h .lettered)
 
       pub accepted-fits : (out : List ℕ) → Roomy input out → Accepted text table count letters input end out
       accepted-fits out h =
@@ -68,7 +70,7 @@ module _ (input : List ℕ) (end : ℕ) (e : end ≡ bookEnd input) where
             room = omega (arith, h .room, ap length accepted-whole);
           }
 
-      pub accepted-written : (out b : List ℕ) (q : ℕ) → WrittenTo out 0 (linesOfAccepted text table count letters input end) b q → WrittenTo out 0 (outputOf input) b q
+      pub accepted-written : (out b : List ℕ) (q : ℕ) → WrittenTo out 0 (linesOfAccepted text table count letters input end) b q → WrittenTo out 0 (loadedOutput input) b q
       accepted-written out b q p = subst (λ (s : List ℕ). WrittenTo out 0 s b q) (sym accepted-whole) p
 
 pub ruleset books = (book-within, book-long, refused-fits, refused-written, accepted-fits, accepted-written, needs)
@@ -86,11 +88,11 @@ module _ (input : List ℕ) (made : MadeInput) (e : made ≡ inputOf (length inp
       step true q g = rw q
       step false q g = absurd (let z : _≡_ {A = ℕ} 0 1 = cc in omega arith)
 
-  light : (x : Input) → made ≡ Inputs.Good x → outputOf input ≡ programOf input
+  light : (x : Input) → made ≡ Inputs.Good x → loadedOutput input ≡ programOf input
   unfolding inputOf programOf
   light x f = step (ltb inputMost (length input)) refl (sym e ∙ f)
     where
-      step : (b : Bool) → ltb inputMost (length input) ≡ b → cond b Inputs.Heavy (Inputs.Good (record { length = length input })) ≡ Inputs.Good x → outputOf input ≡ programOf input
+      step : (b : Bool) → ltb inputMost (length input) ≡ b → cond b Inputs.Heavy (Inputs.Good (record { length = length input })) ≡ Inputs.Good x → loadedOutput input ≡ programOf input
       step true q g = absurd (let z : _≡_ {A = ℕ} 0 1 = cc in omega arith)
       step false q g = rw q
 
@@ -101,7 +103,7 @@ module _ (input : List ℕ) (made : MadeInput) (e : made ≡ inputOf (length inp
     pub light-fits : ((i : ℕ) → Fits w8 (getD input i 0)) → (out : List ℕ) → outputMost ≤ length out → Roomy input out
     light-fits b out h = record { room = omega (arith, output-fits input (λ i. omega (arith, b i)), ap length (light x f)) }
 
-    pub light-written : (out b : List ℕ) (q : ℕ) → WrittenTo out 0 (outputOf input) b q → WrittenTo out 0 (programOf input) b q
+    pub light-written : (out b : List ℕ) (q : ℕ) → WrittenTo out 0 (loadedOutput input) b q → WrittenTo out 0 (programOf input) b q
     light-written out b q p = subst (λ (s : List ℕ). WrittenTo out 0 s b q) (light x f) p
 
 pub ruleset wholes = (heavy-fits, heavy-written, light-fits, light-written, needs)

@@ -5,21 +5,22 @@ use mathlib.Core.Path.{_≡_}
 use borrow.Author.Needs.{needs}
 use lib.ListN.{length}
 use Rattle.refusals.specs.declared.Refusal.{Refusal}
-use Rattle.refusals.specs.Refusals.{numberOf, placeOf}
+use Rattle.refusals.specs.declared.Numbered.{Numbered}
+use Rattle.refusals.specs.Refusals.{numberAndPlace}
 use Rattle.comparison.specs.declared.Comparison.{Comparison}
 use Rattle.comparison.specs.declared.Comparison.the-variants.{Same, Different, Refused}
 use Rattle.lines.specs.Lines.{WrittenTo, lineOf, pairLineOf}
 use Rattle.program.specs.Program.{refusedText, sameText, differentText, refusedLine, comparisonLine}
 
 -- a refusal, by its number and its place
-module _ (out : List ℕ) (at : ℕ) (refusal : Refusal) (n p : ℕ) (e : n ≡ numberOf refusal) (f : p ≡ placeOf refusal) where
-  pub refusal-room : at + length (refusedLine refusal) ≤ length out → at + length (pairLineOf refusedText n p) ≤ length out
+module _ (out : List ℕ) (at : ℕ) (refusal : Refusal) (n : Numbered) (e : n ≡ numberAndPlace refusal) where
+  pub refusal-room : at + length (refusedLine refusal) ≤ length out → at + length (pairLineOf refusedText (n .number) (n .place)) ≤ length out
   unfolding refusedLine
-  refusal-room h = rw (e, f) h
+  refusal-room h = rw e h
 
-  pub refusal-put : (after : List ℕ) (r : ℕ) → WrittenTo out at (pairLineOf refusedText n p) after r → WrittenTo out at (refusedLine refusal) after r
+  pub refusal-put : (after : List ℕ) (r : ℕ) → WrittenTo out at (pairLineOf refusedText (n .number) (n .place)) after r → WrittenTo out at (refusedLine refusal) after r
   unfolding refusedLine
-  refusal-put after r h = rw (← e, ← f) h
+  refusal-put after r h = rw (← e) h
 
 pub ruleset refusals = (refusal-room, refusal-put, needs)
 

@@ -4,6 +4,7 @@ use mathlib.Core.List.{List, [], _∷_, _++_}
 use mathlib.Core.Path.{_≡_}
 use lib.ListN.{length, take}
 use Rattle.limits.specs.Limits.{inputMost}
+use Rattle.format.specs.Examples.{four, abdc-cadb}
 use Rattle.program.specs.Program.{programOf}
 
 pub record Example : Type 0 where
@@ -14,17 +15,11 @@ infixl 2 _gives_
 abbrev pub _gives_ : List ℕ → List ℕ → Example
 input gives output = record { input = input; output = output }
 
--- document 01's example: the head of four letters, the relation abdc = cadb, the comparison of abdc and cadb with an allowance of 100
-abbrev pub four : List ℕ
-four = 1 ∷ 0 ∷ 1 ∷ 0 ∷ 4 ∷ []
-
-abbrev pub abdc-cadb : List ℕ
-abdc-cadb = 10 ∷ 0 ∷ 2 ∷ 0 ∷ 4 ∷ 4 ∷ 0 ∷ 1 ∷ 3 ∷ 2 ∷ 2 ∷ 0 ∷ 3 ∷ 1 ∷ []
-
 -- the comparison of abdc and cadb, with an allowance
 abbrev pub comparison : ℕ → List ℕ
 comparison allowance = 16 ∷ 0 ∷ 3 ∷ 0 ∷ allowance ∷ 0 ∷ 0 ∷ 0 ∷ 4 ∷ 0 ∷ 4 ∷ 0 ∷ 0 ∷ 1 ∷ 3 ∷ 2 ∷ 2 ∷ 0 ∷ 3 ∷ 1 ∷ []
 
+-- document 01's example: the head of four letters, the relation abdc = cadb, the comparison of abdc and cadb with an allowance of 100
 abbrev pub example : List ℕ
 example = four ++ (abdc-cadb ++ comparison 100)
 

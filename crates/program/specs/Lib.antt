@@ -1,5 +1,5 @@
+pub mod Requests
 pub mod Program
 pub mod Examples
 pub mod Size
-pub mod Requests
 pub mod Writing

@@ -5,7 +5,7 @@ use lib.ListN.{length, getD}
 use Rattle.limits.specs.Limits.{recordPrefix, inputMost, comparisonLength}
 use Rattle.program.specs.Program.{programOf}
 
--- the bytes of the longest line: `refused 11 4294967295` and a newline
+-- no line is longer: `refused`, a number of at most two digits, a place of at most ten, two spaces and a newline
 abbrev pub lineMost : ℕ
 lineMost = 22
 

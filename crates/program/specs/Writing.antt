@@ -1,13 +1,12 @@
 -- What the writing of the output's lines asks (document 01, "The program").
 use Prim.Native.Nat.{ℕ, _+_, _*_, _≤_}
 use mathlib.Core.List.{List, _++_}
-use lib.ListN.{length, take}
+use lib.ListN.{length}
 use Rattle.layout.specs.Layout.{wordsIn}
 use Rattle.comparison.specs.State.{Ready}
-use Rattle.presentation.specs.Loading.{loadBook}
 use Rattle.lines.specs.Lines.{lineOf}
 use Rattle.limits.specs.Limits.{relationsMost}
-use Rattle.program.specs.Program.{bookText, bookEnd, linesFrom, byLoading}
+use Rattle.program.specs.Program.{bookText, linesFrom, loadedOutput}
 
 -- the lines of the comparison records from a position on, under the relation words of a checked presentation
 abbrev pub linesUnder : List ℕ → List ℕ → ℕ → ℕ → List ℕ → ℕ → List ℕ
@@ -30,10 +29,6 @@ pub record Accepted (text table : List ℕ) (relations letters : ℕ) (input : L
   pub within : end ≤ length input
   pub room : length (linesOfAccepted text table relations letters input end) ≤ length out
 
--- what is written for an input that is not too long
-abbrev pub outputOf : List ℕ → List ℕ
-outputOf input = byLoading input (loadBook (take (bookEnd input) input))
-
--- there is room for it at the start of the buffer
+-- there is room at the start of the buffer for what is written for an input that is not too long
 pub record Roomy (input out : List ℕ) : Type 0 where
-  pub room : length (outputOf input) ≤ length out
+  pub room : length (loadedOutput input) ≤ length out

@@ -2,11 +2,11 @@
 ghost use mathlib.Core.Path.{_≡_};
 ghost use Prim.Native.Nat.{_+_, _≤_, _<_};
 ghost use lib.ListN.{length};
-ghost use Rattle.reader.specs.Reads.{Payload};
+ghost use Rattle.records.specs.Reads.{Payload};
 ghost use Rattle.lines.specs.Lines.{WrittenTo};
-ghost use Rattle.program.specs.Program.{longField, bookEnd, refusedLine, comparisonLine, programOf};
-ghost use Rattle.program.specs.Requests.{fieldsOf, requestAt};
-ghost use Rattle.program.specs.Writing.{linesUnder, Lined, linesOfAccepted, Accepted, outputOf, Roomy};
+ghost use Rattle.program.specs.Program.{bookEnd, refusedLine, comparisonLine, loadedOutput, programOf, FuelSuffices};
+ghost use Rattle.program.specs.Requests.{longField, fieldsOf, requestAt};
+ghost use Rattle.program.specs.Writing.{linesUnder, Lined, linesOfAccepted, Accepted, Roomy};
 ghost use Rattle.comparison.specs.State.{Ready};
 ghost use Rattle.layout.specs.Layout.{wordsIn};
 ghost use Rattle.program.specs.Examples.{Hold, examples, HeavyFirst};
@@ -19,15 +19,14 @@ use format::Reading;
 use limits::Record;
 use refusals::Refusal;
 use limits::Word;
-use format::number;
-use format::place;
 use layout::Table;
 use layout::Text;
+use refusals::number_and_place;
 use lines::put_line;
 use lines::put_pair_line;
 use presentation::load;
-use reader::field_at;
-use reader::record_at;
+use records::field_at;
+use records::record_at;
 
 // What the program writes, by its length.
 pub struct Output {
@@ -62,6 +61,11 @@ pub fn sizes() -> [usize; 2]
 // The output of no input is longer than that.
 pub fn output_fits()
     ensures { λ _. ⌜ OutputFits ⌝ }
+{}
+
+// No input needs more fuel than the definitions give it.
+pub fn fuel_suffices()
+    ensures { λ _. ⌜ FuelSuffices ⌝ }
 {}
 
 // What a record of the kind 3 part asks for: a comparison, by its allowance, where its first word begins, where the second begins and where it ends; or its
@@ -99,18 +103,18 @@ pub fn book_end(input: &[u8]) -> usize
     input.len()
 }
 
-// The fields of a comparison, in a record's payload: refusal 3.
-fn fields_at(input: &[u8], at: usize, from: usize, to: usize) -> Request
+// The fields of a comparison, from one position to another: refusal 3, reported at `place`.
+fn fields_at(input: &[u8], from: usize, to: usize, place: usize) -> Request
     requires { ⌜ Payload (now input) from to ⌝ }
-    ensures { λ r. ⌜ r ≡ fieldsOf (now (input .entry)) at from to ⌝ }
+    ensures { λ r. ⌜ r ≡ fieldsOf (now (input .entry)) place from to ⌝ }
 {
     if to - from < Word::LENGTH {
-        return Request::Refused(Refusal::Length(at));
+        return Request::Refused(Refusal::Length(place));
     }
     let m = field_at(input, from + 4);
     let n = field_at(input, from + 6);
     if to - from != Word::LENGTH + m + n {
-        return Request::Refused(Refusal::Length(at));
+        return Request::Refused(Refusal::Length(place));
     }
     let allowance = long_field_at(input, from);
     let first = from + Word::LENGTH;
@@ -126,7 +130,7 @@ pub fn request_at(input: &[u8], at: usize) -> Request
         return Request::Refused(Refusal::Short(at));
     };
     match kind {
-        Word::KIND => fields_at(input, at, from, to),
+        Word::KIND => fields_at(input, from, to, at),
         _ => Request::Refused(Refusal::Kind(at)),
     }
 }
@@ -136,12 +140,13 @@ pub fn put_refusal(out: &mut [u8], at: usize, refusal: Refusal) -> usize
     requires { ⌜ at + length (refusedLine refusal) ≤ length (now out) ⌝ }
     ensures { λ r. ⌜ WrittenTo (now (out .entry)) at (refusedLine refusal) (now (out .exit)) r ⌝ }
 {
+    let numbered = number_and_place(refusal);
     put_pair_line(
         out,
         at,
         b"refused",
-        number(refusal) as u64,
-        place(refusal) as u64,
+        numbered.number as u64,
+        numbered.place as u64,
     )
 }
 
@@ -215,7 +220,7 @@ fn write_accepted(
 // Writes the output of an input that is not too long at the start of the buffer and answers its length. The book is loaded once for all its comparisons.
 fn write_loaded(input: &[u8], out: &mut [u8]) -> usize
     requires { ⌜ Roomy (now input) (now out) ⌝ }
-    ensures { λ r. ⌜ WrittenTo (now (out .entry)) 0 (outputOf (now (input .entry))) (now (out .exit)) r ⌝ }
+    ensures { λ r. ⌜ WrittenTo (now (out .entry)) 0 (loadedOutput (now (input .entry))) (now (out .exit)) r ⌝ }
 {
     let end = book_end(input);
     let mut text = [0u8; Text::ROOM];

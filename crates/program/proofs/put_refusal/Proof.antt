@@ -6,10 +6,9 @@ pub put-refusal-spec : {M : Type 1} → statement M
 put-refusal-spec =
     tie.close
     (tie.spec
-    (λ c. search refusals)
     (λ c κs. search refusals)
     (λ c. search refusals)
-    (λ c κs. search refusals)
+    (λ c. search refusals)
     (λ c κs. search refusals)
     (λ c. search refusals)
     (λ c. search refusals))
