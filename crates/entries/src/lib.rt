@@ -1,37 +1,27 @@
-// The public entries: what a customer calls. None has a `requires`; each promises that its answer equals a definition's of specs/Entries.antt, refusals in
-// document 01's order and lent buffers included: as an equality, or, of `compare`, as the field `is` of the record `Compared`, which holds demand 3 beside it.
-// The demands are spelled out in specs/Demands.antt; the last two functions do nothing and carry demand 2 as theorems on these definitions.
+// The public entries: what a customer calls. None has a `requires`; each promises that its answer equals a definition's (crate answers, specs/Entries.antt),
+// refusals in document 01's order and lent buffers included: as an equality, or, of `compare`, as the field `is` of the record `Compared`, which holds demand 3
+// beside it. The demands are spelled out in crate answers, specs/Demands.antt.
 ghost use mathlib.Core.Path.{_≡_};
 ghost use Prim.Native.Nat.{_*_, _≤_};
 ghost use lib.ListN.{length};
 ghost use Rattle.layout.specs.Layout.{wordsIn};
 ghost use Rattle.comparison.specs.State.{Ready};
-ghost use Rattle.entries.specs.Answers.{ofVerdict, ofRound, ofComparison, ofPrinted};
-ghost use Rattle.entries.specs.Entries.{checkOf, SheetOutcome as Sheets, sheetOf, RoundOutcome as Rounds, roundOf, roomOf, askedOf, OutputOutcome as Outputs, outputOf};
-ghost use Rattle.entries.specs.Parts.{SheetReady, acceptedSheet, answeredRound, loadedRound};
-ghost use Rattle.entries.specs.Demands.{Acceptance, CutsReported, Compared};
+ghost use Rattle.answers.specs.Answers.{ofVerdict, ofRound, ofComparison, ofPrinted};
+ghost use Rattle.answers.specs.Entries.{checkOf, SheetOutcome as Sheets, sheetOf, RoundOutcome as Rounds, loadedRound, roundOf, roomOf, askedOf, OutputOutcome as Outputs, outputOf};
+ghost use Rattle.answers.specs.Parts.{SheetReady, acceptedSheet, answeredRound};
+ghost use Rattle.answers.specs.Demands.{Compared};
+pub use answers::Printed;
+pub use answers::Round;
+pub use answers::Verdict;
 use comparison::Comparison;
 use format::Reading;
-use refusals::Refusal;
-use limits::Word;
 use given::Given;
 use layout::Table;
 use layout::Text;
+use limits::Word;
 use program::Output;
+use refusals::Refusal;
 use rounds::RoundLengths;
-
-// A book is accepted, with its number of relations (document 01: rules), or refused.
-pub enum Verdict {
-    Accepted(usize),
-    Refused(Refusal),
-}
-
-// A round ends, with 'same' for true, or goes on, with the lengths of the next u, v and p, or is refused.
-pub enum Round {
-    End(bool),
-    Next(usize, usize, usize),
-    Refused(Refusal),
-}
 
 // Checks a book.
 pub fn check_book(book: &[u8]) -> Verdict
@@ -192,12 +182,6 @@ pub fn single_round(
     }
 }
 
-// The program's output is written, with its length, or the buffer is too small for it.
-pub enum Printed {
-    Wrote(usize),
-    Refused(Refusal),
-}
-
 // Writes what the program of document 01 prints for an input at the start of a lent buffer, which must have room for the longest output of all.
 pub fn print_program(input: &[u8], out: &mut [u8]) -> Printed
     ensures { λ r. ⌜ Outputs.after (ofPrinted r) (now (out .exit)) ≡ outputOf (now (input .entry)) (now (out .entry)) ⌝ }
@@ -207,13 +191,3 @@ pub fn print_program(input: &[u8], out: &mut [u8]) -> Printed
     }
     Printed::Wrote(program::write_program(input, out))
 }
-
-// The demands on acceptance, as a theorem on the check's definition.
-pub fn acceptance_is_c4()
-    ensures { λ _. ⌜ Acceptance ⌝ }
-{}
-
-// The demands on the cut sheet, as a theorem on its definition.
-pub fn sheet_reports_cuts()
-    ensures { λ _. ⌜ CutsReported ⌝ }
-{}

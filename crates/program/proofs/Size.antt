@@ -8,7 +8,7 @@ use borrow.Author.Tests.{ltb-true, ltb-false, leb-false}
 use lib.Dec.{eqb, leb, ltb}
 use lib.ListN.{length, take, length-append, length-take}
 use Rattle.words.specs.Words.{Word}
-use Rattle.words.specs.Relations.{Relation, relationWords}
+use Rattle.words.specs.Relations.{relationWords}
 use Rattle.overlap.specs.Cuts.{firstLoose}
 use Rattle.overlap.specs.Verdict.{Verdict, judge, firstRepeated}
 use Rattle.congruence.specs.Rows.{Next, round}
@@ -29,6 +29,7 @@ use Rattle.format.specs.declared.RelationReading.the-variants as Relations
 use Rattle.format.specs.Book.{Presentation, adding, BookReading, field, between, recordAt, differs, headAt, fieldsAt, relationAt, relationIn, onWhole, onHead, onRelation, relationsFrom, readBook}
 use Rattle.format.proofs.Readings.{whole-at, read-within}
 use Rattle.presentation.specs.Loading.{byVerdict, byReading, loadBook}
+use Rattle.presentation.proofs.Laws.{length-words}
 use Rattle.given.specs.declared.Given.{Given}
 use Rattle.given.specs.declared.Given.the-variants as Givens
 use Rattle.given.specs.Given.{givenOf, andThen, pairOf}
@@ -325,11 +326,6 @@ book-upto book = step (headAt lettersMost 0 book 0) (head-upto book 0 0 lettersM
 abbrev SmallLoading : BookReading → Type 0
 SmallLoading (BookReading.refused r) = numberAndPlace r .place < numberMost
 SmallLoading (BookReading.read p) = length (p .relations) ≤ relationsMost
-
-length-words : (relations : List Relation) → length (relationWords relations) ≡ 2 * length relations
-unfolding relationWords
-length-words [] = refl
-length-words (r ∷ rs) = omega (arith, length-words rs)
 
 small-judged : (p : Presentation) → length (p .relations) ≤ relationsMost → SmallLoading (byVerdict p (judge (relationWords (p .relations))))
 unfolding judge

@@ -1,4 +1,4 @@
-use Rattle.entries.proofs.Laws.{tableSheets}
+use Rattle.answers.proofs.Laws.{tableSheets}
 use Rattle.entries.proofs.accepted_sheet.Statement.{statement}
 use Rattle.entries.proofs.accepted_sheet.Tie as tie
 

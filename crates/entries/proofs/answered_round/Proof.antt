@@ -1,4 +1,4 @@
-use Rattle.entries.proofs.Laws.{answereds}
+use Rattle.answers.proofs.Laws.{answereds}
 use Rattle.entries.proofs.answered_round.Statement.{statement}
 use Rattle.entries.proofs.answered_round.Tie as tie
 

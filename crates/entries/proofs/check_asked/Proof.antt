@@ -1,4 +1,4 @@
-use Rattle.entries.proofs.Laws.{askeds}
+use Rattle.answers.proofs.Laws.{askeds}
 use Rattle.entries.proofs.check_asked.Statement.{statement}
 use Rattle.entries.proofs.check_asked.Tie as tie
 

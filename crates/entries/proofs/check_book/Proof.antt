@@ -1,4 +1,4 @@
-use Rattle.entries.proofs.Laws.{checks}
+use Rattle.answers.proofs.Laws.{checks}
 use Rattle.entries.proofs.check_book.Statement.{statement}
 use Rattle.entries.proofs.check_book.Tie as tie
 

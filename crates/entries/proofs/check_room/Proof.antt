@@ -1,4 +1,4 @@
-use Rattle.entries.proofs.Rooms.{rooms}
+use Rattle.answers.proofs.Rooms.{rooms}
 use Rattle.entries.proofs.check_room.Statement.{statement}
 use Rattle.entries.proofs.check_room.Tie as tie
 

@@ -1,4 +1,4 @@
-use Rattle.entries.proofs.Laws.{compares}
+use Rattle.answers.proofs.Laws.{compares}
 use Rattle.entries.proofs.compare.Statement.{statement}
 use Rattle.entries.proofs.compare.Tie as tie
 

@@ -1,4 +1,4 @@
-use Rattle.entries.proofs.Laws.{loadeds, loaded-lent, loaded-made}
+use Rattle.answers.proofs.Laws.{loadeds, loaded-lent, loaded-made}
 use Rattle.entries.proofs.loaded_round.Statement.{statement}
 use Rattle.entries.proofs.loaded_round.Tie as tie
 

@@ -1,4 +1,4 @@
-use Rattle.entries.proofs.Laws.{prints}
+use Rattle.answers.proofs.Laws.{prints}
 use Rattle.entries.proofs.print_program.Statement.{statement}
 use Rattle.entries.proofs.print_program.Tie as tie
 

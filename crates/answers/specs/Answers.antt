@@ -2,15 +2,15 @@
 use Prim.Native.Nat.{ℕ}
 use mathlib.Core.Bool.{Bool}
 use Rattle.refusals.specs.declared.Refusal.{Refusal}
-use Rattle.refusals.specs.Refusals.{numberOf, placeOf}
+use Rattle.refusals.specs.Refusals.{numberAndPlace}
 use Rattle.comparison.specs.declared.Comparison.{Comparison}
 use Rattle.comparison.specs.declared.Comparison.the-variants as Comparisons
-use Rattle.entries.specs.declared.Verdict.{Verdict}
-use Rattle.entries.specs.declared.Verdict.the-variants as Verdicts
-use Rattle.entries.specs.declared.Round.{Round}
-use Rattle.entries.specs.declared.Round.the-variants as Rounds
-use Rattle.entries.specs.declared.Printed.{Printed}
-use Rattle.entries.specs.declared.Printed.the-variants as Prints
+use Rattle.answers.specs.declared.Verdict.{Verdict}
+use Rattle.answers.specs.declared.Verdict.the-variants as Verdicts
+use Rattle.answers.specs.declared.Round.{Round}
+use Rattle.answers.specs.declared.Round.the-variants as Rounds
+use Rattle.answers.specs.declared.Printed.{Printed}
+use Rattle.answers.specs.declared.Printed.the-variants as Prints
 
 pub data Answer : Type 0 where
   -- a book is accepted, with its number of relations (document 01: rules)
@@ -29,7 +29,7 @@ pub data Answer : Type 0 where
 
 -- a refusal by document 01's number and place
 abbrev pub refusal : Refusal → Answer
-refusal r = refused (numberOf r) (placeOf r)
+refusal r = refused (numberAndPlace r .number) (numberAndPlace r .place)
 
 abbrev pub ofVerdict : Verdict → Answer
 ofVerdict (Verdicts.Accepted n) = accepted n

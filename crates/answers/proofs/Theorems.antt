@@ -8,7 +8,7 @@ use native.Mathlib.Omega.{arith}
 use native.Mathlib.Decide.{decLt}
 use lib.ListN.{length}
 use Rattle.words.specs.Words.{Word}
-use Rattle.words.specs.Relations.{Relation, relationWords}
+use Rattle.words.specs.Relations.{relationWords}
 use Rattle.overlap.specs.Pieces.{C4}
 use Rattle.overlap.specs.Verdict.{Verdict, judge}
 use Rattle.overlap.proofs.Verdicts.{judge-iff-right, judge-accepts-iff-c4}
@@ -17,14 +17,14 @@ use Rattle.congruence.specs.Rounds as Rows
 use Rattle.congruence.specs.Rounds.{compareUnder}
 use Rattle.congruence.specs.Theorem.{Decision}
 use Rattle.congruence.proofs.Theorem.{rows-decide}
-use Rattle.format.specs.Book.{BookReading, readBook}
-use Rattle.presentation.specs.Loading.{BookLoading, loadBook, byVerdict}
+use Rattle.format.specs.Book.{Presentation, BookReading, readBook}
+use Rattle.presentation.specs.Loading.{loadBook, byVerdict}
 use Rattle.given.specs.declared.Given.the-variants as Words
 use Rattle.given.specs.Given.{pairOf}
 use Rattle.comparison.specs.Comparing.{answerOf, comparisonOf}
-use Rattle.entries.specs.Answers.{Answer, accepted, same, different, refused}
-use Rattle.entries.specs.Entries.{checkOf, compareOf}
-use Rattle.entries.specs.Demands.{Acceptance, Decides, Compared}
+use Rattle.answers.specs.Answers.{Answer, accepted, same, different, refused}
+use Rattle.answers.specs.Entries.{checkOf, compareOf}
+use Rattle.answers.specs.Demands.{Acceptance, Decides, Compared}
 
 -- the verdict as an answer
 verdictAnswer : ℕ → Verdict → Answer
@@ -51,56 +51,66 @@ loose-back n i Verdict.accepted e = let z : _≡_ {A = ℕ} 0 1 = cc in absurd (
 loose-back n i (Verdict.repeated j) e = let f : _≡_ {A = ℕ} 7 8 = cc in absurd (omega arith)
 loose-back n i (Verdict.loose j) e = let f : j ≡ i = cc in rw f
 
-check-verdict : (book : List ℕ) (letters : ℕ) (relations : List Relation) → readBook book ≡ BookReading.read letters relations
-    → checkOf book ≡ verdictAnswer (length relations) (judge (relationWords relations))
+check-verdict : (book : List ℕ) (p : Presentation) → readBook book ≡ BookReading.read p
+    → checkOf book ≡ verdictAnswer (length (p .relations)) (judge (relationWords (p .relations)))
 unfolding checkOf loadBook verdictAnswer
-check-verdict book letters relations e = go (judge (relationWords relations)) refl
+check-verdict book p e = go (judge (relationWords (p .relations))) refl
   where
-    go : (v : Verdict) → judge (relationWords relations) ≡ v → checkOf book ≡ verdictAnswer (length relations) (judge (relationWords relations))
+    go : (v : Verdict) → judge (relationWords (p .relations)) ≡ v → checkOf book ≡ verdictAnswer (length (p .relations)) (judge (relationWords (p .relations)))
     go Verdict.accepted f = rw (e, f)
     go (Verdict.repeated i) f = rw (e, f)
     go (Verdict.loose i) f = rw (e, f)
 
+-- an answer by a verdict is one of three
+verdict-only : (n : ℕ) (v : Verdict)
+    → (verdictAnswer n v ≡ accepted n) ⊎ (((i : ℕ) × (verdictAnswer n v ≡ refused 7 i)) ⊎ ((i : ℕ) × (verdictAnswer n v ≡ refused 8 i)))
+unfolding verdictAnswer
+verdict-only n Verdict.accepted = inl refl
+verdict-only n (Verdict.repeated i) = inr (inl (i, refl))
+verdict-only n (Verdict.loose i) = inr (inr (i, refl))
+
 pub acceptance : Acceptance
 unfolding verdictAnswer
-acceptance book letters relations e =
-    let c = check-verdict book letters relations e in
-    let B = relationWords relations in
+acceptance book p e =
+    let c = check-verdict book p e in
+    let n = length (p .relations) in
+    let B = relationWords (p .relations) in
     record {
       accepts = (
-        (λ a. judge-accepts-iff-c4 (relationWords relations) .0 (accepted-back (length relations) (judge (relationWords relations)) (sym c ∙ a))),
-        (λ a. c ∙ ap (verdictAnswer (length relations)) (judge-accepts-iff-c4 (relationWords relations) .1 a)),
+        (λ a. judge-accepts-iff-c4 B .0 (accepted-back n (judge B) (sym c ∙ a))),
+        (λ a. c ∙ ap (verdictAnswer n) (judge-accepts-iff-c4 B .1 a)),
       );
       repeated = λ i. (
-        (λ a. judge-iff-right (relationWords relations) (Verdict.repeated i) .0 (repeated-back (length relations) i (judge (relationWords relations)) (sym c ∙ a))),
-        (λ a. c ∙ ap (verdictAnswer (length relations)) (judge-iff-right (relationWords relations) (Verdict.repeated i) .1 a)),
+        (λ a. judge-iff-right B (Verdict.repeated i) .0 (repeated-back n i (judge B) (sym c ∙ a))),
+        (λ a. c ∙ ap (verdictAnswer n) (judge-iff-right B (Verdict.repeated i) .1 a)),
       );
       loose = λ i. (
-        (λ a. judge-iff-right (relationWords relations) (Verdict.loose i) .0 (loose-back (length relations) i (judge (relationWords relations)) (sym c ∙ a))),
-        (λ a. c ∙ ap (verdictAnswer (length relations)) (judge-iff-right (relationWords relations) (Verdict.loose i) .1 a)),
+        (λ a. judge-iff-right B (Verdict.loose i) .0 (loose-back n i (judge B) (sym c ∙ a))),
+        (λ a. c ∙ ap (verdictAnswer n) (judge-iff-right B (Verdict.loose i) .1 a)),
       );
+      only = rw c (verdict-only n (judge B));
     }
 
 -- a loaded book meets C(4)
-by-verdict-c4 : (letters l : ℕ) (relations rs : List Relation) (v : Verdict) → judge (relationWords rs) ≡ v → byVerdict l rs v ≡ BookLoading.loaded letters relations → C4 (relationWords relations)
-by-verdict-c4 letters l relations rs Verdict.accepted f e =
-    let g : rs ≡ relations = cc in
-    subst (λ (r : List Relation). C4 (relationWords r)) g (judge-accepts-iff-c4 (relationWords rs) .0 f)
-by-verdict-c4 letters l relations rs (Verdict.repeated i) f e = let z : _≡_ {A = ℕ} 0 1 = cc in absurd (omega arith)
-by-verdict-c4 letters l relations rs (Verdict.loose i) f e = let z : _≡_ {A = ℕ} 0 1 = cc in absurd (omega arith)
+by-verdict-c4 : (p q : Presentation) (v : Verdict) → judge (relationWords (q .relations)) ≡ v → byVerdict q v ≡ BookReading.read p → C4 (relationWords (p .relations))
+by-verdict-c4 p q Verdict.accepted f e =
+    let g : q ≡ p = cc in
+    subst (λ (r : Presentation). C4 (relationWords (r .relations))) g (judge-accepts-iff-c4 (relationWords (q .relations)) .0 f)
+by-verdict-c4 p q (Verdict.repeated i) f e = let z : _≡_ {A = ℕ} 0 1 = cc in absurd (omega arith)
+by-verdict-c4 p q (Verdict.loose i) f e = let z : _≡_ {A = ℕ} 0 1 = cc in absurd (omega arith)
 
-pub loaded-c4 : (book : List ℕ) (letters : ℕ) (relations : List Relation) → loadBook book ≡ BookLoading.loaded letters relations → C4 (relationWords relations)
+pub loaded-c4 : (book : List ℕ) (p : Presentation) → loadBook book ≡ BookReading.read p → C4 (relationWords (p .relations))
 unfolding loadBook
-loaded-c4 book letters relations e = go (readBook book) refl
+loaded-c4 book p e = go (readBook book) refl
   where
-    go : (x : BookReading) → readBook book ≡ x → C4 (relationWords relations)
-    go (BookReading.read l rs) f = by-verdict-c4 letters l relations rs (judge (relationWords rs)) refl (rw f at e)
+    go : (x : BookReading) → readBook book ≡ x → C4 (relationWords (p .relations))
+    go (BookReading.read q) f = by-verdict-c4 p q (judge (relationWords (q .relations))) refl (rw f at e)
     go (BookReading.refused r) f =
-        let d : BookLoading.refused r ≡ BookLoading.loaded letters relations = rw f at e in
+        let d : BookReading.refused r ≡ BookReading.read p = rw f at e in
         let z : _≡_ {A = ℕ} 0 1 = cc in
         absurd (omega arith)
 
--- the rows' answer in this paper's words
+-- the rows' answer in document 01's words
 inWords : Rows.CompareAnswer → Answer
 inWords (Rows.CompareAnswer.same n) = same n
 inWords (Rows.CompareAnswer.different n) = different n
@@ -125,12 +135,13 @@ spent-back n (Rows.CompareAnswer.different m) e = let z : _≡_ {A = ℕ} 0 1 = 
 spent-back n (Rows.CompareAnswer.spent m) e = let f : m ≡ n = cc in rw f
 
 -- an accepted book and two words that are fine
-compare-words : (book : List ℕ) (u v : Word) (allowance letters : ℕ) (relations : List Relation) → loadBook book ≡ BookLoading.loaded letters relations
-    → pairOf letters u v ≡ Words.Fine → compareOf book u v allowance ≡ inWords (compareUnder (relationWords relations) allowance u v)
+compare-words : (book : List ℕ) (u v : Word) (allowance : ℕ) (p : Presentation) → loadBook book ≡ BookReading.read p
+    → pairOf (p .letters) u v ≡ Words.Fine → compareOf book u v allowance ≡ inWords (compareUnder (relationWords (p .relations)) allowance u v)
 unfolding compareOf comparisonOf answerOf inWords
-compare-words book u v allowance letters relations e f = go (compareUnder (relationWords relations) allowance u v) refl
+compare-words book u v allowance p e f = go (compareUnder (relationWords (p .relations)) allowance u v) refl
   where
-    go : (a : Rows.CompareAnswer) → compareUnder (relationWords relations) allowance u v ≡ a → compareOf book u v allowance ≡ inWords (compareUnder (relationWords relations) allowance u v)
+    go : (a : Rows.CompareAnswer) → compareUnder (relationWords (p .relations)) allowance u v ≡ a
+        → compareOf book u v allowance ≡ inWords (compareUnder (relationWords (p .relations)) allowance u v)
     go (Rows.CompareAnswer.same n) g = rw (e, f, g)
     go (Rows.CompareAnswer.different n) g = rw (e, f, g)
     go (Rows.CompareAnswer.spent n) g = rw (e, f, g)
@@ -168,6 +179,6 @@ pub compared : (book : List ℕ) (u v : Word) (allowance : ℕ) (answer : Answer
 compared book u v allowance answer e =
     record {
       is = e;
-      decides = λ letters relations f g.
-          decides (relationWords relations) u v (rows-decide relations (loaded-c4 book letters relations f) u v) allowance answer (e ∙ compare-words book u v allowance letters relations f g);
+      decides = λ p f g.
+          decides (relationWords (p .relations)) u v (rows-decide (p .relations) (loaded-c4 book p f) u v) allowance answer (e ∙ compare-words book u v allowance p f g);
     }

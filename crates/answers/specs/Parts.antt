@@ -4,16 +4,14 @@ use mathlib.Core.Bool.{cond}
 use mathlib.Core.List.{List}
 use lib.Dec.{ltb}
 use lib.ListN.{length}
-use Rattle.words.specs.Words.{Word}
-use Rattle.congruence.specs.Rows.{round}
 use Rattle.refusals.specs.declared.Refusal.the-variants.{Narrow}
 use Rattle.rounds.specs.declared.RoundLengths.{RoundLengths}
 use Rattle.rounds.specs.declared.RoundLengths.the-variants as Lengths
 use Rattle.sheet.specs.Sheet.{sheetBytes, CutsIn}
-use Rattle.entries.specs.declared.Round.{Round}
-use Rattle.entries.specs.declared.Round.the-variants as Rounds
-use Rattle.entries.specs.Answers.{accepted, refusal}
-use Rattle.entries.specs.Entries.{over, SheetOutcome, RoundOutcome, askedOf, onGiven, writing}
+use Rattle.answers.specs.declared.Round.{Round}
+use Rattle.answers.specs.declared.Round.the-variants as Rounds
+use Rattle.answers.specs.Answers.{accepted, refusal}
+use Rattle.answers.specs.Entries.{over, SheetOutcome}
 
 -- the table has the cuts of all relation words
 pub record SheetReady (table : List ℕ) (relations : ℕ) : Type 0 where
@@ -26,11 +24,7 @@ acceptedSheet table relations sheet =
     cond (ltb (length sheet) (6 * relations)) (SheetOutcome.after (refusal (Narrow 0)) sheet)
     (SheetOutcome.after (accepted relations) (over (sheetBytes table (2 * relations)) sheet))
 
+-- a round that was made, as an answer
 abbrev pub answeredRound : RoundLengths → Round
 answeredRound (Lengths.End b) = Rounds.End b
 answeredRound (Lengths.Next a b c) = Rounds.Next a b c
-
--- the round under relation words of so many letters
-unfoldable pub loadedRound : ℕ → List Word → Word → Word → Word → List ℕ → List ℕ → List ℕ → RoundOutcome
-loadedRound letters B u v p a c d =
-    onGiven (askedOf letters u v p (length a) (length c) (length d)) (λ r. RoundOutcome.after (refusal r) a c d) (writing (round B u v p) a c d)

@@ -5,13 +5,14 @@ use mathlib.Core.List.{List, _++_}
 use lib.Dec.{ltb}
 use lib.ListN.{length, drop}
 use Rattle.words.specs.Words.{Word}
-use Rattle.words.specs.Relations.{Relation, relationWords}
+use Rattle.words.specs.Relations.{relationWords}
 use Rattle.congruence.specs.Rows.{Next, round}
 use Rattle.congruence.specs.Rows.Next.{end, go}
 use Rattle.refusals.specs.declared.Refusal.{Refusal}
 use Rattle.refusals.specs.declared.Refusal.the-variants.{Narrow}
 use Rattle.limits.specs.Limits.{nextRoom, markMost}
-use Rattle.presentation.specs.Loading.{BookLoading, loadBook}
+use Rattle.format.specs.Book.{Presentation, BookReading}
+use Rattle.presentation.specs.Loading.{loadBook}
 use Rattle.given.specs.declared.Given.{Given}
 use Rattle.given.specs.declared.Given.the-variants as Words
 use Rattle.given.specs.Given.{andThen, tripleOf}
@@ -19,20 +20,20 @@ use Rattle.sheet.specs.Sheet.{cutSheet}
 use Rattle.comparison.specs.Comparing.{comparisonOf}
 use Rattle.program.specs.Program.{programOf}
 use Rattle.program.specs.Size.{outputMost}
-use Rattle.entries.specs.Answers.{Answer, accepted, ended, next, wrote, refusal, ofComparison}
+use Rattle.answers.specs.Answers.{Answer, accepted, ended, next, wrote, refusal, ofComparison}
 
 -- a list written over the start of a buffer, whose rest is kept
 abbrev pub over : List ℕ → List ℕ → List ℕ
 over out buffer = out ++ drop (length out) buffer
 
 -- 1 to 8: a refusal of the book goes straight back
-abbrev pub onLoaded : {A : Type 0} → BookLoading → (Refusal → A) → (ℕ → List Relation → A) → A
-onLoaded (BookLoading.refused r) stop proceed = stop r
-onLoaded (BookLoading.loaded letters relations) stop proceed = proceed letters relations
+abbrev pub onLoaded : {A : Type 0} → BookReading → (Refusal → A) → (Presentation → A) → A
+onLoaded (BookReading.refused r) stop proceed = stop r
+onLoaded (BookReading.read presentation) stop proceed = proceed presentation
 
 -- the check of a book
 unfoldable pub checkOf : List ℕ → Answer
-checkOf book = onLoaded (loadBook book) refusal (λ letters relations. accepted (length relations))
+checkOf book = onLoaded (loadBook book) refusal (λ presentation. accepted (length (presentation .relations)))
 
 -- the outcome of a sheet: an answer, and the lent buffer after it
 pub data SheetOutcome : Type 0 where
@@ -41,9 +42,9 @@ pub data SheetOutcome : Type 0 where
 -- the cut sheet: three bytes a relation word at the start of the lent buffer; 12 where it is too small
 unfoldable pub sheetOf : List ℕ → List ℕ → SheetOutcome
 sheetOf book sheet =
-    onLoaded (loadBook book) (λ r. after (refusal r) sheet) (λ letters relations.
-    cond (ltb (length sheet) (6 * length relations)) (after (refusal (Narrow 0)) sheet)
-    (after (accepted (length relations)) (over (cutSheet (relationWords relations)) sheet)))
+    onLoaded (loadBook book) (λ r. after (refusal r) sheet) (λ presentation.
+    cond (ltb (length sheet) (6 * length (presentation .relations))) (after (refusal (Narrow 0)) sheet)
+    (after (accepted (length (presentation .relations))) (over (cutSheet (relationWords (presentation .relations))) sheet)))
 
 -- the outcome of a round: an answer, and the three lent buffers after it
 pub data RoundOutcome : Type 0 where
@@ -51,14 +52,14 @@ pub data RoundOutcome : Type 0 where
 
 -- 12 of the three buffers, by their lengths, lowest first
 unfoldable pub roomOf : ℕ → ℕ → ℕ → Given
-roomOf a c d =
-    cond (ltb a nextRoom) (Words.Refused (Narrow 0))
-    (cond (ltb c nextRoom) (Words.Refused (Narrow 1))
-    (cond (ltb d markMost) (Words.Refused (Narrow 2)) Words.Fine))
+roomOf roomU roomV roomP =
+    cond (ltb roomU nextRoom) (Words.Refused (Narrow 0))
+    (cond (ltb roomV nextRoom) (Words.Refused (Narrow 1))
+    (cond (ltb roomP markMost) (Words.Refused (Narrow 2)) Words.Fine))
 
 -- what is given to a round: 9 and 10 of u, v and p in turn, then 12
 unfoldable pub askedOf : ℕ → Word → Word → Word → ℕ → ℕ → ℕ → Given
-askedOf letters u v p a c d = andThen (tripleOf letters u v p) (roomOf a c d)
+askedOf letters u v p roomU roomV roomP = andThen (tripleOf letters u v p) (roomOf roomU roomV roomP)
 
 abbrev pub onGiven : {A : Type 0} → Given → (Refusal → A) → A → A
 onGiven Words.Fine stop proceed = proceed
@@ -66,21 +67,25 @@ onGiven (Words.Refused r) stop proceed = stop r
 
 -- an end writes nothing; else the next u, v and p stand at the starts of the buffers
 abbrev pub writing : Next → List ℕ → List ℕ → List ℕ → RoundOutcome
-writing (end b) a c d = RoundOutcome.after (ended b) a c d
-writing (go u v p) a c d = RoundOutcome.after (next (length u) (length v) (length p)) (over u a) (over v c) (over p d)
+writing (end b) nextU nextV nextP = RoundOutcome.after (ended b) nextU nextV nextP
+writing (go u v p) nextU nextV nextP = RoundOutcome.after (next (length u) (length v) (length p)) (over u nextU) (over v nextV) (over p nextP)
+
+-- the round under relation words B of so many letters
+unfoldable pub loadedRound : ℕ → List Word → Word → Word → Word → List ℕ → List ℕ → List ℕ → RoundOutcome
+loadedRound letters B u v p nextU nextV nextP =
+    onGiven (askedOf letters u v p (length nextU) (length nextV) (length nextP)) (λ r. RoundOutcome.after (refusal r) nextU nextV nextP)
+    (writing (round B u v p) nextU nextV nextP)
 
 -- the single round
 unfoldable pub roundOf : List ℕ → Word → Word → Word → List ℕ → List ℕ → List ℕ → RoundOutcome
-roundOf book u v p a c d =
-    let kept : Refusal → RoundOutcome = λ r. RoundOutcome.after (refusal r) a c d in
-    onLoaded (loadBook book) kept (λ letters relations.
-    onGiven (askedOf letters u v p (length a) (length c) (length d)) kept
-    (writing (round (relationWords relations) u v p) a c d))
+roundOf book u v p nextU nextV nextP =
+    onLoaded (loadBook book) (λ r. RoundOutcome.after (refusal r) nextU nextV nextP) (λ presentation.
+    loadedRound (presentation .letters) (relationWords (presentation .relations)) u v p nextU nextV nextP)
 
 -- the comparison
 unfoldable pub compareOf : List ℕ → Word → Word → ℕ → Answer
 compareOf book u v allowance =
-    onLoaded (loadBook book) refusal (λ letters relations. ofComparison (comparisonOf letters (relationWords relations) u v allowance))
+    onLoaded (loadBook book) refusal (λ presentation. ofComparison (comparisonOf (presentation .letters) (relationWords (presentation .relations)) u v allowance))
 
 -- the outcome of the program: an answer, and the lent buffer after it
 pub data OutputOutcome : Type 0 where

@@ -14,12 +14,12 @@ use Rattle.overlap.specs.Maximal.{MaximalPiecePrefix, MaximalPieceSuffix}
 use Rattle.overlap.specs.Verdict.{IsRepeated, FewPieces, Lowest, Distinct}
 use Rattle.congruence.specs.Congruence.{Congruent}
 use Rattle.congruence.specs.Rounds.{Rounds}
-use Rattle.format.specs.Book.{BookReading, readBook}
-use Rattle.presentation.specs.Loading.{BookLoading, loadBook}
+use Rattle.format.specs.Book.{Presentation, BookReading, readBook}
+use Rattle.presentation.specs.Loading.{loadBook}
 use Rattle.given.specs.declared.Given.the-variants as Words
 use Rattle.given.specs.Given.{pairOf}
-use Rattle.entries.specs.Answers.{Answer, accepted, same, different, refused}
-use Rattle.entries.specs.Entries.{checkOf, SheetOutcome, sheetOf, compareOf}
+use Rattle.answers.specs.Answers.{Answer, accepted, same, different, refused}
+use Rattle.answers.specs.Entries.{checkOf, SheetOutcome, sheetOf, compareOf}
 
 -- demand 2, of a book that is well formed and within the limits: it is accepted exactly when it meets C(4); else it is refused by 7 at the lowest
 -- relation word that equals an earlier one, or by 8 at the lowest that is a product of three or fewer pieces
@@ -27,9 +27,11 @@ pub record Accepts (relations : List Relation) (answer : Answer) : Type 0 where
   pub accepts : (answer ≡ accepted (length relations)) ↔ C4 (relationWords relations)
   pub repeated : (i : ℕ) → (answer ≡ refused 7 i) ↔ Lowest (length (relationWords relations)) (IsRepeated (relationWords relations)) i
   pub loose : (i : ℕ) → (answer ≡ refused 8 i) ↔ (Distinct (relationWords relations) × Lowest (length (relationWords relations)) (FewPieces 4 (relationWords relations)) i)
+  -- there is no other answer
+  pub only : (answer ≡ accepted (length relations)) ⊎ (((i : ℕ) × (answer ≡ refused 7 i)) ⊎ ((i : ℕ) × (answer ≡ refused 8 i)))
 
 abbrev pub Acceptance : Type 0
-Acceptance = (book : List ℕ) (letters : ℕ) (relations : List Relation) → readBook book ≡ BookReading.read letters relations → Accepts relations (checkOf book)
+Acceptance = (book : List ℕ) (presentation : Presentation) → readBook book ≡ BookReading.read presentation → Accepts (presentation .relations) (checkOf book)
 
 -- demand 2, of relation word i and its three bytes on a sheet: they are the lengths of its maximal piece prefix X, its middle word Y and its maximal piece
 -- suffix Z, where Y is not empty and no piece
@@ -56,10 +58,10 @@ pub record Sheeted (relations : List Relation) (old : List ℕ) (outcome : Sheet
 
 -- of every accepted book: the sheet is in the buffer exactly when that has three bytes for each relation word, else 12 and the old buffer
 pub record CutsReported : Type 0 where
-  pub roomy : (book old : List ℕ) (letters : ℕ) (relations : List Relation) → loadBook book ≡ BookLoading.loaded letters relations
-      → 3 * length (relationWords relations) ≤ length old → Sheeted relations old (sheetOf book old)
-  pub narrow : (book old : List ℕ) (letters : ℕ) (relations : List Relation) → loadBook book ≡ BookLoading.loaded letters relations
-      → length old < 3 * length (relationWords relations) → sheetOf book old ≡ SheetOutcome.after (refused 12 0) old
+  pub roomy : (book old : List ℕ) (presentation : Presentation) → loadBook book ≡ BookReading.read presentation
+      → 3 * length (relationWords (presentation .relations)) ≤ length old → Sheeted (presentation .relations) old (sheetOf book old)
+  pub narrow : (book old : List ℕ) (presentation : Presentation) → loadBook book ≡ BookReading.read presentation
+      → length old < 3 * length (relationWords (presentation .relations)) → sheetOf book old ≡ SheetOutcome.after (refused 12 0) old
 
 -- demand 3, of two words under relation words B, an allowance and an answer
 pub record Decides (B : List Word) (u v : Word) (allowance : ℕ) (answer : Answer) : Type 0 where
@@ -72,7 +74,7 @@ pub record Decides (B : List Word) (u v : Word) (allowance : ℕ) (answer : Answ
   -- else 'same' exactly when a chain joins the words, 'different' exactly when none does, with that count of rounds
   pub joins : (answer ≡ same rounds) ↔ ((rounds ≤ allowance) × Congruent B u v)
   pub parts : (answer ≡ different rounds) ↔ ((rounds ≤ allowance) × (¬ Congruent B u v))
-  -- and there is no other answer
+  -- there is no other answer
   pub only : (answer ≡ refused 11 allowance) ⊎ ((answer ≡ same rounds) ⊎ (answer ≡ different rounds))
   -- the rounds are at most (k + 2) times the first word's length; in fact at most (k + 1) times the shorter one's
   pub bound : rounds ≤ (longestSuffixPiece B + 2) * length u
@@ -81,5 +83,5 @@ pub record Decides (B : List Word) (u v : Word) (allowance : ℕ) (answer : Answ
 -- what the comparison promises of its answer: it is the definition's; and of an accepted book and two words that are fine, it decides
 pub record Compared (book : List ℕ) (u v : Word) (allowance : ℕ) (answer : Answer) : Type 0 where
   pub is : answer ≡ compareOf book u v allowance
-  pub decides : (letters : ℕ) (relations : List Relation) → loadBook book ≡ BookLoading.loaded letters relations → pairOf letters u v ≡ Words.Fine
-      → Decides (relationWords relations) u v allowance answer
+  pub decides : (presentation : Presentation) → loadBook book ≡ BookReading.read presentation → pairOf (presentation .letters) u v ≡ Words.Fine
+      → Decides (relationWords (presentation .relations)) u v allowance answer

@@ -36,18 +36,18 @@ use Rattle.comparison.specs.State.{Ready}
 use Rattle.comparison.specs.Comparing.{comparisonOf}
 use Rattle.sheet.specs.Sheet.{cutSheet, sheetBytes, SheetRoom}
 use Rattle.sheet.proofs.Laws.{cuts-in, sheet-cut, length-sheet}
-use Rattle.entries.specs.declared.Verdict.the-variants as Verdicts
-use Rattle.entries.specs.declared.Round.{Round}
-use Rattle.entries.specs.declared.Printed.the-variants as Prints
+use Rattle.answers.specs.declared.Verdict.the-variants as Verdicts
+use Rattle.answers.specs.declared.Round.{Round}
+use Rattle.answers.specs.declared.Printed.the-variants as Prints
 use Rattle.lines.specs.Lines.{WrittenTo}
 use Rattle.program.specs.Program.{programOf}
 use Rattle.program.specs.Size.{outputMost}
-use Rattle.entries.specs.declared.Round.the-variants as Rounds
-use Rattle.entries.specs.Answers.{accepted, refusal, ofVerdict, ofRound, ofComparison, ofPrinted}
-use Rattle.entries.specs.Entries.{checkOf, SheetOutcome, sheetOf, RoundOutcome, OutputOutcome, outputOf, roomOf, askedOf, writing, roundOf, compareOf}
-use Rattle.entries.specs.Parts.{SheetReady, acceptedSheet, answeredRound, loadedRound}
-use Rattle.entries.specs.Demands.{Compared}
-use Rattle.entries.proofs.Theorems.{compared}
+use Rattle.answers.specs.declared.Round.the-variants as Rounds
+use Rattle.answers.specs.Answers.{accepted, refusal, ofVerdict, ofRound, ofComparison, ofPrinted}
+use Rattle.answers.specs.Entries.{checkOf, SheetOutcome, sheetOf, RoundOutcome, OutputOutcome, outputOf, roomOf, askedOf, writing, loadedRound, roundOf, compareOf}
+use Rattle.answers.specs.Parts.{SheetReady, acceptedSheet, answeredRound}
+use Rattle.answers.specs.Demands.{Compared}
+use Rattle.answers.proofs.Theorems.{compared}
 
 module _ (book : List ℕ) (reading : Reading) (text table : List ℕ) (d : BookLoaded book reading text table) where
   -- the check
@@ -59,7 +59,7 @@ module _ (book : List ℕ) (reading : Reading) (text table : List ℕ) (d : Book
   unfolding checkOf
   check-accepted letters count e =
       let h = d .held letters count e in
-      let q : checkOf book ≡ accepted (length (h .relations)) = rw (h .is) in
+      let q : checkOf book ≡ accepted (length (h .presentation .relations)) = rw (h .is) in
       ap accepted (h .many) ∙ sym q
 
   -- the cut sheet
@@ -98,7 +98,7 @@ module _ (book : List ℕ) (reading : Reading) (text table : List ℕ) (d : Book
     unfolding sheetOf acceptedSheet
     sheet-loaded sheet x f =
         let h = held in
-        let s : sheetBytes table (2 * count) ≡ cutSheet (relationWords (h .relations)) = sheet-cut text table (2 * count) (h .checked) ∙ ap cutSheet (h .words) in
+        let s : sheetBytes table (2 * count) ≡ cutSheet (relationWords (h .presentation .relations)) = sheet-cut text table (2 * count) (h .checked) ∙ ap cutSheet (h .words) in
         let q : sheetOf book sheet ≡ acceptedSheet table count sheet = rw (h .is, ← h .many, s) in
         f ∙ sym q
 
@@ -107,16 +107,17 @@ module _ (book : List ℕ) (reading : Reading) (text table : List ℕ) (d : Book
     unfolding compareOf
     compare-loaded u v allowance x f =
         let h = held in
-        let q : compareOf book u v allowance ≡ ofComparison (comparisonOf letters (relationWords (h .relations)) u v allowance) = rw (h .is) in
-        let g : x ≡ comparisonOf letters (relationWords (h .relations)) u v allowance = f ∙ rw (h .words) in
+        let q : compareOf book u v allowance ≡ ofComparison (comparisonOf (h .presentation .letters) (relationWords (h .presentation .relations)) u v allowance) = rw (h .is) in
+        let g : x ≡ comparisonOf (h .presentation .letters) (relationWords (h .presentation .relations)) u v allowance = f ∙ rw (h .words, ← h .lettered) in
         compared book u v allowance (ofComparison x) (ap ofComparison g ∙ sym q)
 
     pub round-loaded : (u v p a c b : List ℕ) (x : RoundOutcome) → x ≡ loadedRound letters (wordsIn text table (2 * count)) u v p a c b → x ≡ roundOf book u v p a c b
-    unfolding roundOf loadedRound
+    unfolding roundOf
     round-loaded u v p a c b x f =
         let h = held in
         let g = rw (h .words) at f in
-        g ∙ sym (rw (h .is))
+        let q : roundOf book u v p a c b ≡ loadedRound letters (relationWords (h .presentation .relations)) u v p a c b = rw (h .is, ← h .lettered) in
+        g ∙ sym q
 
 pub memory-made : (text table : List ℕ) → length text ≡ 4160 → length table ≡ 450 → Memory text table
 memory-made text table h k = record { text4160 = h; table450 = k }
@@ -204,7 +205,7 @@ module _ (text table : List ℕ) (n letters : ℕ) (u v p a c d : List ℕ) (g :
       let k = fine-asked letters u v p (length a) (length c) (length d) (sym e ∙ f) in
       record { paired = r .paired; shortU = k .0; shortV = k .1; shortP = k .2; roomU = k .3; roomV = k .4; roomP = k .5 }
 
-  -- the round's outcome in this paper's words
+  -- the round's outcome in document 01's words
   written : (x : Next) (s : RoundLengths) (a′ c′ d′ : List ℕ) → Writing.after s a′ c′ d′ ≡ writtenBy x a c d → RoundOutcome.after (ofRound (answeredRound s)) a′ c′ d′ ≡ writing x a c d
   unfolding writtenBy
   written (end b) s a′ c′ d′ q =

@@ -6,7 +6,7 @@ use borrow.Author.Tests.{lt-ltb, le-ltb}
 use Rattle.refusals.specs.declared.Refusal.the-variants.{Narrow}
 use Rattle.limits.specs.Limits.{nextRoom, markMost}
 use Rattle.given.specs.declared.Given.the-variants as Words
-use Rattle.entries.specs.Entries.{roomOf}
+use Rattle.answers.specs.Entries.{roomOf}
 
 module _ (a c d : ℕ) where
   pub room-first : a < nextRoom → Words.Refused (Narrow 0) ≡ roomOf a c d

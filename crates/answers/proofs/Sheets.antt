@@ -9,21 +9,17 @@ use borrow.Author.Tests.{lt-ltb, le-ltb}
 use lib.ListN.{length, drop, getD, length-append, length-drop, List·getD-append}
 use lib.Seq.{length-take-le, getD-append-add, getD-drop}
 use Rattle.words.specs.Words.{Word}
-use Rattle.words.specs.Relations.{Relation, relationWords}
+use Rattle.words.specs.Relations.{relationWords}
 use Rattle.overlap.specs.Pieces.{word, C4}
 use Rattle.overlap.specs.Cuts.{xlen, ylen, zlen, xylen, xOf, zOf}
 use Rattle.overlap.specs.Maximal.{yOf}
 use Rattle.overlap.proofs.Facts.{x-bound, z-bound}
 use Rattle.overlap.proofs.Maximal.{x-maximal, z-maximal, cut-whole, length-y, y-has-letters, y-is-no-piece}
 use Rattle.sheet.specs.Sheet.{cutBytes, cutSheet}
-use Rattle.entries.specs.Entries.{over, sheetOf}
-use Rattle.entries.specs.Demands.{Reports, CutsReported}
-use Rattle.entries.proofs.Theorems.{loaded-c4}
-
-length-sides : (relations : List Relation) → length (relationWords relations) ≡ 2 * length relations
-unfolding relationWords
-length-sides [] = refl
-length-sides (r ∷ rs) = omega (arith, length-sides rs)
+use Rattle.presentation.proofs.Laws.{length-words}
+use Rattle.answers.specs.Entries.{over, sheetOf}
+use Rattle.answers.specs.Demands.{Reports, CutsReported}
+use Rattle.answers.proofs.Theorems.{loaded-c4}
 
 -- three bytes a relation word
 length-cuts : (B : List Word) (n : ℕ) → length (cutBytes B n) ≡ 3 * n
@@ -90,15 +86,16 @@ pub cuts-reported : CutsReported
 unfolding sheetOf
 cuts-reported =
     record {
-      roomy = λ book old letters relations e h.
-          let n = length-sides relations in
-          let l = length-cuts (relationWords relations) (length (relationWords relations)) in
+      roomy = λ book old p e h.
+          let B = relationWords (p .relations) in
+          let n = length-words (p .relations) in
+          let l = length-cuts B (length B) in
           record {
-            sheet = over (cutSheet (relationWords relations)) old;
-            is = rw (e, le-ltb (length old) (6 * length relations) (omega arith));
-            reports = over-reports (relationWords relations) (loaded-c4 book letters relations e) old;
-            kept = over-kept (cutSheet (relationWords relations)) old (omega arith);
-            behind = λ j b. over-behind (cutSheet (relationWords relations)) old j (omega arith);
+            sheet = over (cutSheet B) old;
+            is = rw (e, le-ltb (length old) (6 * length (p .relations)) (omega arith));
+            reports = over-reports B (loaded-c4 book p e) old;
+            kept = over-kept (cutSheet B) old (omega arith);
+            behind = λ j b. over-behind (cutSheet B) old j (omega arith);
           };
-      narrow = λ book old letters relations e h. let n = length-sides relations in rw (e, lt-ltb (length old) (6 * length relations) (omega arith));
+      narrow = λ book old p e h. let n = length-words (p .relations) in rw (e, lt-ltb (length old) (6 * length (p .relations)) (omega arith));
     }
