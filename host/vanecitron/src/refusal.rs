@@ -102,19 +102,19 @@ pub enum Run {
 #[non_exhaustive]
 pub enum Place {
     /// Reasons 1 to 6: the first byte of the record at fault, counted from the start of the book.
-    Byte(u64),
+    Byte(usize),
     /// Reasons 7 and 8: the side at fault; rule `i`, counted from 0, has the sides `2 * i`, its left one, and `2 * i + 1`.
-    Side(u64),
+    Side(usize),
     /// Reason 9: the run that is too long.
     Run(Run),
     /// Reason 10: the first step at fault, by its run and its position there, counted from 0.
-    Step { run: Run, position: u64 },
+    Step { run: Run, position: usize },
     /// Reason 11: the rounds done.
     Rounds(u64),
     /// Reason 12: the buffer that is too small, counted from 0 in the order of the call.
-    Buffer(u64),
+    Buffer(usize),
     /// Reason 13: the most bytes of an input.
-    Limit(u64),
+    Limit(usize),
     /// The place of a reason that this version does not know.
     Other(u64),
 }
@@ -128,14 +128,15 @@ impl Place {
             2 => Some(Run::P),
             _ => None,
         };
+        let (number, position) = (place as usize, (place % PLACE_SPACING) as usize);
         match (reason, run) {
-            (Reason::Short | Reason::Kind | Reason::Length | Reason::Range | Reason::UnknownStep | Reason::Thick, _) => Place::Byte(place),
-            (Reason::Twice | Reason::Loose, _) => Place::Side(place),
+            (Reason::Short | Reason::Kind | Reason::Length | Reason::Range | Reason::UnknownStep | Reason::Thick, _) => Place::Byte(number),
+            (Reason::Twice | Reason::Loose, _) => Place::Side(number),
             (Reason::Long, Some(run)) => Place::Run(run),
-            (Reason::Stranger, Some(run)) => Place::Step { run, position: place % PLACE_SPACING },
+            (Reason::Stranger, Some(run)) => Place::Step { run, position },
             (Reason::Spent, _) => Place::Rounds(place),
-            (Reason::Narrow, _) => Place::Buffer(place),
-            (Reason::Heavy, _) => Place::Limit(place),
+            (Reason::Narrow, _) => Place::Buffer(number),
+            (Reason::Heavy, _) => Place::Limit(number),
             (Reason::Long | Reason::Stranger | Reason::Other(_), _) => Place::Other(place),
         }
     }
@@ -144,13 +145,9 @@ impl Place {
     pub fn number(self) -> u64 {
         match self {
             Place::Run(run) => PLACE_SPACING * run as u64,
-            Place::Step { run, position } => PLACE_SPACING * run as u64 + position,
-            Place::Byte(number)
-            | Place::Side(number)
-            | Place::Rounds(number)
-            | Place::Buffer(number)
-            | Place::Limit(number)
-            | Place::Other(number) => number,
+            Place::Step { run, position } => PLACE_SPACING * run as u64 + position as u64,
+            Place::Byte(number) | Place::Side(number) | Place::Buffer(number) | Place::Limit(number) => number as u64,
+            Place::Rounds(number) | Place::Other(number) => number,
         }
     }
 }
