@@ -11,8 +11,8 @@ from pathlib import Path
 
 ROOT = Path(__file__).resolve().parent.parent
 SOURCES = {path.parent.parent.name: path.read_text() for path in sorted(ROOT.glob("crates/*/src/lib.rt"))}
-INTERFACE = SOURCES["vanecitron"]
-DEFINED = (ROOT / "crates/vanecitron/specs/Numbers.antt").read_text()
+INTERFACE = SOURCES["results"] + SOURCES["vanecitron"]
+DEFINED = (ROOT / "crates/vanecitron/specs/Calls.antt").read_text()
 HEADER = (ROOT / "host/include/vanecitron.h").read_text()
 WRAPPER = (ROOT / "host/vanecitron/src/lib.rs").read_text()
 RAW = (ROOT / "host/vanecitron/src/raw.rs").read_text()

@@ -1,6 +1,6 @@
-use Rattle.vanecitron.proofs.Laws.{printings}
-use Rattle.vanecitron.proofs.of_printed.Statement.{statement}
-use Rattle.vanecitron.proofs.of_printed.Tie as tie
+use Rattle.results.proofs.Laws.{printings}
+use Rattle.results.proofs.of_printed.Statement.{statement}
+use Rattle.results.proofs.of_printed.Tie as tie
 
 pub of-printed-spec : {M : Type 1} → statement M
 of-printed-spec =

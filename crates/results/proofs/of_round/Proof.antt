@@ -1,6 +1,6 @@
-use Rattle.vanecitron.proofs.Laws.{rounds}
-use Rattle.vanecitron.proofs.of_round.Statement.{statement}
-use Rattle.vanecitron.proofs.of_round.Tie as tie
+use Rattle.results.proofs.Laws.{rounds}
+use Rattle.results.proofs.of_round.Statement.{statement}
+use Rattle.results.proofs.of_round.Tie as tie
 
 pub of-round-spec : {M : Type 1} → statement M
 of-round-spec =

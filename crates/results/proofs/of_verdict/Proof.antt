@@ -1,6 +1,6 @@
-use Rattle.vanecitron.proofs.Laws.{verdicts}
-use Rattle.vanecitron.proofs.of_verdict.Statement.{statement}
-use Rattle.vanecitron.proofs.of_verdict.Tie as tie
+use Rattle.results.proofs.Laws.{verdicts}
+use Rattle.results.proofs.of_verdict.Statement.{statement}
+use Rattle.results.proofs.of_verdict.Tie as tie
 
 pub of-verdict-spec : {M : Type 1} → statement M
 of-verdict-spec =

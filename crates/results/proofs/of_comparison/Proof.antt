@@ -1,6 +1,6 @@
-use Rattle.vanecitron.proofs.Laws.{comparisons}
-use Rattle.vanecitron.proofs.of_comparison.Statement.{statement}
-use Rattle.vanecitron.proofs.of_comparison.Tie as tie
+use Rattle.results.proofs.Laws.{comparisons}
+use Rattle.results.proofs.of_comparison.Statement.{statement}
+use Rattle.results.proofs.of_comparison.Tie as tie
 
 pub of-comparison-spec : {M : Type 1} → statement M
 of-comparison-spec =

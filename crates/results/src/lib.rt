@@ -1,0 +1,181 @@
+// What the C functions return: the specification's numbers in plain structs, for each answer of the entries as specs/Numbers.antt gives them.
+// The fields have the words of the C header, which are the specification's: a rule is a relation, a run a word.
+ghost use mathlib.Core.Path.{_≡_};
+ghost use Rattle.format.specs.Refusals.{numberOf, placeOf};
+ghost use Rattle.answers.specs.Answers.{ofVerdict, ofRound, ofComparison, ofPrinted};
+ghost use Rattle.results.specs.Numbers.{endOutcome, checkResult, roundResult, compareResult, programResult};
+use comparison::Comparison;
+use entries::Printed;
+use entries::Round;
+use entries::Verdict;
+use format::Refusal;
+
+// What a round or a comparison says, as a number. 0 says nothing, so that a refused result, and one filled with zeros, reads as no answer.
+pub struct Outcome {
+    pub code: u32,
+}
+
+impl Outcome {
+    pub const NONE: u32 = 0;
+
+    pub const SAME: u32 = 1;
+
+    pub const DIFFERENT: u32 = 2;
+
+    // Of a round alone: it goes on.
+    pub const NEXT: u32 = 3;
+}
+
+// Of the check and of the cut sheet. In every struct: the number of a refusal and its place, or 0 and 0; what an answer does not give is 0.
+#[repr(C)]
+pub struct CheckResult {
+    pub refusal: u32,
+    pub place: u64,
+    pub rules: u64,
+}
+
+// Of a single round: its outcome, and the lengths of the next u, v and p where that is NEXT.
+#[repr(C)]
+pub struct RoundResult {
+    pub refusal: u32,
+    pub place: u64,
+    pub outcome: u32,
+    pub u_length: u64,
+    pub v_length: u64,
+    pub p_length: u64,
+}
+
+// Of a comparison: its outcome, and the rounds that it took.
+#[repr(C)]
+pub struct CompareResult {
+    pub refusal: u32,
+    pub place: u64,
+    pub outcome: u32,
+    pub rounds: u64,
+}
+
+// Of the program: the length of what it wrote.
+#[repr(C)]
+pub struct ProgramResult {
+    pub refusal: u32,
+    pub place: u64,
+    pub length: u64,
+}
+
+// A refusal's number, in the width of the structs.
+fn number(refusal: Refusal) -> u32
+    ensures { λ r. ⌜ r ≡ numberOf refusal ⌝ }
+{
+    format::number(refusal) as u32
+}
+
+// A refusal's place, in the width of the structs.
+fn place(refusal: Refusal) -> u64
+    ensures { λ r. ⌜ r ≡ placeOf refusal ⌝ }
+{
+    format::place(refusal) as u64
+}
+
+// The numbers of a verdict.
+pub fn of_verdict(verdict: Verdict) -> CheckResult
+    ensures { λ r. ⌜ r ≡ checkResult (ofVerdict verdict) ⌝ }
+{
+    match verdict {
+        Verdict::Accepted(relations) => CheckResult {
+            refusal: 0,
+            place: 0,
+            rules: relations as u64,
+        },
+        Verdict::Refused(refusal) => CheckResult {
+            refusal: number(refusal),
+            place: place(refusal),
+            rules: 0,
+        },
+    }
+}
+
+// The outcome of a round that ends, with 'same' for true.
+fn of_end(same: bool) -> u32
+    ensures { λ r. ⌜ r ≡ endOutcome same ⌝ }
+{
+    if same {
+        return Outcome::SAME;
+    }
+    Outcome::DIFFERENT
+}
+
+// The numbers of a round.
+pub fn of_round(round: Round) -> RoundResult
+    ensures { λ r. ⌜ r ≡ roundResult (ofRound round) ⌝ }
+{
+    match round {
+        Round::End(same) => RoundResult {
+            refusal: 0,
+            place: 0,
+            outcome: of_end(same),
+            u_length: 0,
+            v_length: 0,
+            p_length: 0,
+        },
+        Round::Next(u, v, p) => RoundResult {
+            refusal: 0,
+            place: 0,
+            outcome: Outcome::NEXT,
+            u_length: u as u64,
+            v_length: v as u64,
+            p_length: p as u64,
+        },
+        Round::Refused(refusal) => RoundResult {
+            refusal: number(refusal),
+            place: place(refusal),
+            outcome: Outcome::NONE,
+            u_length: 0,
+            v_length: 0,
+            p_length: 0,
+        },
+    }
+}
+
+// The numbers of a comparison.
+pub fn of_comparison(comparison: Comparison) -> CompareResult
+    ensures { λ r. ⌜ r ≡ compareResult (ofComparison comparison) ⌝ }
+{
+    match comparison {
+        Comparison::Same(rounds) => CompareResult {
+            refusal: 0,
+            place: 0,
+            outcome: Outcome::SAME,
+            rounds: rounds as u64,
+        },
+        Comparison::Different(rounds) => CompareResult {
+            refusal: 0,
+            place: 0,
+            outcome: Outcome::DIFFERENT,
+            rounds: rounds as u64,
+        },
+        Comparison::Refused(refusal) => CompareResult {
+            refusal: number(refusal),
+            place: place(refusal),
+            outcome: Outcome::NONE,
+            rounds: 0,
+        },
+    }
+}
+
+// The numbers of what the program gave.
+pub fn of_printed(printed: Printed) -> ProgramResult
+    ensures { λ r. ⌜ r ≡ programResult (ofPrinted printed) ⌝ }
+{
+    match printed {
+        Printed::Wrote(length) => ProgramResult {
+            refusal: 0,
+            place: 0,
+            length: length as u64,
+        },
+        Printed::Refused(refusal) => ProgramResult {
+            refusal: number(refusal),
+            place: place(refusal),
+            length: 0,
+        },
+    }
+}

@@ -1,0 +1,42 @@
+-- What each C function promises: its entry's outcome, as the numbers of `results`, with the lent buffers.
+use Prim.Native.Nat.{ℕ}
+use mathlib.Core.List.{List}
+use mathlib.Core.Path.{_≡_}
+use Rattle.words.specs.Words.{Word}
+use Rattle.answers.specs.Entries.{SheetOutcome, RoundOutcome, compareOf, OutputOutcome}
+use Rattle.answers.specs.Demands.{Compared}
+use Rattle.results.specs.declared.CheckResult.{CheckResult}
+use Rattle.results.specs.declared.RoundResult.{RoundResult}
+use Rattle.results.specs.declared.CompareResult.{CompareResult}
+use Rattle.results.specs.declared.ProgramResult.{ProgramResult}
+use Rattle.results.specs.Numbers.{checkResult, roundResult, compareResult, programResult}
+
+-- the version of the C functions: 10,000 times the first part, 100 times the second, and the third
+abbrev pub version : ℕ
+version = 200
+
+-- what the cut sheet returns, and the lent buffer after it
+pub data SheetNumbers : Type 0 where
+  after : CheckResult → List ℕ → SheetNumbers
+
+abbrev pub sheetNumbers : SheetOutcome → SheetNumbers
+sheetNumbers (SheetOutcome.after a sheet) = SheetNumbers.after (checkResult a) sheet
+
+-- what the round returns, and the three lent buffers after it
+pub data RoundNumbers : Type 0 where
+  after : RoundResult → List ℕ → List ℕ → List ℕ → RoundNumbers
+
+abbrev pub roundNumbers : RoundOutcome → RoundNumbers
+roundNumbers (RoundOutcome.after a nextU nextV nextP) = RoundNumbers.after (roundResult a) nextU nextV nextP
+
+-- the numbers are those of the definition's answer, of which all is promised that the entry promises
+pub record ComparedNumbers (book : List ℕ) (u v : Word) (allowance : ℕ) (r : CompareResult) : Type 0 where
+  pub is : r ≡ compareResult (compareOf book u v allowance)
+  pub compared : Compared book u v allowance (compareOf book u v allowance)
+
+-- what the program returns, and the lent buffer after it
+pub data ProgramNumbers : Type 0 where
+  after : ProgramResult → List ℕ → ProgramNumbers
+
+abbrev pub programNumbers : OutputOutcome → ProgramNumbers
+programNumbers (OutputOutcome.after a output) = ProgramNumbers.after (programResult a) output
