@@ -109,13 +109,14 @@ extern "C" {
 #define VANECITRON_DIFFERENT 2u
 #define VANECITRON_NEXT 3u          /* of a round alone: it went on, and the next u, v and p are written */
 
-/* of the check and of the cut sheet */
+/* Of the check and of the cut sheet. */
 typedef struct {
     uint32_t refusal;
     uint64_t place;
-    uint64_t rules; /* the number of the book's rules */
+    uint64_t rules; /* the number of the book's rules; 0 of a refused one too, so look at its refusal first */
 } vanecitron_check_result;
 
+/* Of a single round. */
 typedef struct {
     uint32_t refusal;
     uint64_t place;
@@ -125,6 +126,7 @@ typedef struct {
     uint64_t p_length;
 } vanecitron_round_result;
 
+/* Of a comparison. */
 typedef struct {
     uint32_t refusal;
     uint64_t place;
@@ -132,6 +134,7 @@ typedef struct {
     uint64_t rounds;    /* how many rounds the comparison took */
 } vanecitron_compare_result;
 
+/* Of the program. */
 typedef struct {
     uint32_t refusal;
     uint64_t place;

@@ -54,7 +54,8 @@ module _ (buf ys : List ℕ) (done k : ℕ) (e : length ys ≡ length (take k (d
   pub piece-none : GotPiece Failed done buf (take done buf ++ (ys ++ drop k (drop done buf)))
   piece-none = record { within = λ n e. absurd (let z : _≡_ {A = ℕ} 0 1 = cc in omega arith); long = part-long }
 
-  pub piece-some : (b : List ℕ) → b ≡ take done buf ++ (ys ++ drop k (drop done buf)) → done ≤ length buf → (n : ℕ) → n ≤ length (take (length b - done) (drop done b)) → GotPiece (Bytes n) done buf b
+  pub piece-some : (b : List ℕ) → b ≡ take done buf ++ (ys ++ drop k (drop done buf)) → done ≤ length buf → (n : ℕ)
+      → n ≤ length (take (length b - done) (drop done b)) → GotPiece (Bytes n) done buf b
   piece-some b q h n l =
       let s : length b ≡ length buf = ap length q ∙ part-long in
       record {
