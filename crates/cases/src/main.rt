@@ -277,11 +277,8 @@ fn print_touched(buffer: &[u8], from: usize) {
 }
 
 fn print_refusal(refusal: Refusal) {
-    print_pair(
-        b"refused ",
-        numbers::wide(format::number(refusal)),
-        format::place(refusal),
-    );
+    let numbered = refusals::number_and_place(refusal);
+    print_pair(b"refused ", numbers::wide(numbered.number), numbered.place);
 }
 
 // Prints a line of a word and two numbers.

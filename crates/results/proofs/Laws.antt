@@ -3,8 +3,8 @@ use Prim.Native.Nat.{ℕ}
 use mathlib.Core.Bool.{Bool, true, false}
 use mathlib.Core.Path.{_≡_}
 use borrow.Author.Needs.{needs}
-use Rattle.format.specs.declared.Refusal.{Refusal}
-use Rattle.format.specs.Refusals.{numberOf, placeOf}
+use Rattle.refusals.specs.declared.Refusal.{Refusal}
+use Rattle.refusals.specs.Refusals.{numberAndPlace}
 use Rattle.comparison.specs.declared.Comparison.{Comparison}
 use Rattle.comparison.specs.declared.Comparison.the-variants as Comparisons
 use Rattle.answers.specs.declared.Verdict.{Verdict}
@@ -30,7 +30,7 @@ module _ (verdict : Verdict) where
   pub verdict-accepted : (n : ℕ) → verdict ≡ Verdicts.Accepted n → record { refusal = 0; place = 0; rules = n } ≡ checkResult (ofVerdict verdict)
   verdict-accepted n f = rw f
 
-  pub verdict-refused : (r : Refusal) (n p : ℕ) → verdict ≡ Verdicts.Refused r → n ≡ numberOf r → p ≡ placeOf r
+  pub verdict-refused : (r : Refusal) (n p : ℕ) → verdict ≡ Verdicts.Refused r → n ≡ numberAndPlace r .number → p ≡ numberAndPlace r .place
       → record { refusal = n; place = p; rules = 0 } ≡ checkResult (ofVerdict verdict)
   verdict-refused r n p f g h = rw (f, g, h)
 
@@ -46,7 +46,7 @@ module _ (round : Round) where
       → record { refusal = 0; place = 0; outcome = 3; «u_length» = k; «v_length» = m; «p_length» = n } ≡ roundResult (ofRound round)
   round-goes-on k m n f = rw f
 
-  pub round-refused : (r : Refusal) (k m : ℕ) → round ≡ Ways.Refused r → k ≡ numberOf r → m ≡ placeOf r
+  pub round-refused : (r : Refusal) (k m : ℕ) → round ≡ Ways.Refused r → k ≡ numberAndPlace r .number → m ≡ numberAndPlace r .place
       → record { refusal = k; place = m; outcome = 0; «u_length» = 0; «v_length» = 0; «p_length» = 0 } ≡ roundResult (ofRound round)
   round-refused r k m f g h = rw (f, g, h)
 
@@ -62,7 +62,7 @@ module _ (comparison : Comparison) where
       → record { refusal = 0; place = 0; outcome = 2; rounds = n } ≡ compareResult (ofComparison comparison)
   comparison-different n f = rw f
 
-  pub comparison-refused : (r : Refusal) (n p : ℕ) → comparison ≡ Comparisons.Refused r → n ≡ numberOf r → p ≡ placeOf r
+  pub comparison-refused : (r : Refusal) (n p : ℕ) → comparison ≡ Comparisons.Refused r → n ≡ numberAndPlace r .number → p ≡ numberAndPlace r .place
       → record { refusal = n; place = p; outcome = 0; rounds = 0 } ≡ compareResult (ofComparison comparison)
   comparison-refused r n p f g h = rw (f, g, h)
 
@@ -73,7 +73,7 @@ module _ (printed : Printed) where
   pub program-wrote : (n : ℕ) → printed ≡ Prints.Wrote n → record { refusal = 0; place = 0; length = n } ≡ programResult (ofPrinted printed)
   program-wrote n f = rw f
 
-  pub program-refused : (r : Refusal) (n p : ℕ) → printed ≡ Prints.Refused r → n ≡ numberOf r → p ≡ placeOf r
+  pub program-refused : (r : Refusal) (n p : ℕ) → printed ≡ Prints.Refused r → n ≡ numberAndPlace r .number → p ≡ numberAndPlace r .place
       → record { refusal = n; place = p; length = 0 } ≡ programResult (ofPrinted printed)
   program-refused r n p f g h = rw (f, g, h)
 

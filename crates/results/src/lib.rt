@@ -1,14 +1,15 @@
 // What the C functions return: the specification's numbers in plain structs, for each answer of the entries as specs/Numbers.antt gives them.
 // The fields have the words of the C header, which are the specification's: a rule is a relation, a run a word.
 ghost use mathlib.Core.Path.{_≡_};
-ghost use Rattle.format.specs.Refusals.{numberOf, placeOf};
+ghost use Rattle.refusals.specs.Refusals.{numberAndPlace};
 ghost use Rattle.answers.specs.Answers.{ofVerdict, ofRound, ofComparison, ofPrinted};
 ghost use Rattle.results.specs.Numbers.{endOutcome, checkResult, roundResult, compareResult, programResult};
+use answers::Printed;
+use answers::Round;
+use answers::Verdict;
 use comparison::Comparison;
-use entries::Printed;
-use entries::Round;
-use entries::Verdict;
-use format::Refusal;
+use refusals::Refusal;
+use refusals::number_and_place;
 
 // What a round or a comparison says, as a number. 0 says nothing, so that a refused result, and one filled with zeros, reads as no answer.
 pub struct Outcome {
@@ -64,16 +65,18 @@ pub struct ProgramResult {
 
 // A refusal's number, in the width of the structs.
 fn number(refusal: Refusal) -> u32
-    ensures { λ r. ⌜ r ≡ numberOf refusal ⌝ }
+    ensures { λ r. ⌜ r ≡ numberAndPlace refusal .number ⌝ }
 {
-    format::number(refusal) as u32
+    let numbered = number_and_place(refusal);
+    numbered.number as u32
 }
 
 // A refusal's place, in the width of the structs.
 fn place(refusal: Refusal) -> u64
-    ensures { λ r. ⌜ r ≡ placeOf refusal ⌝ }
+    ensures { λ r. ⌜ r ≡ numberAndPlace refusal .place ⌝ }
 {
-    format::place(refusal) as u64
+    let numbered = number_and_place(refusal);
+    numbered.place as u64
 }
 
 // The numbers of a verdict.
