@@ -108,7 +108,7 @@ fn advance_mark(m: Mark, c: Change) -> Mark
 }
 
 // What the round of a state does, over its words as they are held.
-fn plan_of(text: &[u8], table: &[u16], n: usize, first: &[u8], second: &[u8], s: State) -> Plan
+fn plan_of(text: &[u16], table: &[u16], n: usize, first: &[u16], second: &[u16], s: State) -> Plan
     requires { ⌜ Poised (now text) (now table) n (now first) (now second) s ⌝ }
     ensures { λ r. ⌜ PlansRound (now (text .entry)) (now (table .entry)) n (heldWord (now (text .entry)) (now (first .entry)) (s .u)) (heldWord (now (text .entry)) (now (second .entry)) (s .v)) (markWord (now (text .entry)) (s .mark)) r ⌝ }
 {
@@ -152,11 +152,11 @@ fn carry_out(s: State, plan: Plan) -> Move
 
 // One round.
 pub fn make_move(
-    text: &[u8],
+    text: &[u16],
     table: &[u16],
     n: usize,
-    first: &[u8],
-    second: &[u8],
+    first: &[u16],
+    second: &[u16],
     s: State,
 ) -> Move
     requires { ⌜ Poised (now text) (now table) n (now first) (now second) s ⌝ }
@@ -168,11 +168,11 @@ pub fn make_move(
 
 // At most `budget` rounds from a state; where another one is due then, the state comes back.
 pub fn make_rounds(
-    text: &[u8],
+    text: &[u16],
     table: &[u16],
     n: usize,
-    first: &[u8],
-    second: &[u8],
+    first: &[u16],
+    second: &[u16],
     start: State,
     budget: u32,
 ) -> Progress
@@ -198,11 +198,11 @@ pub fn make_rounds(
 
 // The rows' answer for two words that are fine.
 fn compare_words(
-    text: &[u8],
+    text: &[u16],
     table: &[u16],
     n: usize,
-    u: &[u8],
-    v: &[u8],
+    u: &[u16],
+    v: &[u16],
     allowance: u32,
 ) -> Comparison
     requires { ⌜ Fitting (now text) (now table) n (now u) (now v) ⌝ }
@@ -232,12 +232,12 @@ fn compare_words(
 
 // Two given words under a checked presentation, with an allowance of rounds.
 pub fn compare_given(
-    text: &[u8],
+    text: &[u16],
     table: &[u16],
     n: usize,
     letters: u8,
-    u: &[u8],
-    v: &[u8],
+    u: &[u16],
+    v: &[u16],
     allowance: u32,
 ) -> Comparison
     requires { ⌜ Ready (now text) (now table) n ⌝ }

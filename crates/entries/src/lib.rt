@@ -27,7 +27,7 @@ use rounds::RoundLengths;
 pub fn check_book(book: &[u8]) -> Verdict
     ensures { λ r. ⌜ ofVerdict r ≡ checkOf (now (book .entry)) ⌝ }
 {
-    let mut text = [0u8; Text::ROOM];
+    let mut text = [0u16; Text::ROOM];
     let mut table = [0u16; Table::ROOM];
     let loaded = presentation::load(book, &mut text, &mut table);
     match loaded {
@@ -52,7 +52,7 @@ fn accepted_sheet(table: &[u16], relations: usize, sheet: &mut [u8]) -> Verdict
 pub fn cut_sheet(book: &[u8], sheet: &mut [u8]) -> Verdict
     ensures { λ r. ⌜ Sheets.after (ofVerdict r) (now (sheet .exit)) ≡ sheetOf (now (book .entry)) (now (sheet .entry)) ⌝ }
 {
-    let mut text = [0u8; Text::ROOM];
+    let mut text = [0u16; Text::ROOM];
     let mut table = [0u16; Table::ROOM];
     let loaded = presentation::load(book, &mut text, &mut table);
     match loaded {
@@ -65,7 +65,7 @@ pub fn cut_sheet(book: &[u8], sheet: &mut [u8]) -> Verdict
 pub fn compare(book: &[u8], u: &[u8], v: &[u8], allowance: u32) -> Comparison
     ensures { λ r. ⌜ Compared (now (book .entry)) (now (u .entry)) (now (v .entry)) allowance (ofComparison r) ⌝ }
 {
-    let mut text = [0u8; Text::ROOM];
+    let mut text = [0u16; Text::ROOM];
     let mut table = [0u16; Table::ROOM];
     let loaded = presentation::load(book, &mut text, &mut table);
     match loaded {
@@ -129,7 +129,7 @@ fn answered_round(lengths: RoundLengths) -> Round
 
 // A round under a loaded book of so many letters: what is given is checked, then the round is made.
 fn loaded_round(
-    text: &[u8],
+    text: &[u16],
     table: &[u16],
     n: usize,
     letters: u8,
@@ -162,7 +162,7 @@ pub fn single_round(
 ) -> Round
     ensures { λ r. ⌜ Rounds.after (ofRound r) (now (nu .exit)) (now (nv .exit)) (now (np .exit)) ≡ roundOf (now (book .entry)) (now (u .entry)) (now (v .entry)) (now (p .entry)) (now (nu .entry)) (now (nv .entry)) (now (np .entry)) ⌝ }
 {
-    let mut text = [0u8; Text::ROOM];
+    let mut text = [0u16; Text::ROOM];
     let mut table = [0u16; Table::ROOM];
     let loaded = presentation::load(book, &mut text, &mut table);
     match loaded {

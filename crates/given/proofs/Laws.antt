@@ -1,7 +1,8 @@
 -- A law for each way that the checks of given words can go, and what words that are fine are.
-use Prim.Native.Nat.{ℕ, _<_, _≤_}
+use Prim.Native.Nat.{ℕ, _+_, _<_, _≤_}
 use mathlib.Core.Bool.{Bool, true, false}
-use mathlib.Core.Path.{_≡_, refl, sym, _∙_}
+use mathlib.Core.List.{List}
+use mathlib.Core.Path.{_≡_, refl, sym, ap, _∙_}
 use native.Mathlib.Omega.{arith}
 use borrow.Author.Needs.{needs}
 use borrow.Author.Tests.{lt-ltb, le-ltb, ltb-true, ltb-false}
@@ -10,6 +11,8 @@ use lib.ListN.{length}
 use mir.Val.{Fits}
 use mir.Syntax.{w16}
 use Rattle.words.specs.Words.{Word}
+use Rattle.writing.specs.Writing.{written}
+use Rattle.writing.proofs.Writing.{written-length, written-taken}
 use Rattle.refusals.specs.declared.Refusal.{Refusal}
 use Rattle.refusals.specs.declared.Refusal.the-variants.{Long, Stranger}
 use Rattle.limits.specs.declared.MadeWord.{MadeWord}
@@ -19,7 +22,7 @@ use Rattle.limits.specs.Limits.{comparedMost, roundMost, markMost, wordOf}
 use Rattle.letters.specs.Letters.{firstUnknown}
 use Rattle.given.specs.declared.Given.{Given}
 use Rattle.given.specs.declared.Given.the-variants.{Fine, Refused}
-use Rattle.given.specs.Given.{givenOf, andThen, pairOf, tripleOf}
+use Rattle.given.specs.Given.{givenOf, andThen, pairOf, tripleOf, Widened}
 
 -- what the word's constructor answers
 module _ (most n : ℕ) where
@@ -112,3 +115,14 @@ fine-short number most letters w e = go (ltb most (length w)) refl
 pub fine-both : (g h : Given) → andThen g h ≡ Fine → (g ≡ Fine) × (h ≡ Fine)
 fine-both Fine h e = (refl, e)
 fine-both (Refused r) h e = let z : _≡_ {A = ℕ} 0 1 = cc in absurd (omega arith)
+
+-- a word at the start of an array
+pub widen-room : (w d : List ℕ) → length w ≤ length d → 0 + length w ≤ length d
+widen-room w d h = omega arith
+
+pub word-widened : (w d a : List ℕ) → length w ≤ length d → a ≡ written 0 w d → Widened w a
+word-widened w d a h e =
+    let same = written-taken w d a e in
+    record { inside = omega (arith, ap length e ∙ written-length 0 w d (omega arith)); long = sym (ap length same); same = same }
+
+pub ruleset widenings = (widen-room, word-widened, needs)

@@ -1,8 +1,10 @@
 -- Refusals 9 and 10 of given words (document 01, "Refusals by number"): word by word, the length before the letters.
-use Prim.Native.Nat.{ℕ}
+use Prim.Native.Nat.{ℕ, _≤_}
 use mathlib.Core.Bool.{cond}
+use mathlib.Core.List.{List}
+use mathlib.Core.Path.{_≡_}
 use lib.Dec.{ltb}
-use lib.ListN.{length}
+use lib.ListN.{length, take}
 use Rattle.words.specs.Words.{Word}
 use Rattle.refusals.specs.declared.Refusal.the-variants.{Long, Stranger}
 use Rattle.limits.specs.Limits.{comparedMost, roundMost, markMost}
@@ -29,3 +31,9 @@ pairOf letters u v = andThen (givenOf 0 comparedMost letters u) (givenOf 1 compa
 -- the two words of a round and its front mark
 unfoldable pub tripleOf : ℕ → Word → Word → Word → Given
 tripleOf letters u v p = andThen (givenOf 0 roundMost letters u) (andThen (givenOf 1 roundMost letters v) (givenOf 2 markMost letters p))
+
+-- the word stands at the start of an array
+pub record Widened (w a : List ℕ) : Type 0 where
+  pub inside : length w ≤ length a
+  pub long : length w ≡ length (take (length w) a)
+  pub same : take (length w) a ≡ w

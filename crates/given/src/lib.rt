@@ -1,10 +1,11 @@
-// The words that an entry is given: refusals 9 and 10 (document 01, "Refusals by number").
+// The words that an entry is given: refusals 9 and 10 (document 01, "Refusals by number"), and their letters in two bytes, as words inside have them.
 ghost use mathlib.Core.Path.{_≡_};
 ghost use Prim.Native.Nat.{_≤_};
-ghost use Rattle.given.specs.Given.{givenOf, pairOf, tripleOf};
+ghost use lib.ListN.{length};
+ghost use Rattle.given.specs.Given.{givenOf, pairOf, tripleOf, Widened};
 use limits::MadeWord;
-use refusals::Refusal;
 use limits::Word;
+use refusals::Refusal;
 
 // A given word is fine, or refused.
 pub enum Given {
@@ -52,4 +53,12 @@ pub fn check_triple(letters: u8, u: &[u8], v: &[u8], p: &[u8]) -> Given
         return second;
     };
     check_word(2, Word::MARK, letters, p)
+}
+
+// Widens a given word into the start of an array.
+pub fn widen_word(word: &[u8], out: &mut [u16])
+    requires { ⌜ length (now word) ≤ length (now out) ⌝ }
+    ensures { λ _. ⌜ Widened (now (word .entry)) (now (out .exit)) ⌝ }
+{
+    writing::widen(word, out, 0);
 }

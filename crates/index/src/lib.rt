@@ -17,7 +17,7 @@ use layout::order_of;
 use layout::shared_of;
 use layout::start_of;
 use layout::z_start_of;
-use numbers::wide;
+use numbers::wide16;
 
 // A relation word met with the word that is compared.
 pub enum Meeting {
@@ -40,10 +40,10 @@ fn shared_under(table: &[u16], from: usize, j: usize) -> usize
 
 // Relation word k is compared with the word at place q, where m letters of its X and Y are known to agree.
 fn compare_on(
-    text: &[u8],
+    text: &[u16],
     table: &[u16],
-    a: &[u8],
-    b: &[u8],
+    a: &[u16],
+    b: &[u16],
     q: usize,
     k: usize,
     m: usize,
@@ -62,10 +62,10 @@ fn compare_on(
 
 // The word listed at place j, after one that has m letters in common with the word at place q. It is compared only where the two part at that letter.
 fn meet_next(
-    text: &[u8],
+    text: &[u16],
     table: &[u16],
-    a: &[u8],
-    b: &[u8],
+    a: &[u16],
+    b: &[u16],
     q: usize,
     from: usize,
     j: usize,
@@ -87,11 +87,11 @@ fn meet_next(
 
 // The word among those listed from place `from` on and below `to` whose X and Y stand at place q, or n.
 fn seek(
-    text: &[u8],
+    text: &[u16],
     table: &[u16],
     n: usize,
-    a: &[u8],
-    b: &[u8],
+    a: &[u16],
+    b: &[u16],
     q: usize,
     from: usize,
     to: usize,
@@ -116,11 +116,11 @@ fn seek(
 
 // The same for all the words, where c is the letter at place q.
 fn under_letter(
-    text: &[u8],
+    text: &[u16],
     table: &[u16],
     n: usize,
-    a: &[u8],
-    b: &[u8],
+    a: &[u16],
+    b: &[u16],
     q: usize,
     c: usize,
 ) -> usize
@@ -136,12 +136,12 @@ fn under_letter(
 }
 
 // The relation word whose X and Y stand in the word at place q, or n.
-pub fn prefix_at(text: &[u8], table: &[u16], n: usize, a: &[u8], b: &[u8], q: usize) -> usize
+pub fn prefix_at(text: &[u16], table: &[u16], n: usize, a: &[u16], b: &[u16], q: usize) -> usize
     requires { ⌜ Checked (now text) (now table) n ⌝ }
     ensures { λ r. ⌜ r ≡ relationPrefixAt (wordsIn (now (text .entry)) (now (table .entry)) n) (now (a .entry) ++ now (b .entry)) q ⌝ }
 {
     if has_place(a, b, q) {
-        let c = wide(letter_at(a, b, q));
+        let c = wide16(letter_at(a, b, q));
         return under_letter(text, table, n, a, b, q, c);
     }
     n

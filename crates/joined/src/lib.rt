@@ -9,7 +9,7 @@ ghost use Rattle.joined.specs.Joined.{hasPlace, Agreed};
 use numbers::smaller;
 
 // Whether the word has a letter at place q.
-pub fn has_place(a: &[u8], b: &[u8], q: usize) -> bool
+pub fn has_place(a: &[u16], b: &[u16], q: usize) -> bool
     ensures { λ r. ⌜ r ≡ hasPlace (now (a .entry) ++ now (b .entry)) q ⌝ }
 {
     if q < a.len() {
@@ -19,7 +19,7 @@ pub fn has_place(a: &[u8], b: &[u8], q: usize) -> bool
 }
 
 // The letter of the word at place q.
-pub fn letter_at(a: &[u8], b: &[u8], q: usize) -> u8
+pub fn letter_at(a: &[u16], b: &[u16], q: usize) -> u16
     requires { ⌜ q < length (now a) + length (now b) ⌝ }
     ensures { λ r. ⌜ r ≡ getD (now (a .entry) ++ now (b .entry)) q 0 ⌝ }
 {
@@ -30,7 +30,7 @@ pub fn letter_at(a: &[u8], b: &[u8], q: usize) -> u8
 }
 
 // How many letters of text[from..to) agree with s at place q, where m are known to.
-pub fn common_prefix_in(text: &[u8], from: usize, to: usize, s: &[u8], q: usize, m: usize) -> usize
+pub fn common_prefix_in(text: &[u16], from: usize, to: usize, s: &[u16], q: usize, m: usize) -> usize
     requires { ⌜ Agreed (now text) from to (now s) q m ⌝ }
     ensures { λ r. ⌜ r ≡ commonPrefix (part (now (text .entry)) from to) (drop q (now (s .entry))) ⌝ }
 {
@@ -50,11 +50,11 @@ pub fn common_prefix_in(text: &[u8], from: usize, to: usize, s: &[u8], q: usize,
 
 // How many letters of text[from..to) agree with the word at place q, where m are known to.
 pub fn common_prefix(
-    text: &[u8],
+    text: &[u16],
     from: usize,
     to: usize,
-    a: &[u8],
-    b: &[u8],
+    a: &[u16],
+    b: &[u16],
     q: usize,
     m: usize,
 ) -> usize
@@ -76,7 +76,7 @@ pub fn common_prefix(
 }
 
 // Whether text[from..to) stands in the word at place q.
-pub fn begins(text: &[u8], from: usize, to: usize, a: &[u8], b: &[u8], q: usize) -> bool
+pub fn begins(text: &[u16], from: usize, to: usize, a: &[u16], b: &[u16], q: usize) -> bool
     requires { ⌜ Span (now text) from to ⌝ }
     ensures { λ r. ⌜ r ≡ isPrefix (part (now (text .entry)) from to) (drop q (now (a .entry) ++ now (b .entry))) ⌝ }
 {

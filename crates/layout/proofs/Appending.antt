@@ -1,54 +1,65 @@
 -- One relation word more: what a word and its fence in the text, and two numbers in the table, make of the words laid before.
 use Prim.Native.Nat.{ℕ, suc, _+_, _-_, _≤_, _<_}
-use mathlib.Core.List.{List, [], _∷_, _++_, append-assoc}
+use mathlib.Core.List.{List, [], _∷_, _++_}
 use mathlib.Core.Path.{_≡_, refl, sym, ap, _∙_, subst}
 use mathlib.Core.Logic.{by-cases}
 use native.Mathlib.Omega.{arith}
 use native.Mathlib.Numerals.{add-one}
 use native.Mathlib.Decide.{decLt}
 use borrow.Author.Needs.{needs}
-use lib.ListN.{length, getD, take, drop, set, length-append, length-drop, length-set, List·getD-append}
-use lib.Seq.{length-take-le, getD-take, getD-append-add, getD-set-same, getD-set-other, drop-cons, set-at, take-at, drop-at, paste, paste-zero, paste-suc, length-paste-head, take-length}
-use mir.Syntax.{w8, w16}
+use lib.ListN.{length, getD, take, drop, set, length-append, length-set, List·getD-append}
+use lib.Seq.{getD-at, take-take, take-append-seam, getD-set-same, getD-set-other}
+use mir.Syntax.{w16}
 use mir.Val.{Fits}
 use Rattle.words.specs.Words.{Word}
+use Rattle.writing.specs.Writing.{written}
+use Rattle.writing.proofs.Writing.{written-length, written-before, written-in, written-there, written-behind, written-one}
 use Rattle.layout.specs.Places.{wordMost, textRoom, tableRoom, lettersBound, fenceOf, startCell, endCell}
 use Rattle.layout.specs.Layout.{startOf, endOf, part, wordsIn, Laid}
+use Rattle.layout.specs.Appending.{WordRoom, Appended}
 use Rattle.layout.proofs.Placed.{start-bound, end-before, same-words}
-use Rattle.layout.specs.Appending.{written, WordRoom, Appended}
 
--- a word and its fence, by position
+-- a word and its fence
+abbrev pub fenced : Word → ℕ → List ℕ
+fenced word fence = word ++ (fence ∷ [])
+
 module _ (word : Word) (fence at : ℕ) (text : List ℕ) (h : at + length word < length text) where
-  head-long : length (take at text) ≡ at
-  head-long = length-take-le at text (omega arith)
+  fenced-long : length (fenced word fence) ≡ length word + 1
+  fenced-long = length-append word (fence ∷ [])
 
-  pub written-length : length (written word fence at text) ≡ length text
-  written-length =
-      let a = head-long in
-      let b = length-append (take at text) (word ++ (fence ∷ drop (at + length word + 1) text)) in
-      let c = length-append word (fence ∷ drop (at + length word + 1) text) in
-      let d = length-drop (at + length word + 1) text in
-      omega arith
+  fenced-room : at + length (fenced word fence) ≤ length text
+  fenced-room = omega (arith, fenced-long)
 
-  pub written-before : (q : ℕ) → q < at → getD (written word fence at text) q 0 ≡ getD text q 0
-  written-before q l =
-      let a = head-long in
-      List·getD-append (take at text) (word ++ (fence ∷ drop (at + length word + 1) text)) 0 q (omega arith) ∙ getD-take at text q 0 l
-
-  written-from : (k : ℕ) → getD (written word fence at text) (at + k) 0 ≡ getD (word ++ (fence ∷ drop (at + length word + 1) text)) k 0
-  written-from k =
-      ap (λ (n : ℕ). getD (written word fence at text) (n + k) 0) (sym head-long)
-      ∙ getD-append-add (take at text) (word ++ (fence ∷ drop (at + length word + 1) text)) k 0
-
-  pub written-in : (k : ℕ) → k < length word → getD (written word fence at text) (at + k) 0 ≡ getD word k 0
-  written-in k l = written-from k ∙ List·getD-append word (fence ∷ drop (at + length word + 1) text) 0 k l
-
-  pub written-fence : getD (written word fence at text) (at + length word) 0 ≡ fence
+  pub written-fence : getD (written at (fenced word fence) text) (at + length word) 0 ≡ fence
   written-fence =
-      let z : length word ≡ length word + 0 = omega arith in
-      written-from (length word)
-      ∙ ap (λ (n : ℕ). getD (word ++ (fence ∷ drop (at + length word + 1) text)) n 0) z
-      ∙ getD-append-add word (fence ∷ drop (at + length word + 1) text) 0 0
+      written-in at (fenced word fence) text fenced-room (length word) (omega (arith, fenced-long))
+      ∙ getD-at word fence [] 0 (length word) refl
+
+  pub word-written : (k : ℕ) → k < length word → getD (written at (fenced word fence) text) (at + k) 0 ≡ getD word k 0
+  word-written k l =
+      written-in at (fenced word fence) text fenced-room k (omega (arith, fenced-long)) ∙ List·getD-append word (fence ∷ []) 0 k l
+
+  pub word-there : take (length word) (drop at (written at (fenced word fence) text)) ≡ word
+  word-there =
+      sym (take-take (length word) (length (fenced word fence)) (drop at (written at (fenced word fence) text)) (omega (arith, fenced-long)))
+      ∙ ap (take (length word)) (written-there at (fenced word fence) text fenced-room)
+      ∙ take-append-seam word (fence ∷ [])
+
+  -- the word is written, then its fence
+  pub fence-behind : (b : List ℕ) → b ≡ written at word text → set b (at + length word) fence ≡ written at (fenced word fence) text
+  fence-behind b e =
+      let l = written-length at word text (omega arith) in
+      ap (λ (x : List ℕ). set x (at + length word) fence) e
+      ∙ written-one (at + length word) fence (written at word text) (omega arith)
+      ∙ written-behind at word (fence ∷ []) text (at + length word) refl (omega arith)
+
+  pub word-room : at + length word ≤ length text
+  word-room = omega arith
+
+  pub fence-room : (b : List ℕ) → b ≡ written at word text → at + length word < length b
+  fence-room b e = let l = ap length e ∙ written-length at word text (omega arith) in omega arith
+
+pub ruleset fences = (word-room, fence-behind, fence-room, needs)
 
 -- the word's end and the next start in the table
 abbrev pub tabled : ℕ → ℕ → List ℕ → List ℕ
@@ -81,7 +92,7 @@ module _ (word text table : List ℕ) (i : ℕ) (r : WordRoom word text table i)
   end = startOf table i + length word
 
   abbrev text′ : List ℕ
-  text′ = written word (fenceOf i) start text
+  text′ = written start (fenced word (fenceOf i)) text
 
   abbrev table′ : List ℕ
   table′ = tabled i end table
@@ -107,24 +118,21 @@ module _ (word text table : List ℕ) (i : ℕ) (r : WordRoom word text table i)
   end-low j h = end-before text table i (r .laid) j h
 
   letter-kept : (q : ℕ) → q < start → getD text′ q 0 ≡ getD text q 0
-  letter-kept q h = written-before word (fenceOf i) start text fits q h
+  letter-kept q h = written-before start (fenced word (fenceOf i)) text (fenced-room word (fenceOf i) start text fits) q h
 
   -- what holds of the words before and of the new one
   upto : (P : ℕ → Type 0) → ((j : ℕ) → j < i → P j) → P i → (j : ℕ) → j < i + 1 → P j
   upto P f p j h = by-cases (decLt j i) (λ a. f j a) (λ a. subst P (omega arith) p)
 
-  word-there : part text′ start end ≡ word
-  word-there =
-      let z : end - start ≡ length word = omega arith in
-      rw (z, drop-at (take start text) (word ++ ((fenceOf i) ∷ drop (end + 1) text)) start (head-long word (fenceOf i) start text fits))
-      (take-at word ((fenceOf i) ∷ drop (end + 1) text) (length word) refl)
+  part-there : part text′ start end ≡ word
+  part-there = let z : end - start ≡ length word = omega arith in rw z (word-there word (fenceOf i) start text fits)
 
   pub words-appended : wordsIn text′ table′ (i + 1) ≡ wordsIn text table i ++ (word ∷ [])
   unfolding wordsIn
   words-appended =
-      let a = same-words text table text′ table′ i (written-length word (fenceOf i) start text fits) (λ j h. (start-kept j (omega arith), end-kept j h))
+      let a = same-words text table text′ table′ i (written-length start (fenced word (fenceOf i)) text (fenced-room word (fenceOf i) start text fits)) (λ j h. (start-kept j (omega arith), end-kept j h))
       (λ j q h lo hi. letter-kept q (omega (arith, end-low j h))) in
-      let b : wordsIn text′ table′ (suc i) ≡ wordsIn text table i ++ (word ∷ []) = rw (a, start-kept i (omega arith), tabled-end i end table inside, word-there) in
+      let b : wordsIn text′ table′ (suc i) ≡ wordsIn text table i ++ (word ∷ []) = rw (a, start-kept i (omega arith), tabled-end i end table inside, part-there) in
       ap (wordsIn text′ table′) (add-one i) ∙ b
 
   pub laid-appended : Laid text′ table′ (i + 1)
@@ -132,7 +140,7 @@ module _ (word text table : List ℕ) (i : ℕ) (r : WordRoom word text table i)
       record {
         few = omega (arith, r .more);
         room = omega (arith, tabled-length i end table inside, r .more, r .arrays .tableLong);
-        inside = rw (tabled-next i end table inside, written-length word (fenceOf i) start text fits) (omega (arith, fits));
+        inside = rw (tabled-next i end table inside, written-length start (fenced word (fenceOf i)) text (fenced-room word (fenceOf i) start text fits)) (omega (arith, fits));
         first = start-kept 0 (omega arith) ∙ r .laid .first;
         next = upto (λ j. startOf table′ (j + 1) ≡ endOf table′ j + 1)
             (λ j h. start-kept (j + 1) (omega arith) ∙ r .laid .next j h ∙ ap (λ n. n + 1) (sym (end-kept j h)))
@@ -148,7 +156,7 @@ module _ (word text table : List ℕ) (i : ℕ) (r : WordRoom word text table i)
             (rw (start-kept i (omega arith), tabled-end i end table inside) (λ lo hi.
             let z : q ≡ start + (q - start) = omega arith in
             let e : getD text′ q 0 ≡ getD word (q - start) 0
-            = ap (λ n. getD text′ n 0) z ∙ written-in word (fenceOf i) start text fits (q - start) (omega arith) in
+            = ap (λ n. getD text′ n 0) z ∙ word-written word (fenceOf i) start text fits (q - start) (omega arith) in
             rw e (r .known (q - start) (omega arith))))
             j h;
         fence = upto (λ j. getD text′ (endOf table′ j) 0 ≡ fenceOf j)
@@ -161,42 +169,9 @@ module _ (word text table : List ℕ) (i : ℕ) (r : WordRoom word text table i)
       record {
         laid = laid-appended;
         words = words-appended;
-        textLong = written-length word (fenceOf i) start text fits;
+        textLong = written-length start (fenced word (fenceOf i)) text (fenced-room word (fenceOf i) start text fits);
         tableLong = tabled-length i end table inside;
       }
-
--- i letters of the word are written
-pub record Copied (word text : List ℕ) (at i : ℕ) (b : List ℕ) : Type 0 where
-  pub within : i ≤ length word
-  pub room : at + length word < length text
-  pub same : b ≡ paste text at word i
-  pub long : length b ≡ length text
-
-module _ (word text : List ℕ) (at : ℕ) where
-  pub copied-start : at + length word < length text → Copied word text at 0 text
-  copied-start h = record { within = omega arith; room = h; same = paste-zero text at word; long = refl }
-
-  module _ (i : ℕ) (b : List ℕ) (c : Copied word text at i b) where
-    pub copied-more : i < length word → Copied word text at (i + 1) (set b (at + i) (getD word i 0))
-    copied-more h =
-        record {
-          within = omega arith;
-          room = c .room;
-          same = rw (c .same, add-one i) (paste-suc text at word i 0 (omega (arith, c .room)) h);
-          long = rw length-set (c .long);
-        }
-
-    pub copied-end : (fence : ℕ) → length word ≤ i → set b (at + i) fence ≡ written word fence at text
-    copied-end fence h =
-        let r = c .room in
-        let z : i ≡ length word = omega arith in
-        let l = length-paste-head text at word (length word) (omega arith) (omega arith) in
-        let s : at + length word + 1 ≡ suc (at + length word) = omega arith in
-        rw (c .same, z, drop-cons text (at + length word) 0 r, take-length, s)
-        (set-at (take at text ++ word) (getD text (at + length word) 0) (drop (suc (at + length word)) text) fence (at + length word) (rw take-length at l)
-        ∙ append-assoc (take at text) word (fence ∷ drop (suc (at + length word)) text))
-
-pub ruleset copies = (copied-start, copied-more, copied-end, needs)
 
 -- no relation word yet
 pub nothing-laid : (text table : List ℕ) → length table ≡ tableRoom → Laid text (set table (startCell 0) 0) 0
@@ -219,7 +194,7 @@ module _ (word text table : List ℕ) (i : ℕ) (r : WordRoom word text table i)
   pub room-read : startCell i < length table
   room-read = omega (arith, r .more, r .arrays .tableLong)
 
-  pub room-fence : Fits w8 (fenceOf i)
+  pub room-fence : Fits w16 (fenceOf i)
   room-fence = omega (arith, r .more)
 
   pub room-write : endCell i < length table
@@ -241,7 +216,7 @@ module _ (word text table : List ℕ) (i : ℕ) (r : WordRoom word text table i)
     pub room-next : Fits w16 (s + length word + 1)
     room-next = omega (arith, start-low word text table i r, r .short)
 
-    pub room-appended : (b : List ℕ) → b ≡ written word (fenceOf i) s text
+    pub room-appended : (b : List ℕ) → b ≡ written s (fenced word (fenceOf i)) text
         → Appended word text table i b (set (set table (endCell i) (s + length word)) (startCell (i + 1)) (s + length word + 1))
     room-appended b f = rw (f, e) (appended word text table i r)
 

@@ -2,14 +2,9 @@
 use Prim.Native.Nat.{ℕ, _+_, _≤_, _<_}
 use mathlib.Core.List.{List, [], _∷_, _++_}
 use mathlib.Core.Path.{_≡_}
-use lib.ListN.{length, getD, take, drop}
-use Rattle.words.specs.Words.{Word}
+use lib.ListN.{length, getD}
 use Rattle.layout.specs.Places.{wordsMost, wordMost, lettersBound, textRoom, tableRoom}
 use Rattle.layout.specs.Layout.{Laid, wordsIn}
-
--- a text with a word and its fence written from a position on
-abbrev pub written : Word → ℕ → ℕ → List ℕ → List ℕ
-written word fence at text = take at text ++ (word ++ (fence ∷ drop (at + length word + 1) text))
 
 -- the arrays have room for the relation words of every book
 pub record Arrays (text table : List ℕ) : Type 0 where

@@ -13,10 +13,10 @@ use layout::end_of;
 use layout::order_of;
 use layout::start_of;
 use numbers::narrow;
-use numbers::wide;
+use numbers::wide16;
 
 // How many letters relation words h and k have in common at their prefixes.
-fn shared_letters(text: &[u8], table: &[u16], h: usize, k: usize) -> usize
+fn shared_letters(text: &[u16], table: &[u16], h: usize, k: usize) -> usize
     requires { ⌜ WordPair (now text) (now table) h k ⌝ }
     ensures { λ r. ⌜ r ≡ commonPrefix (wordAt (now (text .entry)) (now (table .entry)) h) (wordAt (now (text .entry)) (now (table .entry)) k) ⌝ }
 {
@@ -27,7 +27,7 @@ fn shared_letters(text: &[u8], table: &[u16], h: usize, k: usize) -> usize
 }
 
 // Whether relation word h is listed before relation word k under their letter.
-fn is_earlier(text: &[u8], table: &[u16], h: usize, k: usize) -> bool
+fn is_earlier(text: &[u16], table: &[u16], h: usize, k: usize) -> bool
     requires { ⌜ WordPair (now text) (now table) h k ⌝ }
     ensures { λ r. ⌜ r ≡ earlier (now (text .entry)) (now (table .entry)) h k ⌝ }
 {
@@ -38,7 +38,7 @@ fn is_earlier(text: &[u8], table: &[u16], h: usize, k: usize) -> bool
 }
 
 // Whether relation word k goes before the word listed at place i - 1.
-fn is_before_listed(text: &[u8], table: &[u16], i: usize, k: usize) -> bool
+fn is_before_listed(text: &[u16], table: &[u16], i: usize, k: usize) -> bool
     requires { ⌜ Inserting (now text) (now table) i k ⌝ }
     ensures { λ r. ⌜ r ≡ beforeListed (now (text .entry)) (now (table .entry)) i k ⌝ }
 {
@@ -56,7 +56,7 @@ fn move_up(table: &mut [u16], i: usize)
 }
 
 // Lists relation word k, which begins with c, among the words of that letter, which are listed from place `from` on and below j: the later ones move up.
-fn insert(text: &[u8], table: &mut [u16], n: usize, c: usize, from: usize, j: usize, k: usize)
+fn insert(text: &[u16], table: &mut [u16], n: usize, c: usize, from: usize, j: usize, k: usize)
     requires { ⌜ NextOfLetter (now text) (now table) n c from j k ⌝ }
     ensures { λ _. ⌜ Gathered (now (text .entry)) (now (table .entry)) n c from (k + 1) (now (table .exit)) (j + 1) ⌝ }
 {
@@ -69,18 +69,18 @@ fn insert(text: &[u8], table: &mut [u16], n: usize, c: usize, from: usize, j: us
 }
 
 // Whether relation word k begins with c.
-fn begins_with(text: &[u8], table: &[u16], k: usize, c: usize) -> bool
+fn begins_with(text: &[u16], table: &[u16], k: usize, c: usize) -> bool
     requires { ⌜ KnownWord (now text) (now table) k ⌝ }
     ensures { λ r. ⌜ r ≡ eqb (firstLetter (now (text .entry)) (now (table .entry)) k) c ⌝ }
 {
     let at = start_of(table, k);
-    let x = wide(text[at]);
+    let x = wide16(text[at]);
     x == c
 }
 
 // Lists relation word k if it begins with c. The answer is the place behind the last of its letter.
 fn list_word(
-    text: &[u8],
+    text: &[u16],
     table: &mut [u16],
     n: usize,
     c: usize,
@@ -99,7 +99,7 @@ fn list_word(
 }
 
 // Lists all words that begin with c, from place `from` on. The answer is the place behind the last.
-fn list_letter(text: &[u8], table: &mut [u16], n: usize, c: usize, from: usize) -> usize
+fn list_letter(text: &[u16], table: &mut [u16], n: usize, c: usize, from: usize) -> usize
     requires { ⌜ NextLetter (now text) (now table) n c from ⌝ }
     ensures { λ r. ⌜ Gathered (now (text .entry)) (now (table .entry)) n c from n (now (table .exit)) r ⌝ }
 {
@@ -113,7 +113,7 @@ fn list_letter(text: &[u8], table: &mut [u16], n: usize, c: usize, from: usize) 
 }
 
 // Lists all words under their letters.
-fn list_all(text: &[u8], table: &mut [u16], n: usize)
+fn list_all(text: &[u16], table: &mut [u16], n: usize)
     requires { ⌜ Lists (now text) (now table) n 0 0 ⌝ }
     ensures { λ _. ⌜ AllListed (now (text .entry)) (now (table .entry)) n (now (table .exit)) ⌝ }
 {
@@ -127,7 +127,7 @@ fn list_all(text: &[u8], table: &mut [u16], n: usize)
 }
 
 // How much the word listed at place j shares with the one before it.
-fn shared_before(text: &[u8], table: &[u16], j: usize) -> usize
+fn shared_before(text: &[u16], table: &[u16], j: usize) -> usize
     requires { ⌜ Neighbours (now text) (now table) j ⌝ }
     ensures { λ r. ⌜ r ≡ commonPrefix (wordAt (now (text .entry)) (now (table .entry)) (orderOf (now (table .entry)) (j - 1))) (wordAt (now (text .entry)) (now (table .entry)) (orderOf (now (table .entry)) j)) ⌝ }
 {
@@ -137,7 +137,7 @@ fn shared_before(text: &[u8], table: &[u16], j: usize) -> usize
 }
 
 // Writes what neighbours in the list share.
-fn write_shared(text: &[u8], table: &mut [u16], n: usize)
+fn write_shared(text: &[u16], table: &mut [u16], n: usize)
     requires { ⌜ Lists (now text) (now table) n lettersBound n ⌝ }
     ensures { λ _. ⌜ IndexMade (now (text .entry)) (now (table .entry)) n (now (table .exit)) ⌝ }
 {
@@ -150,7 +150,7 @@ fn write_shared(text: &[u8], table: &mut [u16], n: usize)
 }
 
 // Makes the index of n relation words; the positions in the table are kept.
-pub fn make_index(text: &[u8], table: &mut [u16], n: usize)
+pub fn make_index(text: &[u16], table: &mut [u16], n: usize)
     requires { ⌜ Unlisted (now text) (now table) n ⌝ }
     ensures { λ _. ⌜ IndexMade (now (text .entry)) (now (table .entry)) n (now (table .exit)) ⌝ }
 {

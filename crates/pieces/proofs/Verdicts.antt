@@ -1,21 +1,23 @@
 -- The verdict on the relation words of a text: refusal 7, refusal 8, or the cuts.
-use Prim.Native.Nat.{ℕ, zero, suc, _<_, _≤_}
+use Prim.Native.Nat.{ℕ, _<_, _≤_}
 use mathlib.Core.List.{List}
 use mathlib.Core.Path.{_≡_, refl, sym, ap, _∙_, subst}
 use native.Mathlib.Omega.{arith}
 use borrow.Author.Needs.{needs}
 use borrow.Author.Tests.{lt-ltb, le-ltb}
 use lib.ListN.{length, take, replicate, length-replicate}
-use lib.Seq.{getD-take, length-take-le}
+use lib.Seq.{length-take-le}
 use Rattle.overlap.specs.Pieces.{C4}
 use Rattle.overlap.specs.Cuts.{firstLoose}
 use Rattle.overlap.specs.Verdict.{judge, firstRepeated}
 use Rattle.overlap.specs.Verdict.Verdict.{repeated, loose}
 use Rattle.overlap.proofs.Verdicts.{judge-accepts-iff-c4}
 use Rattle.layout.specs.Places.{textRoom}
-use Rattle.layout.specs.Layout.{Laid, wordsIn, startOf, endOf}
-use Rattle.layout.proofs.Parts.{part-of-take}
-use Rattle.layout.proofs.Placed.{words-length, end-before}
+use Rattle.layout.specs.Layout.{Laid, wordsIn, startOf}
+use Rattle.layout.proofs.Placed.{words-length, start-bound}
+use Rattle.layout.proofs.Whole.{words-take, whole-inside, whole-long, whole-laid, whole-ends, whole-words, whole-bytes}
+use Rattle.writing.specs.Writing.{written, Narrowing}
+use Rattle.writing.proofs.Writing.{written-length, written-taken}
 use Rattle.pieces.specs.declared.Judged.{Judged}
 use Rattle.pieces.specs.declared.Judged.the-variants.{Accepted, Repeated, Loose}
 use Rattle.pieces.specs.Pieces.{Fenced, AllInTables, Measurable, Measured}
@@ -74,62 +76,55 @@ module _ (text table : List ℕ) (n : ℕ) (f : Fenced text table n) where
 
 pub ruleset wholes = (whole-measurable, whole-tables, whole-loose, whole-cut, needs)
 
--- the text as far as the last fence
-
-words-take : (text table : List ℕ) (t m : ℕ) → ((i : ℕ) → i < m → endOf table i ≤ t) → wordsIn (take t text) table m ≡ wordsIn text table m
-unfolding wordsIn
-words-take text table t zero h = refl
-words-take text table t (suc m) h =
-    rw (words-take text table t m (λ i l. h i (omega (arith, l))), part-of-take text t (startOf table m) (endOf table m) (h m (omega arith)))
-
+-- the text as far as its last fence, copied in bytes
 module _ (text table : List ℕ) (n : ℕ) (f : Laid text table n) (t : ℕ) (e : t ≡ startOf table n) where
-  pub prefix-inside : t ≤ length text
-  prefix-inside = let k = f .inside in omega (arith, e, k)
+  pub copy-inside : t ≤ length text
+  copy-inside = whole-inside text table n f t e
 
-  pub prefix-long : t ≡ length (take t text)
-  prefix-long = sym (length-take-le t text prefix-inside)
+  pub copy-long : t ≡ length (take t text)
+  copy-long = whole-long text table n f t e
 
-  pub prefix-fenced : Fenced (take t text) table n
-  prefix-fenced =
-      record {
-        laid = record {
-          few = f .few;
-          room = f .room;
-          inside = let l = prefix-long in omega (arith, e, l);
-          first = f .first;
-          next = f .next;
-          some = f .some;
-          short = f .short;
-          letters = λ i q h l u. let k = end-before text table n f i h in rw (getD-take t text q 0 (omega (arith, u, k, e))) (f .letters i q h l u);
-          fence = λ i h. let k = end-before text table n f i h in getD-take t text (endOf table i) 0 (omega (arith, k, e)) ∙ f .fence i h;
-        };
-        whole = sym prefix-long ∙ e;
-      }
+  copy-room : length (take t text) ≤ length (replicate {A = ℕ} textRoom 0)
+  copy-room =
+      let l = length-replicate {A = ℕ} textRoom 0 in
+      omega (arith, l, copy-long, e, start-bound text table n f n (omega arith), f .few)
 
-  ends-before : (i : ℕ) → i < n → endOf table i ≤ t
-  ends-before i h = let k = end-before text table n f i h in omega (arith, k, e)
+  pub copy-narrowing : Narrowing (take t text) (replicate textRoom 0) 0
+  copy-narrowing = record { room = omega (arith, copy-room); bytes = whole-bytes text table n f t e }
 
-  prefix-words : wordsIn (take t text) table n ≡ wordsIn text table n
-  prefix-words = words-take text table t n ends-before
+  module _ (b : List ℕ) (g : b ≡ written 0 (take t text) (replicate textRoom 0)) where
+    copied : take t b ≡ take t text
+    copied = ap (λ (k : ℕ). take k b) copy-long ∙ written-taken (take t text) (replicate textRoom 0) b g
 
-  prefix-recut : (after : List ℕ) → Recut (take t text) table n after → Recut text table n after
-  prefix-recut after r =
-      let k = r .kept in
-      let w = words-take text after t n (λ i h. let a = ends-before i h in let b = k .ends i in omega (arith, a, b)) in
-      let c = r .cut in
-      record { kept = k; cut = record { xEnd = λ i h. rw w at (c .xEnd i h); zStart = λ i h. rw w at (c .zStart i h) } }
+    pub copied-inside : t ≤ length b
+    copied-inside =
+        omega (arith, ap length g ∙ written-length 0 (take t text) (replicate textRoom 0) (omega (arith, copy-room)), copy-room, copy-long)
 
-  pub prefix-judged : (after : List ℕ) (r : Judged) → Judging (looseVerdict (wordsIn (take t text) table n)) (take t text) table n after r
-      → Judging (looseVerdict (wordsIn text table n)) text table n after r
-  prefix-judged after r j =
-      record {
-        verdict = rw (← prefix-words) (j .verdict);
-        cuts = λ d. prefix-recut after (j .cuts d);
-        repeats = j .repeats;
-        looses = j .looses;
-      }
+    pub copied-long : t ≡ length (take t b)
+    copied-long = sym (length-take-le t b copied-inside)
 
-pub ruleset prefixes = (prefix-inside, prefix-long, prefix-fenced, prefix-judged, needs)
+    pub copied-fenced : Fenced (take t b) table n
+    copied-fenced = rw copied (record { laid = whole-laid text table n f t e; whole = sym copy-long ∙ e })
+
+    whole-recut : (after : List ℕ) → Recut (take t text) table n after → Recut text table n after
+    whole-recut after r =
+        let k = r .kept in
+        let w = words-take text after t n (λ i h. let a = whole-ends text table n f t e i h in let c = k .ends i in omega (arith, a, c)) in
+        let c = r .cut in
+        record { kept = k; cut = record { xEnd = λ i h. rw w at (c .xEnd i h); zStart = λ i h. rw w at (c .zStart i h) } }
+
+    pub copied-judged : (after : List ℕ) (r : Judged) → Judging (looseVerdict (wordsIn (take t b) table n)) (take t b) table n after r
+        → Judging (looseVerdict (wordsIn text table n)) text table n after r
+    copied-judged after r j₀ =
+        let j : Judging (looseVerdict (wordsIn (take t text) table n)) (take t text) table n after r = rw copied at j₀ in
+        record {
+          verdict = rw (← whole-words text table n f t e) (j .verdict);
+          cuts = λ d. whole-recut after (j .cuts d);
+          repeats = j .repeats;
+          looses = j .looses;
+        }
+
+pub ruleset copies = (copy-inside, copy-long, copy-narrowing, copied-inside, copied-long, copied-fenced, copied-judged, needs)
 
 -- refusal 7 comes first
 module _ (text table : List ℕ) (n r : ℕ) (e : r ≡ firstRepeated (wordsIn text table n)) where

@@ -174,17 +174,19 @@ fn judge_whole(text: &[u8], table: &mut [u16], n: usize) -> Judged
     Judged::Accepted
 }
 
-// The same of a text that may go on behind its last fence.
-fn judge_pieces(text: &[u8], table: &mut [u16], n: usize) -> Judged
+// The same of a text that may go on behind its last fence. The loops run on a copy in bytes, of which the compiler takes twice as many in a turn.
+fn judge_pieces(text: &[u16], table: &mut [u16], n: usize) -> Judged
     requires { ⌜ Laid (now text) (now table) n ⌝ }
     ensures { λ r. ⌜ Judging (looseVerdict (wordsIn (now (text .entry)) (now (table .entry)) n)) (now (text .entry)) (now (table .entry)) n (now (table .exit)) r ⌝ }
 {
     let total = start_of(table, n);
-    judge_whole(&text[..total], table, n)
+    let mut bytes = [0u8; Text::ROOM];
+    writing::narrow(&text[..total], &mut bytes, 0);
+    judge_whole(&bytes[..total], table, n)
 }
 
 // Refusals 7 and 8, in that order, and the cuts where neither is due.
-pub fn judge(text: &[u8], table: &mut [u16], n: usize) -> Judged
+pub fn judge(text: &[u16], table: &mut [u16], n: usize) -> Judged
     requires { ⌜ Laid (now text) (now table) n ⌝ }
     ensures { λ r. ⌜ Judging (judge (wordsIn (now (text .entry)) (now (table .entry)) n)) (now (text .entry)) (now (table .entry)) n (now (table .exit)) r ⌝ }
 {

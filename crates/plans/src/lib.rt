@@ -44,7 +44,7 @@ pub enum Plan {
 }
 
 // How many letters before x and before y agree, of at most `room`.
-fn agree_back(text: &[u8], x: usize, y: usize, room: usize) -> usize
+fn agree_back(text: &[u16], x: usize, y: usize, room: usize) -> usize
     requires { ⌜ BackRoom (now text) x y room ⌝ }
     ensures { λ r. ⌜ AgreeBack (now (text .entry)) x y room r ⌝ }
 {
@@ -59,7 +59,7 @@ fn agree_back(text: &[u8], x: usize, y: usize, room: usize) -> usize
 }
 
 // How many letters of the Z at s and of the Z at t agree at their ends.
-fn common_suffix(text: &[u8], s: Site, t: Site) -> usize
+fn common_suffix(text: &[u16], s: Site, t: Site) -> usize
     requires { ⌜ SitesInText (now text) s t ⌝ }
     ensures { λ r. ⌜ r ≡ sharedSuffix (now (text .entry)) s t ⌝ }
 {
@@ -90,7 +90,7 @@ fn put_tail(s: Site, n: usize) -> Change
 }
 
 // Row 1.
-fn finish(ua: &[u8], ub: &[u8], va: &[u8], vb: &[u8], p: &[u8]) -> Plan
+fn finish(ua: &[u16], ub: &[u16], va: &[u16], vb: &[u16], p: &[u16]) -> Plan
     ensures { λ r. ⌜ r ≡ plan1 (now (ua .entry) ++ now (ub .entry)) (now (va .entry) ++ now (vb .entry)) (now (p .entry)) ⌝ }
 {
     if rows::empty(ua, ub) {
@@ -111,7 +111,7 @@ fn drop_one(m: usize) -> Plan
 }
 
 // Row 2, where u and v begin with x.
-fn drop_mark(x: u8, p: &[u8]) -> Plan
+fn drop_mark(x: u16, p: &[u16]) -> Plan
     ensures { λ r. ⌜ r ≡ markDrop x (now (p .entry)) ⌝ }
 {
     if p.len() == 0 {
@@ -124,7 +124,7 @@ fn drop_mark(x: u8, p: &[u8]) -> Plan
 }
 
 // Row 2.
-fn drop_letters(ua: &[u8], ub: &[u8], va: &[u8], vb: &[u8], p: &[u8]) -> Plan
+fn drop_letters(ua: &[u16], ub: &[u16], va: &[u16], vb: &[u16], p: &[u16]) -> Plan
     requires { ⌜ BothNonEmpty (now ua ++ now ub) (now va ++ now vb) ⌝ }
     ensures { λ r. ⌜ r ≡ plan2 (now (ua .entry) ++ now (ub .entry)) (now (va .entry) ++ now (vb .entry)) (now (p .entry)) ⌝ }
 {
@@ -137,7 +137,7 @@ fn drop_letters(ua: &[u8], ub: &[u8], va: &[u8], vb: &[u8], p: &[u8]) -> Plan
 }
 
 // The tail that row 4 puts back: of the relation word at s where the rest of u is active for it, else of the one at t.
-fn kept_tail(text: &[u8], table: &[u16], n: usize, s: Site, t: Site, a: &[u8], b: &[u8]) -> Site
+fn kept_tail(text: &[u16], table: &[u16], n: usize, s: Site, t: Site, a: &[u16], b: &[u16]) -> Site
     requires { ⌜ CheckedSites (now text) (now table) n s t ⌝ }
     ensures { λ r. ⌜ r ≡ keptTail (wordsIn (now (text .entry)) (now (table .entry)) n) s t (now (a .entry) ++ now (b .entry)) ⌝ }
 {
@@ -148,7 +148,7 @@ fn kept_tail(text: &[u8], table: &[u16], n: usize, s: Site, t: Site, a: &[u8], b
 }
 
 // The letters that row 4 cuts from v.
-fn whole_cut(text: &[u8], s: Site, t: Site, a: &[u8], b: &[u8]) -> usize
+fn whole_cut(text: &[u16], s: Site, t: Site, a: &[u16], b: &[u16]) -> usize
     requires { ⌜ SitesInText (now text) s t ⌝ }
     ensures { λ r. ⌜ r ≡ wholeCut (now (text .entry)) s t (now (a .entry) ++ now (b .entry)) ⌝ }
 {
@@ -167,15 +167,15 @@ fn put_both(m: usize, z: Site, l: usize, k: usize) -> Plan
 
 // Row 4.
 fn replace_words(
-    text: &[u8],
+    text: &[u16],
     table: &[u16],
     n: usize,
     s: Site,
     t: Site,
-    ua: &[u8],
-    ub: &[u8],
-    va: &[u8],
-    vb: &[u8],
+    ua: &[u16],
+    ub: &[u16],
+    va: &[u16],
+    vb: &[u16],
     k: usize,
 ) -> Plan
     requires { ⌜ CheckedSites (now text) (now table) n s t ⌝ }
@@ -187,7 +187,7 @@ fn replace_words(
 }
 
 // The front mark after row 5.
-fn mark_after(text: &[u8], s: Site, p: &[u8]) -> Change
+fn mark_after(text: &[u16], s: Site, p: &[u16]) -> Change
     requires { ⌜ SiteInText (now text) s ⌝ }
     ensures { λ r. ⌜ r ≡ markAfter (now (text .entry)) s (now (p .entry)) ⌝ }
 {
@@ -198,7 +198,7 @@ fn mark_after(text: &[u8], s: Site, p: &[u8]) -> Change
 }
 
 // Row 5.
-fn cut_prefixes(text: &[u8], s: Site, p: &[u8]) -> Plan
+fn cut_prefixes(text: &[u16], s: Site, p: &[u16]) -> Plan
     requires { ⌜ SiteInText (now text) s ⌝ }
     ensures { λ r. ⌜ r ≡ plan5 (now (text .entry)) s (now (p .entry)) ⌝ }
 {
@@ -228,7 +228,7 @@ fn put_on_u(s: Site, t: Site, k: usize) -> Plan
 }
 
 // Whether Z without its last l letters follows X and Y.
-fn rest_at(text: &[u8], s: Site, l: usize, a: &[u8], b: &[u8]) -> bool
+fn rest_at(text: &[u16], s: Site, l: usize, a: &[u16], b: &[u16]) -> bool
     requires { ⌜ TailHas (now text) s l ⌝ }
     ensures { λ r. ⌜ r ≡ restAt (now (text .entry)) s l (now (a .entry) ++ now (b .entry)) ⌝ }
 {
@@ -256,15 +256,15 @@ fn cut_heads(s: Site, t: Site, l: usize, k: usize) -> Plan
 
 // Row 8, where the last l letters of both Z are the same.
 fn cut_common(
-    text: &[u8],
+    text: &[u16],
     s: Site,
     t: Site,
     l: usize,
-    ua: &[u8],
-    ub: &[u8],
-    va: &[u8],
-    vb: &[u8],
-    p: &[u8],
+    ua: &[u16],
+    ub: &[u16],
+    va: &[u16],
+    vb: &[u16],
+    p: &[u16],
 ) -> Plan
     requires { ⌜ TailsHave (now text) s t l ⌝ }
     ensures { λ r. ⌜ r ≡ plan8Of (now (text .entry)) s t l (now (ua .entry) ++ now (ub .entry)) (now (va .entry) ++ now (vb .entry)) (now (p .entry)) ⌝ }
@@ -280,14 +280,14 @@ fn cut_common(
 
 // Row 8.
 fn cut_ends(
-    text: &[u8],
+    text: &[u16],
     s: Site,
     t: Site,
-    ua: &[u8],
-    ub: &[u8],
-    va: &[u8],
-    vb: &[u8],
-    p: &[u8],
+    ua: &[u16],
+    ub: &[u16],
+    va: &[u16],
+    vb: &[u16],
+    p: &[u16],
 ) -> Plan
     requires { ⌜ SitesInText (now text) s t ⌝ }
     ensures { λ r. ⌜ r ≡ plan8Of (now (text .entry)) s t (sharedSuffix (now (text .entry)) s t) (now (ua .entry) ++ now (ub .entry)) (now (va .entry) ++ now (vb .entry)) (now (p .entry)) ⌝ }
@@ -298,14 +298,14 @@ fn cut_ends(
 
 // One round: the plan of what the rows make of u, v and p.
 pub fn decide(
-    text: &[u8],
+    text: &[u16],
     table: &[u16],
     n: usize,
-    ua: &[u8],
-    ub: &[u8],
-    va: &[u8],
-    vb: &[u8],
-    p: &[u8],
+    ua: &[u16],
+    ub: &[u16],
+    va: &[u16],
+    vb: &[u16],
+    p: &[u16],
 ) -> Plan
     requires { ⌜ Paired (now text) (now table) n ⌝ }
     ensures { λ r. ⌜ PlansRound (now (text .entry)) (now (table .entry)) n (now (ua .entry) ++ now (ub .entry)) (now (va .entry) ++ now (vb .entry)) (now (p .entry)) r ⌝ }

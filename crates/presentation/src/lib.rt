@@ -8,7 +8,7 @@ use refusals::Refusal;
 use pieces::Judged;
 
 // Refusals 7 and 8 over laid relation words; those of an accepted book get their cuts and their index.
-fn check_words(text: &[u8], table: &mut [u16], n: usize) -> Judged
+fn check_words(text: &[u16], table: &mut [u16], n: usize) -> Judged
     requires { ⌜ Unlisted (now text) (now table) n ⌝ }
     ensures { λ r. ⌜ WordsChecked (now (text .entry)) (now (table .entry)) n (now (table .exit)) r ⌝ }
 {
@@ -35,7 +35,7 @@ fn answer(letters: u8, relations: usize, judged: Judged) -> Reading
 }
 
 // Loads a book: the number of its letters and of its relations, or its refusal, which goes straight back.
-pub fn load(book: &[u8], text: &mut [u8], table: &mut [u16]) -> Reading
+pub fn load(book: &[u8], text: &mut [u16], table: &mut [u16]) -> Reading
     requires { ⌜ Memory (now text) (now table) ⌝ }
     ensures { λ r. ⌜ BookLoaded (now (book .entry)) r (now (text .exit)) (now (table .exit)) ⌝ }
 {

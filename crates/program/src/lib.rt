@@ -164,7 +164,7 @@ pub fn put_comparison(out: &mut [u8], at: usize, comparison: Comparison) -> usiz
 
 // Writes the lines of the comparison records from a position on, behind each other from a place of the buffer on, and answers the place behind them.
 pub fn write_lines(
-    text: &[u8],
+    text: &[u16],
     table: &[u16],
     n: usize,
     letters: u8,
@@ -202,7 +202,7 @@ pub fn write_lines(
 
 // Writes the line of an accepted book and those of the comparison records behind it, at the start of the buffer, and answers the place behind them.
 fn write_accepted(
-    text: &[u8],
+    text: &[u16],
     table: &[u16],
     relations: usize,
     letters: u8,
@@ -223,7 +223,7 @@ fn write_loaded(input: &[u8], out: &mut [u8]) -> usize
     ensures { λ r. ⌜ WrittenTo (now (out .entry)) 0 (loadedOutput (now (input .entry))) (now (out .exit)) r ⌝ }
 {
     let end = book_end(input);
-    let mut text = [0u8; Text::ROOM];
+    let mut text = [0u16; Text::ROOM];
     let mut table = [0u16; Table::ROOM];
     let loading = load(&input[..end], &mut text, &mut table);
     match loading {

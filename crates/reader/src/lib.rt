@@ -1,7 +1,8 @@
 // The book reader: bytes to relation words (document 01, "Book bytes"). Its answer is what the definition of reading a book gives, for every byte slice.
 // It is a part for the entries above it: a book that it reads may still have a relation word twice, or fail C(4).
 ghost use mathlib.Core.Path.{_≡_};
-ghost use Prim.Native.Nat.{_+_, _≤_, _<_};
+ghost use mathlib.Core.List.{[], _∷_, _++_};
+ghost use Prim.Native.Nat.{_+_, _<_};
 ghost use lib.ListN.{length};
 ghost use Rattle.layout.specs.Appending.{Arrays};
 ghost use Rattle.reader.specs.Laying.{RelationRoom, RelationAppended, ofHead, ofRelation, BookRead};
@@ -19,7 +20,7 @@ fn append_relation(
     left: usize,
     right: usize,
     to: usize,
-    text: &mut [u8],
+    text: &mut [u16],
     table: &mut [u16],
     count: usize,
 )
@@ -51,7 +52,7 @@ fn of_relation(letters: u8, count: usize, relation: RelationReading) -> Reading
 }
 
 // Reads a book. The relation words are laid in the text and the table as they are read.
-pub fn read_book(book: &[u8], text: &mut [u8], table: &mut [u16]) -> Reading
+pub fn read_book(book: &[u8], text: &mut [u16], table: &mut [u16]) -> Reading
     requires { ⌜ Arrays (now text) (now table) ⌝ }
     ensures { λ r. ⌜ BookRead (now (book .entry)) (now (text .entry)) (now (table .entry)) r (now (text .exit)) (now (table .exit)) ⌝ }
 {

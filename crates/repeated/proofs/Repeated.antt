@@ -1,5 +1,5 @@
 -- The lowest relation word that equals an earlier one (document 01, refusal 7): the loops, and a law for each way on.
-use Prim.Native.Nat.{ℕ, _+_, _<_, _≤_}
+use Prim.Native.Nat.{ℕ, _+_, _*_, _<_, _≤_}
 use mathlib.Core.Bool.{Bool, true, false}
 use mathlib.Core.List.{List}
 use mathlib.Core.Logic.{by-cases}
@@ -9,6 +9,8 @@ use native.Mathlib.Decide.{decLt}
 use borrow.Author.Needs.{needs}
 use borrow.Author.Tests.{eq-eqb, ne-eqb}
 use lib.ListN.{length, getD}
+use mir.Val.{Fits}
+use mir.Syntax.{w64}
 use Rattle.words.specs.Search.{least}
 use Rattle.words.specs.Words.{Word, isPrefix}
 use Rattle.words.proofs.Prefixes.{prefix-at, at-prefix}
@@ -17,7 +19,7 @@ use Rattle.words.proofs.Searching.{NoneBelow, none-start, none-more, none-all, 
 use Rattle.overlap.specs.Verdict.{sameWord, isRepeated, firstRepeated}
 use Rattle.layout.specs.Places.{startCell, endCell}
 use Rattle.layout.specs.Layout.{part, startOf, endOf, wordsIn, Laid, KnownWord, WordPair}
-use Rattle.layout.proofs.Placed.{words-length, word-part, row-inside, word-span}
+use Rattle.layout.proofs.Placed.{start-bound, words-length, word-part, row-inside, word-span}
 use Rattle.repeated.specs.Repeated.{sameWords, repeatedIn}
 
 -- the letters of two words
@@ -72,6 +74,12 @@ module _ (text table : List ℕ) (j i : ℕ) (g : WordPair text table j i) where
   pub second-cell : startCell i < length table
   second-cell = let r = second-row in omega (arith, r)
 
+  pub first-scaled : (s : ℕ) → s ≡ startOf table j → Fits w64 (s * 2)
+  first-scaled s d = omega (arith, d, start-bound text table (g .number) (g .laid) j (omega (arith, g .first)), g .first, g .laid .few)
+
+  pub second-scaled : (s : ℕ) → s ≡ startOf table i → Fits w64 (s * 2)
+  second-scaled s d = omega (arith, d, start-bound text table (g .number) (g .laid) i (omega (arith, g .second)), g .second, g .laid .few)
+
   module _ (s e : ℕ) where
     pub first-upwards : s ≡ startOf table j → e ≡ endOf table j → s ≤ e
     first-upwards d f = let w = word-span text table (g .number) (g .laid) j (g .first) in omega (arith, d, f, w .upwards)
@@ -89,7 +97,7 @@ pub words-equal : (text table : List ℕ) (i j a b c d : ℕ) (r : Bool) → a �
     → r ≡ sameWord (part text a b) (part text c d) → r ≡ sameWords text table i j
 words-equal text table i j a b c d r e₁ e₂ e₃ e₄ h = h ∙ rw (e₁, e₂, e₃, e₄)
 
-pub ruleset equalities = (first-row, second-row, first-cell, second-cell, first-upwards, second-upwards, first-inside, second-inside, words-equal, needs)
+pub ruleset equalities = (first-row, second-row, first-cell, second-cell, first-scaled, second-scaled, first-upwards, second-upwards, first-inside, second-inside, words-equal, needs)
 
 -- the loop over the earlier words
 

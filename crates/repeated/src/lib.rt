@@ -9,7 +9,7 @@ use layout::end_of;
 use layout::start_of;
 
 // Two words of one length have the same letters.
-fn have_same_letters(u: &[u8], v: &[u8]) -> bool
+fn have_same_letters(u: &[u16], v: &[u16]) -> bool
     requires { ⌜ length (now u) ≡ length (now v) ⌝ }
     ensures { λ r. ⌜ r ≡ isPrefix (now (u .entry)) (now (v .entry)) ⌝ }
 {
@@ -24,7 +24,7 @@ fn have_same_letters(u: &[u8], v: &[u8]) -> bool
 }
 
 // Two words are equal.
-fn are_equal(u: &[u8], v: &[u8]) -> bool
+fn are_equal(u: &[u16], v: &[u16]) -> bool
     ensures { λ r. ⌜ r ≡ sameWord (now (u .entry)) (now (v .entry)) ⌝ }
 {
     if u.len() == v.len() {
@@ -34,7 +34,7 @@ fn are_equal(u: &[u8], v: &[u8]) -> bool
 }
 
 // Words j and i are equal.
-fn words_equal(text: &[u8], table: &[u16], j: usize, i: usize) -> bool
+fn words_equal(text: &[u16], table: &[u16], j: usize, i: usize) -> bool
     requires { ⌜ WordPair (now text) (now table) j i ⌝ }
     ensures { λ r. ⌜ r ≡ sameWords (now (text .entry)) (now (table .entry)) i j ⌝ }
 {
@@ -46,7 +46,7 @@ fn words_equal(text: &[u8], table: &[u16], j: usize, i: usize) -> bool
 }
 
 // Word i equals an earlier one.
-fn is_repeated(text: &[u8], table: &[u16], i: usize) -> bool
+fn is_repeated(text: &[u16], table: &[u16], i: usize) -> bool
     requires { ⌜ KnownWord (now text) (now table) i ⌝ }
     ensures { λ r. ⌜ r ≡ repeatedIn (now (text .entry)) (now (table .entry)) i ⌝ }
 {
@@ -61,7 +61,7 @@ fn is_repeated(text: &[u8], table: &[u16], i: usize) -> bool
 }
 
 // The lowest word that equals an earlier one, or n.
-pub fn first_repeated(text: &[u8], table: &[u16], n: usize) -> usize
+pub fn first_repeated(text: &[u16], table: &[u16], n: usize) -> usize
     requires { ⌜ Laid (now text) (now table) n ⌝ }
     ensures { λ r. ⌜ r ≡ firstRepeated (wordsIn (now (text .entry)) (now (table .entry)) n) ⌝ }
 {

@@ -1,19 +1,23 @@
--- Laws of the writers: a copy, a change written into a buffer, and the three of a round.
-use Prim.Native.Nat.{ℕ, zero, suc, _+_, _-_, _≤_, _<_}
+-- Laws of the writers: a change written into a buffer, and the three of a round; and of the doors, where given words are widened and next words narrowed.
+use Prim.Native.Nat.{ℕ, zero, suc, _+_, _*_, _-_, _≤_, _<_}
 use mathlib.Core.Bool.{Bool}
 use mathlib.Core.List.{List, _++_}
-use mathlib.Core.Path.{_≡_, refl, sym, ap, _∙_}
+use mathlib.Core.Path.{_≡_, ap, _∙_}
 use native.Mathlib.Omega.{arith}
-use native.Mathlib.Numerals.{add-one}
 use borrow.Author.Needs.{needs}
 use mir.Syntax.{w64}
 use mir.Val.{Fits}
-use lib.ListN.{length, getD, take, drop, set, length-set, length-append, length-drop}
-use lib.Seq.{paste, paste-zero, paste-suc, length-paste, take-length, take-all, take-append-seam, drop-append-add, drop-drop}
+use lib.ListN.{replicate, length-replicate, length, take, drop, length-append, length-drop}
+use lib.Seq.{take-all}
 use Rattle.words.specs.Words.{Word}
 use Rattle.words.proofs.Lists.{part-length}
 use Rattle.congruence.specs.Rows.{round}
-use Rattle.layout.specs.Layout.{part, wordsIn}
+use Rattle.layout.specs.Places.{startCell}
+use Rattle.layout.specs.Layout.{part, wordsIn, startOf, Laid}
+use Rattle.layout.proofs.Whole.{whole-inside, whole-long, whole-words, whole-bytes, whole-checked}
+use Rattle.given.specs.Given.{Widened}
+use Rattle.writing.specs.Writing.{written, Bytes, Narrowing}
+use Rattle.writing.proofs.Writing.{written-zero, written-length, written-behind, bytes-drop, bytes-take}
 use Rattle.plans.specs.declared.Change.{Change}
 use Rattle.plans.specs.declared.Plan.{Plan}
 use Rattle.plans.specs.declared.Plan.the-variants.{End, Go}
@@ -22,54 +26,10 @@ use Rattle.rounds.specs.declared.RoundLengths.the-variants as S
 use Rattle.rows.specs.Sites.{Paired}
 use Rattle.plans.specs.Plans.{planned, Fit, MarkFit, PlanFit, PlansRound}
 use Rattle.plans.specs.Plans.PlanFit.{goes}
-use Rattle.rounds.specs.Writing.{over, writtenBy, copied, Writable, Written, Changes, Planned, Lent}
+use Rattle.rounds.specs.Writing.{writtenBy, Writable, Written, Changes, Planned, GivenShort, LentInBytes, Lent}
 use Rattle.rounds.specs.Writing.Outcome.{after}
 
--- i bytes of s are copied to place `at` of d, which is now b
-pub record Copying (s d : List ℕ) (at i : ℕ) (b : List ℕ) : Type 0 where
-  pub within : i ≤ length s
-  pub room : at + length s ≤ length d
-  pub same : b ≡ paste d at s i
-  pub long : length b ≡ length d
-
-pub copying-start : (s d : List ℕ) (at : ℕ) → at + length s ≤ length d → Copying s d at 0 d
-copying-start s d at h = record { within = omega arith; room = h; same = paste-zero d at s; long = refl }
-
-module _ (s d b : List ℕ) (at i : ℕ) (c : Copying s d at i b) where
-  pub copying-more : i < length s → (x : ℕ) → x ≡ getD s i 0 → Copying s d at (i + 1) (set b (at + i) x)
-  copying-more h x e =
-      record {
-        within = omega arith;
-        room = c .room;
-        same = rw (c .same, e, add-one) (paste-suc d at s i 0 (let r = c .room in omega arith) h);
-        long = rw length-set (c .long);
-      }
-
-  pub copying-at : i < length s → at + i < length b
-  copying-at h = let r = c .room in let l = c .long in omega arith
-
-  pub copying-end : length s ≤ i → b ≡ copied s at d
-  unfolding copied
-  copying-end h = let w = c .within in let e : i ≡ length s = omega arith in c .same ∙ ap (paste d at s) e
-
-pub ruleset copyings = (copying-start, copying-more, copying-at, copying-end, needs)
-
--- a copy to the start, and another behind it
-one-copy : (a d : List ℕ) → copied a 0 d ≡ a ++ drop (length a) d
-unfolding copied
-one-copy a d = let z : 0 + length a ≡ length a = omega arith in rw (take-length, z)
-
-one-length : (a d : List ℕ) → length a ≤ length d → length (copied a 0 d) ≡ length d
-unfolding copied
-one-length a d h = length-paste d 0 a (length a) (omega arith) (omega arith)
-
-two-copies : (a b d : List ℕ) (n : ℕ) → n ≡ length a → copied b n (copied a 0 d) ≡ over (a ++ b) d
-unfolding copied
-two-copies a b d n e =
-    let c = one-copy a d in
-    ap (copied b n) c ∙ rw (e, take-append-seam a (drop (length a) d), take-length b, drop-append-add a (drop (length a) d) (length b), drop-drop (length b) (length a) d, length-append a b)
-
--- a change is written by two copies
+-- a change is written by two writings, one behind the other
 module _ (text : List ℕ) (c : Change) (w d : List ℕ) (h : Writable text c w d) where
   pub writable-up : c .from ≤ c .to
   writable-up = h .up
@@ -80,8 +40,15 @@ module _ (text : List ℕ) (c : Change) (w d : List ℕ) (h : Writable text c w 
   pub writable-within : c .cut ≤ length w
   writable-within = h .within
 
-  pub writable-first : 0 + length (part text (c .from) (c .to)) ≤ length d
-  writable-first = let l = part-length text (c .from) (c .to) (h .inside) in let r = h .room in omega arith
+  part-long : length (part text (c .from) (c .to)) ≡ c .to - c .from
+  part-long = part-length text (c .from) (c .to) (h .inside)
+
+  pub writable-first : Narrowing (part text (c .from) (c .to)) d 0
+  writable-first =
+      record {
+        room = omega (arith, part-long, h .room);
+        bytes = bytes-take (drop (c .from) text) (c .to - c .from) (omega (arith, length-drop (c .from) text, h .inside)) (bytes-drop text (c .from) (h .small));
+      }
 
   pub writable-fits : Fits w64 (length d) → Fits w64 (c .to - c .from + (length w - c .cut))
   writable-fits f = let r = h .room in omega arith
@@ -89,24 +56,26 @@ module _ (text : List ℕ) (c : Change) (w d : List ℕ) (h : Writable text c w 
   rest : take (length w - c .cut) (drop (c .cut) w) ≡ drop (c .cut) w
   rest = take-all (length w - c .cut) (drop (c .cut) w) (let l = length-drop (c .cut) w in omega arith)
 
-  module _ (d₁ : List ℕ) (e : d₁ ≡ copied (part text (c .from) (c .to)) 0 d) where
+  module _ (d₁ : List ℕ) (e : d₁ ≡ written 0 (part text (c .from) (c .to)) d) where
     pub writable-second : c .to - c .from + length (take (length w - c .cut) (drop (c .cut) w)) ≤ length d₁
     writable-second =
-        let l = part-length text (c .from) (c .to) (h .inside) in
-        let r = h .room in
-        let k : length (drop (c .cut) w) ≡ length w - c .cut = length-drop (c .cut) w in
-        let m : length d₁ ≡ length d = ap length e ∙ one-length (part text (c .from) (c .to)) d (omega arith) in
-        rw (rest, m, k) r
+        let m : length d₁ ≡ length d = ap length e ∙ written-length 0 (part text (c .from) (c .to)) d (omega (arith, part-long, h .room)) in
+        rw (rest, m, length-drop (c .cut) w) (h .room)
 
-    pub written : (d₂ : List ℕ) → d₂ ≡ copied (take (length w - c .cut) (drop (c .cut) w)) (c .to - c .from) d₁ → Written text c w d (c .to - c .from + (length w - c .cut)) d₂
-    written d₂ f =
-        let l = part-length text (c .from) (c .to) (h .inside) in
+    pub change-written : (d₂ : List ℕ) → d₂ ≡ written (c .to - c .from) (take (length w - c .cut) (drop (c .cut) w)) d₁
+        → Written text c w d (c .to - c .from + (length w - c .cut)) d₂
+    change-written d₂ f =
+        let x = part text (c .from) (c .to) in
         let k = length-drop (c .cut) w in
         let n = length-append (part text (c .from) (c .to)) (drop (c .cut) w) in
-        let q : copied (take (length w - c .cut) (drop (c .cut) w)) (c .to - c .from) d₁ ≡ copied (drop (c .cut) w) (c .to - c .from) (copied (part text (c .from) (c .to)) 0 d) = rw (rest, e) in
-        record { count = omega arith; bytes = f ∙ q ∙ two-copies (part text (c .from) (c .to)) (drop (c .cut) w) d (c .to - c .from) (sym l) }
+        let q : written (c .to - c .from) (take (length w - c .cut) (drop (c .cut) w)) d₁ ≡ written (c .to - c .from) (drop (c .cut) w) (written 0 x d) = rw (rest, e) in
+        record {
+          count = omega (arith, part-long);
+          bytes = f ∙ q ∙ written-behind 0 x (drop (c .cut) w) d (c .to - c .from) (omega (arith, part-long)) (omega (arith, part-long, h .room))
+              ∙ written-zero (x ++ drop (c .cut) w) d;
+        }
 
-pub ruleset writings = (writable-up, writable-inside, writable-within, writable-first, writable-fits, writable-second, written, needs)
+pub ruleset writings = (writable-up, writable-inside, writable-within, writable-first, writable-fits, writable-second, change-written, needs)
 
 -- the three changes of a plan that goes on
 pub go-fit : (text : List ℕ) (B : List Word) (u v p : Word) (cu cv cp : Change) → PlanFit text B u v p (Go cu cv cp) → Fit text B u cu × Fit text B v cv × MarkFit text B p cp
@@ -150,34 +119,95 @@ plan-go text plan u v p nu nv np cu cv cp e r nu′ nv′ np′ f = rw e f
 pub ruleset planWrites = (plan-end, plan-changes, plan-go, needs)
 
 -- a change of u or v fits into its buffer
-fit-writable : (text : List ℕ) (B : List Word) (w d : List ℕ) (c : Change) → Fit text B w c → length w ≤ 4160 → 4224 ≤ length d → Writable text c w d
-fit-writable text B w d c f h r = let s = f .short in record { up = f .up; inside = f .inside; within = f .within; room = omega arith }
+fit-writable : (text : List ℕ) (B : List Word) (w d : List ℕ) (c : Change) → Bytes text → Fit text B w c → length w ≤ 4160 → 4224 ≤ length d → Writable text c w d
+fit-writable text B w d c b f h r = let s = f .short in record { up = f .up; inside = f .inside; within = f .within; room = omega arith; small = b }
 
 -- a change of the mark fits into its buffer
-mark-writable : (text : List ℕ) (B : List Word) (p d : List ℕ) (c : Change) → MarkFit text B p c → length p ≤ 64 → 64 ≤ length d → Writable text c p d
-mark-writable text B p d c f h r =
+mark-writable : (text : List ℕ) (B : List Word) (p d : List ℕ) (c : Change) → Bytes text → MarkFit text B p c → length p ≤ 64 → 64 ≤ length d → Writable text c p d
+mark-writable text B p d c b f h r =
     let s = f .short in
     let m = mark-room (c .to - c .from) (c .cut) (length p) (omega arith) h (f .within) (λ l. f .whole (omega arith)) in
-    record { up = f .up; inside = f .inside; within = f .within; room = omega arith }
+    record { up = f .up; inside = f .inside; within = f .within; room = omega arith; small = b }
+
+-- words in bytes are decided as they are widened
+module _ (text table : List ℕ) (n : ℕ) (u v p : Word) (g : GivenShort text table n u v p) where
+  pub given-paired : Paired text table n
+  given-paired = g .paired
+
+  pub given-u : length u ≤ length (replicate {A = ℕ} 4160 0)
+  given-u = let l = length-replicate {A = ℕ} 4160 0 in omega (arith, g .shortU)
+
+  pub given-v : length v ≤ length (replicate {A = ℕ} 4160 0)
+  given-v = let l = length-replicate {A = ℕ} 4160 0 in omega (arith, g .shortV)
+
+  pub given-p : length p ≤ length (replicate {A = ℕ} 64 0)
+  given-p = let l = length-replicate {A = ℕ} 64 0 in omega (arith, g .shortP)
+
+pub given-decided : (text table : List ℕ) (n : ℕ) (u v p nu nv np : List ℕ) (plan : Plan) → Widened u nu → Widened v nv → Widened p np
+    → PlansRound text table n (take (length u) nu) (take (length v) nv) (take (length p) np) plan → PlansRound text table n u v p plan
+given-decided text table n u v p nu nv np plan x y z q = rw (x .same, y .same, z .same) at q
+
+pub ruleset decisions = (given-paired, given-u, given-v, given-p, given-decided, needs)
+
+-- the single round over the text as far as its last fence
+module _ (text table : List ℕ) (n : ℕ) (u v p nu nv np : List ℕ) (h : LentInBytes text table n u v p nu nv np) where
+  pub lent-given : GivenShort text table n u v p
+  lent-given = h .lent .given
+
+  module _ (plan : Plan) (q : PlansRound text table n u v p plan) where
+    pub round-planned : Planned text plan u v p nu nv np
+    round-planned = record {
+      changes = λ cu cv cp e.
+          let f = go-fit text (wordsIn text table n) u v p cu cv cp (rw e at (q .fits)) in
+          let g = h .lent .given in
+          record {
+            forU = fit-writable text (wordsIn text table n) u nu cu (h .small) (f .0) (g .shortU) (h .lent .roomU);
+            forV = fit-writable text (wordsIn text table n) v nv cv (h .small) (f .1) (g .shortV) (h .lent .roomV);
+            forP = mark-writable text (wordsIn text table n) p np cp (h .small) (f .2) (g .shortP) (h .lent .roomP);
+          };
+    }
+
+    pub round-written : (r : RoundLengths) (nu′ nv′ np′ : List ℕ) → after r nu′ nv′ np′ ≡ writtenBy (planned text u v p plan) nu nv np
+        → after r nu′ nv′ np′ ≡ writtenBy (round (wordsIn text table n) u v p) nu nv np
+    round-written r nu′ nv′ np′ f = rw (← q .same) f
+
+pub ruleset roundWrites = (lent-given, round-planned, round-written, needs)
 
 -- the single round
-module _ (text table : List ℕ) (n : ℕ) (u v p nu nv np : List ℕ) (h : Lent text table n u v p nu nv np) (plan : Plan) (q : PlansRound text table n u v p plan) where
-  pub round-planned : Planned text plan u v p nu nv np
-  round-planned = record {
-    changes = λ cu cv cp e.
-        let f = go-fit text (wordsIn text table n) u v p cu cv cp (rw e at (q .fits)) in
+module _ (text table : List ℕ) (n : ℕ) (u v p nu nv np : List ℕ) (h : Lent text table n u v p nu nv np) where
+  laid : Laid text table n
+  laid = h .given .paired .checked .laid
+
+  pub lent-read : startCell n < length table
+  lent-read = laid .room
+
+  module _ (t : ℕ) (e : t ≡ startOf table n) where
+    pub lent-inside : t ≤ length text
+    lent-inside = whole-inside text table n laid t e
+
+    pub lent-long : t ≡ length (take t text)
+    lent-long = whole-long text table n laid t e
+
+    pub lent-whole : LentInBytes (take t text) table n u v p nu nv np
+    lent-whole =
+        let g = h .given in
         record {
-          forU = fit-writable text (wordsIn text table n) u nu cu (f .0) (h .shortU) (h .roomU);
-          forV = fit-writable text (wordsIn text table n) v nv cv (f .1) (h .shortV) (h .roomV);
-          forP = mark-writable text (wordsIn text table n) p np cp (f .2) (h .shortP) (h .roomP);
-        };
-  }
+          lent = record {
+            given = record {
+              paired = record { checked = whole-checked text table n (g .paired .checked) t e; even = g .paired .even };
+              shortU = g .shortU;
+              shortV = g .shortV;
+              shortP = g .shortP;
+            };
+            roomU = h .roomU;
+            roomV = h .roomV;
+            roomP = h .roomP;
+          };
+          small = whole-bytes text table n laid t e;
+        }
 
-  pub round-written : (r : RoundLengths) (nu′ nv′ np′ : List ℕ) → after r nu′ nv′ np′ ≡ writtenBy (planned text u v p plan) nu nv np
-      → after r nu′ nv′ np′ ≡ writtenBy (round (wordsIn text table n) u v p) nu nv np
-  round-written r nu′ nv′ np′ f = rw (← q .same) f
+    pub lent-written : (r : RoundLengths) (nu′ nv′ np′ : List ℕ) → after r nu′ nv′ np′ ≡ writtenBy (round (wordsIn (take t text) table n) u v p) nu nv np
+        → after r nu′ nv′ np′ ≡ writtenBy (round (wordsIn text table n) u v p) nu nv np
+    lent-written r nu′ nv′ np′ f = rw (whole-words text table n laid t e) at f
 
-pub lent-paired : (text table : List ℕ) (n : ℕ) (u v p nu nv np : List ℕ) → Lent text table n u v p nu nv np → Paired text table n
-lent-paired text table n u v p nu nv np h = h .paired
-
-pub ruleset roundWrites = (lent-paired, round-planned, round-written, needs)
+pub ruleset lents = (lent-read, lent-inside, lent-long, lent-whole, lent-written, needs)

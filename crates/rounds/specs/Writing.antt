@@ -1,10 +1,10 @@
 -- What the single round leaves in its three lent buffers (document 01, "Exchanges and rounds", last paragraph).
 use Prim.Native.Nat.{ℕ, _+_, _-_, _≤_}
-use mathlib.Core.List.{List, _++_}
+use mathlib.Core.List.{List}
 use mathlib.Core.Path.{_≡_}
-use lib.ListN.{length, drop}
-use lib.Seq.{paste}
+use lib.ListN.{length}
 use Rattle.words.specs.Words.{Word}
+use Rattle.writing.specs.Writing.{over, Bytes}
 use Rattle.congruence.specs.Rows.{Next}
 use Rattle.congruence.specs.Rows.Next.{end, go}
 use Rattle.plans.specs.declared.Change.{Change}
@@ -19,18 +19,10 @@ use Rattle.plans.specs.Plans.{applied}
 pub data Outcome : Type 0 where
   after : RoundLengths → List ℕ → List ℕ → List ℕ → Outcome
 
--- a word at the start of a buffer, the bytes after it kept
-abbrev pub over : Word → List ℕ → List ℕ
-over w d = w ++ drop (length w) d
-
 -- an end writes nothing; else the next u, v and p stand at the start of the buffers, and their lengths are given
 unfoldable pub writtenBy : Next → List ℕ → List ℕ → List ℕ → Outcome
 writtenBy (end b) nu nv np = after (S.End b) nu nv np
 writtenBy (go u v p) nu nv np = after (S.Next (length u) (length v) (length p)) (over u nu) (over v nv) (over p np)
-
--- the bytes s stand in a buffer from place `at` on
-unfoldable pub copied : List ℕ → ℕ → List ℕ → List ℕ
-copied s at d = paste d at s (length s)
 
 -- a change can be written into a buffer
 pub record Writable (text : List ℕ) (c : Change) (w d : List ℕ) : Type 0 where
@@ -38,6 +30,7 @@ pub record Writable (text : List ℕ) (c : Change) (w d : List ℕ) : Type 0 whe
   pub inside : c .to ≤ length text
   pub within : c .cut ≤ length w
   pub room : c .to - c .from + (length w - c .cut) ≤ length d
+  pub small : Bytes text
 
 -- a change is written into a buffer, and r is the length of the word
 pub record Written (text : List ℕ) (c : Change) (w d : List ℕ) (r : ℕ) (d′ : List ℕ) : Type 0 where
@@ -54,12 +47,21 @@ pub record Changes (text : List ℕ) (cu cv cp : Change) (u v p nu nv np : List 
 pub record Planned (text : List ℕ) (plan : Plan) (u v p nu nv np : List ℕ) : Type 0 where
   pub changes : (cu cv cp : Change) → plan ≡ Go cu cv cp → Changes text cu cv cp u v p nu nv np
 
--- what the single round asks of its words and buffers
-pub record Lent (text table : List ℕ) (n : ℕ) (u v p nu nv np : List ℕ) : Type 0 where
+-- what a round asks of its words: a presentation whose relation words come in pairs, and the limits of u, v and p
+pub record GivenShort (text table : List ℕ) (n : ℕ) (u v p : Word) : Type 0 where
   pub paired : Paired text table n
   pub shortU : length u ≤ 4160
   pub shortV : length v ≤ 4160
   pub shortP : length p ≤ 64
+
+-- what the single round asks of its words and buffers
+pub record Lent (text table : List ℕ) (n : ℕ) (u v p nu nv np : List ℕ) : Type 0 where
+  pub given : GivenShort text table n u v p
   pub roomU : 4224 ≤ length nu
   pub roomV : 4224 ≤ length nv
   pub roomP : 64 ≤ length np
+
+-- what the single round asks, over a text whose elements fit in bytes
+pub record LentInBytes (text table : List ℕ) (n : ℕ) (u v p nu nv np : List ℕ) : Type 0 where
+  pub lent : Lent text table n u v p nu nv np
+  pub small : Bytes text

@@ -1,16 +1,17 @@
 // The single round: it is decided as a plan, and the next words are written into three lent buffers.
 
 ghost use mathlib.Core.Path.{_≡_};
-ghost use Prim.Native.Nat.{_+_, _≤_};
-ghost use lib.ListN.{length};
 ghost use Rattle.congruence.specs.Rows.{round};
 ghost use Rattle.layout.specs.Layout.{wordsIn};
-ghost use Rattle.plans.specs.Plans.{planned};
+ghost use Rattle.plans.specs.Plans.{planned, PlansRound};
 ghost use Rattle.plans.specs.declared.Plan.the-variants.{Go};
-ghost use Rattle.rounds.specs.Writing.{copied, Writable, Written, writtenBy, Changes, Planned, Lent};
+ghost use Rattle.rounds.specs.Writing.{Writable, Written, writtenBy, Changes, Planned, GivenShort, LentInBytes, Lent};
 ghost use Rattle.rounds.specs.Writing.Outcome.{after};
+use given::widen_word;
+use limits::Word;
 use plans::Change;
 use plans::Plan;
+use plans::decide;
 
 // The end, or the lengths of the next u, v and p.
 pub enum RoundLengths {
@@ -18,34 +19,22 @@ pub enum RoundLengths {
     Next(usize, usize, usize),
 }
 
-// The bytes of s go to the buffer from place `at` on.
-fn copy_at(s: &[u8], out: &mut [u8], at: usize)
-    requires { ⌜ at + length (now s) ≤ length (now out) ⌝ }
-    ensures { λ _. ⌜ now (out .exit) ≡ copied (now (s .entry)) at (now (out .entry)) ⌝ }
-{
-    let mut i = 0;
-    while i < s.len() {
-        out[at + i] = s[i];
-        i += 1;
-    }
-}
-
 // The word that a change makes of w goes to the start of the buffer; its length comes back.
-fn write_change(text: &[u8], c: Change, w: &[u8], out: &mut [u8]) -> usize
+fn write_change(text: &[u16], c: Change, w: &[u8], out: &mut [u8]) -> usize
     requires { ⌜ Writable (now text) c (now w) (now out) ⌝ }
     ensures { λ r. ⌜ Written (now (text .entry)) c (now (w .entry)) (now (out .entry)) r (now (out .exit)) ⌝ }
 {
     let from = c.from;
     let to = c.to;
     let cut = c.cut;
-    copy_at(&text[from..to], out, 0);
-    copy_at(&w[cut..w.len()], out, to - from);
+    writing::narrow(&text[from..to], out, 0);
+    writing::put_bytes(&w[cut..w.len()], out, to - from);
     to - from + (w.len() - cut)
 }
 
 // The three changes of a round are written, each into its buffer.
 fn write_changes(
-    text: &[u8],
+    text: &[u16],
     cu: Change,
     cv: Change,
     cp: Change,
@@ -67,7 +56,7 @@ fn write_changes(
 
 // An end writes nothing.
 fn write_plan(
-    text: &[u8],
+    text: &[u16],
     plan: Plan,
     u: &[u8],
     v: &[u8],
@@ -85,9 +74,52 @@ fn write_plan(
     }
 }
 
-// The single round: it is decided over u, v and p, and then the next words are written at the start of the three buffers.
+// The plan of a round whose words are given in bytes.
+fn decide_given(text: &[u16], table: &[u16], n: usize, u: &[u8], v: &[u8], p: &[u8]) -> Plan
+    requires { ⌜ GivenShort (now text) (now table) n (now u) (now v) (now p) ⌝ }
+    ensures { λ r. ⌜ PlansRound (now (text .entry)) (now (table .entry)) n (now (u .entry)) (now (v .entry)) (now (p .entry)) r ⌝ }
+{
+    let mut wide_u = [0u16; Word::ROUND];
+    let mut wide_v = [0u16; Word::ROUND];
+    let mut wide_p = [0u16; Word::MARK];
+    widen_word(u, &mut wide_u);
+    widen_word(v, &mut wide_v);
+    widen_word(p, &mut wide_p);
+    decide(
+        text,
+        table,
+        n,
+        &text[..0],
+        &wide_u[..u.len()],
+        &text[..0],
+        &wide_v[..v.len()],
+        &wide_p[..p.len()],
+    )
+}
+
+// The single round over a text that ends with its last fence: it is decided over u, v and p, and then the next words are written at the start of the three
+// buffers. What the text holds fits in bytes.
+fn write_next(
+    text: &[u16],
+    table: &[u16],
+    n: usize,
+    u: &[u8],
+    v: &[u8],
+    p: &[u8],
+    nu: &mut [u8],
+    nv: &mut [u8],
+    np: &mut [u8],
+) -> RoundLengths
+    requires { ⌜ LentInBytes (now text) (now table) n (now u) (now v) (now p) (now nu) (now nv) (now np) ⌝ }
+    ensures { λ r. ⌜ after r (now (nu .exit)) (now (nv .exit)) (now (np .exit)) ≡ writtenBy (round (wordsIn (now (text .entry)) (now (table .entry)) n) (now (u .entry)) (now (v .entry)) (now (p .entry))) (now (nu .entry)) (now (nv .entry)) (now (np .entry)) ⌝ }
+{
+    let plan = decide_given(text, table, n, u, v, p);
+    write_plan(text, plan, u, v, p, nu, nv, np)
+}
+
+// The single round.
 pub fn write_round(
-    text: &[u8],
+    text: &[u16],
     table: &[u16],
     n: usize,
     u: &[u8],
@@ -100,6 +132,6 @@ pub fn write_round(
     requires { ⌜ Lent (now text) (now table) n (now u) (now v) (now p) (now nu) (now nv) (now np) ⌝ }
     ensures { λ r. ⌜ after r (now (nu .exit)) (now (nv .exit)) (now (np .exit)) ≡ writtenBy (round (wordsIn (now (text .entry)) (now (table .entry)) n) (now (u .entry)) (now (v .entry)) (now (p .entry))) (now (nu .entry)) (now (nv .entry)) (now (np .entry)) ⌝ }
 {
-    let plan = plans::decide(text, table, n, &u[0..0], u, &v[0..0], v, p);
-    write_plan(text, plan, u, v, p, nu, nv, np)
+    let total = layout::start_of(table, n);
+    write_next(&text[..total], table, n, u, v, p, nu, nv, np)
 }

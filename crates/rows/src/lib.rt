@@ -49,7 +49,7 @@ fn other_word(i: usize) -> usize
 }
 
 // How a word begins: with all of the relation word (2), with its X and Y but not all of it (1), or not so (0).
-fn shape(text: &[u8], s: Site, a: &[u8], b: &[u8]) -> u8
+fn shape(text: &[u16], s: Site, a: &[u16], b: &[u16]) -> u8
     requires { ⌜ SiteInText (now text) s ⌝ }
     ensures { λ r. ⌜ r ≡ shapeOf (now (text .entry)) s (now (a .entry) ++ now (b .entry)) ⌝ }
 {
@@ -109,7 +109,7 @@ fn row_by(whole: bool, own: u8, other: u8) -> u8
 }
 
 // The row by how u and v begin: u begins with X and Y of the relation word at s, and the other word of its relation lies at t.
-fn shaped_row(text: &[u8], s: Site, t: Site, ua: &[u8], ub: &[u8], va: &[u8], vb: &[u8]) -> u8
+fn shaped_row(text: &[u16], s: Site, t: Site, ua: &[u16], ub: &[u16], va: &[u16], vb: &[u16]) -> u8
     requires { ⌜ SitesInText (now text) s t ⌝ }
     ensures { λ r. ⌜ r ≡ shapedRow (now (text .entry)) s t (now (ua .entry) ++ now (ub .entry)) (now (va .entry) ++ now (vb .entry)) ⌝ }
 {
@@ -120,7 +120,7 @@ fn shaped_row(text: &[u8], s: Site, t: Site, ua: &[u8], ub: &[u8], va: &[u8], vb
 }
 
 // Whether p is a prefix of the X at s.
-pub fn mark_in_x(text: &[u8], s: Site, p: &[u8]) -> bool
+pub fn mark_in_x(text: &[u16], s: Site, p: &[u16]) -> bool
     requires { ⌜ SiteInText (now text) s ⌝ }
     ensures { λ r. ⌜ r ≡ isPrefix (now (p .entry)) (part (now (text .entry)) (s .start) (s .middle)) ⌝ }
 {
@@ -132,7 +132,7 @@ pub fn mark_in_x(text: &[u8], s: Site, p: &[u8]) -> bool
 }
 
 // Whether p is a prefix of the X at s or at t.
-fn mark_in_either_x(text: &[u8], s: Site, t: Site, p: &[u8]) -> bool
+fn mark_in_either_x(text: &[u16], s: Site, t: Site, p: &[u16]) -> bool
     requires { ⌜ SitesInText (now text) s t ⌝ }
     ensures { λ r. ⌜ r ≡ markInEitherX (now (text .entry)) s t (now (p .entry)) ⌝ }
 {
@@ -144,14 +144,14 @@ fn mark_in_either_x(text: &[u8], s: Site, t: Site, p: &[u8]) -> bool
 
 // The first row from row 3 on that fits, where u begins with X and Y of the relation word at s.
 fn row_at_sites(
-    text: &[u8],
+    text: &[u16],
     s: Site,
     t: Site,
-    ua: &[u8],
-    ub: &[u8],
-    va: &[u8],
-    vb: &[u8],
-    p: &[u8],
+    ua: &[u16],
+    ub: &[u16],
+    va: &[u16],
+    vb: &[u16],
+    p: &[u16],
 ) -> u8
     requires { ⌜ SitesInText (now text) s t ⌝ }
     ensures { λ r. ⌜ r ≡ rowAtSites (now (text .entry)) s t (now (ua .entry) ++ now (ub .entry)) (now (va .entry) ++ now (vb .entry)) (now (p .entry)) ⌝ }
@@ -163,7 +163,7 @@ fn row_at_sites(
 }
 
 // Whether a word in two slices is empty.
-pub fn empty(a: &[u8], b: &[u8]) -> bool
+pub fn empty(a: &[u16], b: &[u16]) -> bool
     ensures { λ r. ⌜ r ≡ isEmpty (now (a .entry) ++ now (b .entry)) ⌝ }
 {
     if 0 < a.len() {
@@ -173,7 +173,7 @@ pub fn empty(a: &[u8], b: &[u8]) -> bool
 }
 
 // Whether X and Y of some relation word stand in the word at place q.
-fn has_prefix_at(text: &[u8], table: &[u16], n: usize, a: &[u8], b: &[u8], q: usize) -> bool
+fn has_prefix_at(text: &[u16], table: &[u16], n: usize, a: &[u16], b: &[u16], q: usize) -> bool
     requires { ⌜ Checked (now text) (now table) n ⌝ }
     ensures { λ r. ⌜ r ≡ hasRelationPrefixAt (wordsIn (now (text .entry)) (now (table .entry)) n) (now (a .entry) ++ now (b .entry)) q ⌝ }
 {
@@ -183,11 +183,11 @@ fn has_prefix_at(text: &[u8], table: &[u16], n: usize, a: &[u8], b: &[u8], q: us
 
 // Whether X and Y of some relation word stand in the word at a place from lo on and below hi; an unclean relation prefix and an active rest are both this.
 pub fn has_prefix_between(
-    text: &[u8],
+    text: &[u16],
     table: &[u16],
     n: usize,
-    a: &[u8],
-    b: &[u8],
+    a: &[u16],
+    b: &[u16],
     lo: usize,
     hi: usize,
 ) -> bool
@@ -205,7 +205,7 @@ pub fn has_prefix_between(
 }
 
 // Whether the X and Y of relation word i, which begin the word, are no clean relation prefix.
-fn unclean(text: &[u8], table: &[u16], n: usize, i: usize, a: &[u8], b: &[u8]) -> bool
+fn unclean(text: &[u16], table: &[u16], n: usize, i: usize, a: &[u16], b: &[u16]) -> bool
     requires { ⌜ KnownWord (now text) (now table) n i ⌝ }
     ensures { λ r. ⌜ r ≡ uncleanPrefix (wordsIn (now (text .entry)) (now (table .entry)) n) i (now (a .entry) ++ now (b .entry)) ⌝ }
 {
@@ -222,7 +222,7 @@ fn unclean(text: &[u8], table: &[u16], n: usize, i: usize, a: &[u8], b: &[u8]) -
 }
 
 // The relation word whose X and Y are a clean relation prefix of the word, or n.
-fn clean_prefix(text: &[u8], table: &[u16], n: usize, a: &[u8], b: &[u8]) -> usize
+fn clean_prefix(text: &[u16], table: &[u16], n: usize, a: &[u16], b: &[u16]) -> usize
     requires { ⌜ Checked (now text) (now table) n ⌝ }
     ensures { λ r. ⌜ r ≡ cleanRelationPrefix (wordsIn (now (text .entry)) (now (table .entry)) n) (now (a .entry) ++ now (b .entry)) ⌝ }
 {
@@ -255,15 +255,15 @@ fn without_sites(row: u8) -> Found
 
 // Row 3 or a later one, where relation word i is the clean relation prefix of u.
 fn with_sites(
-    text: &[u8],
+    text: &[u16],
     table: &[u16],
     n: usize,
     i: usize,
-    ua: &[u8],
-    ub: &[u8],
-    va: &[u8],
-    vb: &[u8],
-    p: &[u8],
+    ua: &[u16],
+    ub: &[u16],
+    va: &[u16],
+    vb: &[u16],
+    p: &[u16],
 ) -> Found
     requires { ⌜ PairedWord (now text) (now table) n i ⌝ }
     ensures { λ r. ⌜ r ≡ foundAt (now (text .entry)) (now (table .entry)) i (now (ua .entry) ++ now (ub .entry)) (now (va .entry) ++ now (vb .entry)) (now (p .entry)) ⌝ }
@@ -279,14 +279,14 @@ fn with_sites(
 
 // The first row that fits. What a row needs is looked for only where no row before it fits.
 pub fn find_row(
-    text: &[u8],
+    text: &[u16],
     table: &[u16],
     n: usize,
-    ua: &[u8],
-    ub: &[u8],
-    va: &[u8],
-    vb: &[u8],
-    p: &[u8],
+    ua: &[u16],
+    ub: &[u16],
+    va: &[u16],
+    vb: &[u16],
+    p: &[u16],
 ) -> Found
     requires { ⌜ Paired (now text) (now table) n ⌝ }
     ensures { λ r. ⌜ FoundRow (now (text .entry)) (now (table .entry)) n (now (ua .entry) ++ now (ub .entry)) (now (va .entry) ++ now (vb .entry)) (now (p .entry)) r ⌝ }

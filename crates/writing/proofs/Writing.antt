@@ -14,9 +14,9 @@ pub written-zero : (s d : List ℕ) → written 0 s d ≡ over s d
 unfolding written
 written-zero s d = let z : 0 + length s ≡ length s = omega arith in rw z
 
--- what is written can be read
-pub taken : (s d : List ℕ) → take (length s) (over s d) ≡ s
-taken s d = take-append-seam s (drop (length s) d)
+-- what is written at the start can be read there
+pub written-taken : (s d b : List ℕ) → b ≡ written 0 s d → take (length s) b ≡ s
+written-taken s d b e = ap (take (length s)) (e ∙ written-zero s d) ∙ take-append-seam s (drop (length s) d)
 
 module _ (at : ℕ) (s d : List ℕ) (h : at + length s ≤ length d) where
   head-long : length (take at d) ≡ at

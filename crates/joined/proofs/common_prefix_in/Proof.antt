@@ -28,4 +28,6 @@ common-prefix-in-spec =
     (λ c. search compares)
     (λ c. search compares)
     (λ c. search compares)
+    (λ c. search compares)
+    (λ c. search compares)
     (λ c. search compares))

@@ -10,4 +10,6 @@ letter-at-spec =
     (λ c. search letters)
     (λ c. search letters)
     (λ c. search letters)
+    (λ c. search letters)
+    (λ c. search letters)
     (λ c. search letters))

@@ -8,5 +8,6 @@ begins-with-spec =
     (tie.spec
     (λ c κs. search letters)
     (λ c. search letters)
+    (λ c. search letters)
     (λ c κs. search letters)
     (λ c. search letters))

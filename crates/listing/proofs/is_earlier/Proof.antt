@@ -13,4 +13,6 @@ is-earlier-spec =
     (λ c. search pairs)
     (λ c. search pairs)
     (λ c. search pairs)
+    (λ c. search pairs)
+    (λ c. search pairs)
     (λ c. search pairs))

@@ -26,4 +26,6 @@ agree-back-spec =
     (λ c. search agreeings)
     (λ c. search agreeings)
     (λ c. search agreeings)
+    (λ c. search agreeings)
+    (λ c. search agreeings)
     (λ c. search agreeings))

@@ -23,4 +23,6 @@ have-same-letters-spec =
     (λ c. search agreeing)
     (λ c. search agreeing)
     (λ c. search agreeing)
+    (λ c. search agreeing)
+    (λ c. search agreeing)
     (λ c. search agreeing))

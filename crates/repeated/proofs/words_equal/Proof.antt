@@ -16,5 +16,7 @@ words-equal-spec =
     (λ c. search equalities)
     (λ c. search equalities)
     (λ c. search equalities)
+    (λ c. search equalities)
+    (λ c. search equalities)
     (λ c κs. search equalities)
     (λ c. search equalities))

@@ -9,6 +9,7 @@ write-change-spec =
     (λ c. search writings)
     (λ c. search writings)
     (λ c. search writings)
+    (λ c. search writings)
     (λ c κs. search writings)
     (λ c. search writings)
     (λ c. search writings)

@@ -1,4 +1,4 @@
-use Rattle.rounds.proofs.Writes.{roundWrites}
+use Rattle.rounds.proofs.Writes.{lents}
 use Rattle.rounds.proofs.write_round.Statement.{statement}
 use Rattle.rounds.proofs.write_round.Tie as tie
 
@@ -6,15 +6,10 @@ pub write-round-spec : {M : Type 1} → statement M
 write-round-spec =
     tie.close
     (tie.spec
-    (λ c. search roundWrites)
-    (λ c. search roundWrites)
-    (λ c. search roundWrites)
-    (λ c. search roundWrites)
-    (λ c. search roundWrites)
-    (λ c. search roundWrites)
-    (λ c κs. search roundWrites)
-    (λ c κs. search roundWrites)
-    (λ c. search roundWrites)
-    (λ c. search roundWrites)
-    (λ c. search roundWrites)
-    (λ c. search roundWrites))
+    (λ c κs. search lents)
+    (λ c. search lents)
+    (λ c κs. search lents)
+    (λ c. search lents)
+    (λ c. search lents)
+    (λ c. search lents)
+    (λ c. search lents))
