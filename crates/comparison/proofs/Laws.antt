@@ -28,7 +28,7 @@ use Rattle.refusals.specs.declared.Refusal.{Refusal}
 use Rattle.refusals.specs.declared.Refusal.the-variants.{Spent}
 use Rattle.given.specs.declared.Given.{Given}
 use Rattle.given.specs.declared.Given.the-variants as Words
-use Rattle.given.specs.Given.{givenOf, pairOf}
+use Rattle.given.specs.Given.{givenOf, pairOf, Widened}
 use Rattle.given.proofs.Laws.{fine-short, fine-both}
 use Rattle.limits.specs.Limits.{comparedMost}
 use Rattle.comparison.specs.declared.Held.{Held}
@@ -40,7 +40,7 @@ use Rattle.comparison.specs.declared.Progress.{Progress}
 use Rattle.comparison.specs.declared.Progress.the-variants.{Ended, Paused}
 use Rattle.comparison.specs.declared.Comparison.{Comparison}
 use Rattle.comparison.specs.declared.Comparison.the-variants.{Same, Different, Refused}
-use Rattle.comparison.specs.State.{heldWord, markWord, HeldFit, MarkHeld, beyondOf, Movable, MarkMovable, advancedOf, advancedMark, movedOf, Applicable, Ready, Fitting, Poised, MoveStands, Moving}
+use Rattle.comparison.specs.State.{heldWord, markWord, HeldFit, MarkHeld, beyondOf, Movable, MarkMovable, advancedOf, advancedMark, movedOf, Applicable, ReadyToWiden, Fitting, Widenable, Poised, MoveStands, Moving}
 use Rattle.comparison.specs.Runs.{Ran, ended, paused, runFrom, answered, ranOf, Progressed}
 use Rattle.comparison.specs.Comparing.{answerOf, comparisonOf}
 use Rattle.comparison.proofs.Advancing.{holds-advanced, mark-advanced}
@@ -159,8 +159,8 @@ module _ (text table : List ℕ) (n : ℕ) (first second : Word) (s : State) (p 
   unfolding words
   applicable (Plans.End b) f = tt
   applicable (Plans.Go cu cv cp) (goes a b c) = (
-    movable-of-fit first (p .fitting .first-short) (s .u) (p .standing .u) cu a,
-    movable-of-fit second (p .fitting .second-short) (s .v) (p .standing .v) cv b,
+    movable-of-fit first (omega (arith, p .fitting .first-short)) (s .u) (p .standing .u) cu a,
+    movable-of-fit second (omega (arith, p .fitting .second-short)) (s .v) (p .standing .v) cv b,
     mark-of-fit (s .mark) (p .standing .mark) cp c,
   )
 
@@ -291,6 +291,17 @@ module _ (text table : List ℕ) (n : ℕ) (u v : Word) (allowance : ℕ) (r : P
 
 pub ruleset comparisons = (whole-poised, compared-same, compared-different, compared-spent, needs)
 
+-- words in bytes
+module _ (text table : List ℕ) (n : ℕ) (u v : Word) (a c a′ c′ : List ℕ) (w : Widenable text table n u v a c) (x : Widened u a′) (y : Widened v c′) where
+  pub widened-fitting : Fitting text table n (take (length u) a′) (take (length v) c′)
+  widened-fitting = rw (x .same, y .same) (w .fitting)
+
+  pub widened-answer : (allowance : ℕ) (r : Comparison) → r ≡ answerOf (wordsIn text table n) (take (length u) a′) (take (length v) c′) allowance
+      → r ≡ answerOf (wordsIn text table n) u v allowance
+  widened-answer allowance r e = rw (x .same, y .same) at e
+
+pub ruleset widenings = (widened-fitting, widened-answer, needs)
+
 -- given words
 module _ (text table : List ℕ) (n letters : ℕ) (u v : Word) (allowance : ℕ) (g : Given) (e : g ≡ pairOf letters u v) where
   pub given-refused : (r : Refusal) → g ≡ Words.Refused r → Refused r ≡ comparisonOf letters (wordsIn text table n) u v allowance
@@ -301,14 +312,17 @@ module _ (text table : List ℕ) (n letters : ℕ) (u v : Word) (allowance : ℕ
   unfolding comparisonOf
   given-compared x f h = rw (← e, f) h
 
-pub given-fitting : (text table : List ℕ) (n letters : ℕ) (u v : Word) (g : Given) → Ready text table n → g ≡ pairOf letters u v → g ≡ Words.Fine → Fitting text table n u v
+pub given-widenable : (text table : List ℕ) (n letters : ℕ) (u v : Word) (a c : List ℕ) (g : Given) → ReadyToWiden text table n a c → g ≡ pairOf letters u v → g ≡ Words.Fine
+    → Widenable text table n u v a c
 unfolding pairOf
-given-fitting text table n letters u v g r e f =
+given-widenable text table n letters u v a c g r e f =
     let b = fine-both (givenOf 0 comparedMost letters u) (givenOf 1 comparedMost letters v) (sym e ∙ f) in
+    let shortU = fine-short 0 comparedMost letters u (b .0) in
+    let shortV = fine-short 1 comparedMost letters v (b .1) in
     record {
-      ready = r;
-      first-short = omega (arith, fine-short 0 comparedMost letters u (b .0));
-      second-short = omega (arith, fine-short 1 comparedMost letters v (b .1));
+      fitting = record { ready = r .ready; first-short = shortU; second-short = shortV };
+      first-room = omega (arith, shortU, r .first-room);
+      second-room = omega (arith, shortV, r .second-room);
     }
 
-pub ruleset givens = (given-refused, given-compared, given-fitting, needs)
+pub ruleset givens = (given-refused, given-compared, given-widenable, needs)

@@ -14,6 +14,7 @@ use Rattle.plans.specs.declared.Change.{Change}
 use Rattle.plans.specs.declared.Plan.{Plan}
 use Rattle.plans.specs.declared.Plan.the-variants as Plans
 use Rattle.rows.specs.Sites.{Paired}
+use Rattle.limits.specs.Limits.{comparedMost}
 use Rattle.comparison.specs.declared.Held.{Held}
 use Rattle.comparison.specs.declared.Mark.{Mark}
 use Rattle.comparison.specs.declared.State.{State}
@@ -91,11 +92,23 @@ pub record Ready (text table : List ℕ) (n : ℕ) : Type 0 where
   pub paired : Paired text table n
   pub text-short : length text ≤ 65536
 
--- two given words that are short enough for the code, under a checked presentation
+-- two words within the limit of a comparison, under a checked presentation
 pub record Fitting (text table : List ℕ) (n : ℕ) (first second : Word) : Type 0 where
   pub ready : Ready text table n
-  pub first-short : length first ≤ 65536
-  pub second-short : length second ≤ 65536
+  pub first-short : length first ≤ comparedMost
+  pub second-short : length second ≤ comparedMost
+
+-- two arrays have room for them
+pub record Widenable (text table : List ℕ) (n : ℕ) (first second : Word) (a c : List ℕ) : Type 0 where
+  pub fitting : Fitting text table n first second
+  pub first-room : length first ≤ length a
+  pub second-room : length second ≤ length c
+
+-- a checked presentation, and two arrays with room for words within the limit
+pub record ReadyToWiden (text table : List ℕ) (n : ℕ) (a c : List ℕ) : Type 0 where
+  pub ready : Ready text table n
+  pub first-room : comparedMost ≤ length a
+  pub second-room : comparedMost ≤ length c
 
 -- a state from which a round can be made
 pub record Poised (text table : List ℕ) (n : ℕ) (first second : Word) (s : State) : Type 0 where

@@ -1,15 +1,15 @@
 // A comparison's state and its rounds. Both words are held as a part of the presentation's text followed by the rest of the given word, so that no word
 // is ever copied (document 01, "Exchanges and rounds").
 ghost use mathlib.Core.Path.{_≡_};
-ghost use Prim.Native.Nat.{_+_, _-_, _<_, _≤_};
-ghost use mathlib.Core.List.{[]};
+ghost use Prim.Native.Nat.{_+_, _-_, _<_};
 ghost use Rattle.plans.specs.Plans.{PlansRound};
 ghost use Rattle.layout.specs.Layout.{wordsIn};
-ghost use Rattle.comparison.specs.State.{beyondOf, Movable, advancedOf, MarkMovable, advancedMark, heldWord, markWord, Ready, Fitting, Poised, Applicable, movedOf, Moving};
+ghost use Rattle.comparison.specs.State.{beyondOf, Movable, advancedOf, MarkMovable, advancedMark, heldWord, markWord, ReadyToWiden, Fitting, Widenable, Poised, Applicable, movedOf, Moving};
 ghost use Rattle.comparison.specs.Runs.{Progressed};
 ghost use Rattle.comparison.specs.Comparing.{comparisonOf, answerOf};
 use refusals::Refusal;
 use given::Given;
+use given::widen_word;
 use plans::Change;
 use plans::Plan;
 
@@ -230,22 +230,50 @@ fn compare_words(
     }
 }
 
-// Two given words under a checked presentation, with an allowance of rounds.
+// The same for two words in bytes, which are widened into lent arrays.
+fn compare_bytes(
+    text: &[u16],
+    table: &[u16],
+    n: usize,
+    u: &[u8],
+    v: &[u8],
+    wide_u: &mut [u16],
+    wide_v: &mut [u16],
+    allowance: u32,
+) -> Comparison
+    requires { ⌜ Widenable (now text) (now table) n (now u) (now v) (now «wide_u») (now «wide_v») ⌝ }
+    ensures { λ r. ⌜ r ≡ answerOf (wordsIn (now (text .entry)) (now (table .entry)) n) (now (u .entry)) (now (v .entry)) allowance ⌝ }
+{
+    widen_word(u, wide_u);
+    widen_word(v, wide_v);
+    compare_words(
+        text,
+        table,
+        n,
+        &wide_u[..u.len()],
+        &wide_v[..v.len()],
+        allowance,
+    )
+}
+
+// Two given words under a checked presentation, with an allowance of rounds and arrays to widen them into.
 pub fn compare_given(
     text: &[u16],
     table: &[u16],
     n: usize,
     letters: u8,
-    u: &[u16],
-    v: &[u16],
+    u: &[u8],
+    v: &[u8],
+    wide_u: &mut [u16],
+    wide_v: &mut [u16],
     allowance: u32,
 ) -> Comparison
-    requires { ⌜ Ready (now text) (now table) n ⌝ }
+    requires { ⌜ ReadyToWiden (now text) (now table) n (now «wide_u») (now «wide_v») ⌝ }
     ensures { λ r. ⌜ r ≡ comparisonOf letters (wordsIn (now (text .entry)) (now (table .entry)) n) (now (u .entry)) (now (v .entry)) allowance ⌝ }
 {
     let given = given::check_pair(letters, u, v);
     match given {
         Given::Refused(refusal) => Comparison::Refused(refusal),
-        Given::Fine => compare_words(text, table, n, u, v, allowance),
+        Given::Fine => compare_bytes(text, table, n, u, v, wide_u, wide_v, allowance),
     }
 }

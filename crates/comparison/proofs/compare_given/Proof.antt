@@ -11,4 +11,6 @@ compare-given-spec =
     (λ c. search givens)
     (λ c κs. search givens)
     (λ c. search givens)
+    (λ c. search givens)
+    (λ c. search givens)
     (λ c. search givens))
