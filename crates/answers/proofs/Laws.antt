@@ -1,16 +1,18 @@
 -- A law for each way that an entry can go.
-use Prim.Native.Nat.{ℕ, _+_, _*_, _<_, _≤_}
+use Prim.Native.Nat.{ℕ, _*_, _<_, _≤_}
 use mathlib.Core.Bool.{Bool, true, false}
-use mathlib.Core.List.{List, _++_}
+use mathlib.Core.List.{List}
 use mathlib.Core.Path.{_≡_, refl, sym, ap, _∙_}
 use native.Mathlib.Omega.{arith}
 use borrow.Author.Needs.{needs}
 use borrow.Author.Tests.{lt-ltb, le-ltb, ltb-false}
 use lib.Dec.{ltb}
-use lib.ListN.{length, drop}
+use lib.ListN.{length, replicate, length-replicate}
 use mir.Val.{Fits}
 use mir.Syntax.{w64}
 use Rattle.words.specs.Words.{Word}
+use Rattle.writing.specs.Writing.{over}
+use Rattle.writing.proofs.Writing.{written-zero}
 use Rattle.words.specs.Relations.{relationWords}
 use Rattle.layout.specs.Layout.{wordsIn}
 use Rattle.refusals.specs.declared.Refusal.{Refusal}
@@ -32,7 +34,7 @@ use Rattle.rounds.specs.declared.RoundLengths.{RoundLengths}
 use Rattle.rounds.specs.declared.RoundLengths.the-variants as Lengths
 use Rattle.comparison.specs.declared.Comparison.{Comparison}
 use Rattle.comparison.specs.declared.Comparison.the-variants as Comparisons
-use Rattle.comparison.specs.State.{Ready}
+use Rattle.comparison.specs.State.{Ready, ReadyToWiden}
 use Rattle.comparison.specs.Comparing.{comparisonOf}
 use Rattle.sheet.specs.Sheet.{cutSheet, sheetBytes, SheetRoom}
 use Rattle.sheet.proofs.Laws.{cuts-in, sheet-cut, length-sheet}
@@ -128,6 +130,12 @@ pub ruleset cutSheets = (memory-made, sheet-refused, loaded-sheet, sheet-loaded,
 
 pub ruleset compares = (memory-made, compare-refused, loaded-fits, loaded-ready, compare-loaded, needs)
 
+-- arrays for the words of a comparison
+pub ready-to-widen : (text table : List ℕ) (n : ℕ) → Ready text table n → ReadyToWiden text table n (replicate 4096 0) (replicate 4096 0)
+ready-to-widen text table n r = let l = length-replicate {A = ℕ} 4096 0 in record { ready = r; first-room = omega arith; second-room = omega arith }
+
+pub ruleset loadedCompares = (ready-to-widen, needs)
+
 pub ruleset singles = (memory-made, round-refused, loaded-fits, loaded-ready, round-loaded, needs)
 
 -- the sheet by the table
@@ -203,7 +211,7 @@ module _ (text table : List ℕ) (n letters : ℕ) (u v p a c d : List ℕ) (g :
   pub loaded-lent : Ready text table n → g ≡ Words.Fine → Lent text table n u v p a c d
   loaded-lent r f =
       let k = fine-asked letters u v p (length a) (length c) (length d) (sym e ∙ f) in
-      record { paired = r .paired; shortU = k .0; shortV = k .1; shortP = k .2; roomU = k .3; roomV = k .4; roomP = k .5 }
+      record { given = record { paired = r .paired; shortU = k .0; shortV = k .1; shortP = k .2 }; roomU = k .3; roomV = k .4; roomP = k .5 }
 
   -- the round's outcome in document 01's words
   written : (x : Next) (s : RoundLengths) (a′ c′ d′ : List ℕ) → Writing.after s a′ c′ d′ ≡ writtenBy x a c d → RoundOutcome.after (ofRound (answeredRound s)) a′ c′ d′ ≡ writing x a c d
@@ -216,9 +224,9 @@ module _ (text table : List ℕ) (n letters : ℕ) (u v p a c d : List ℕ) (g :
       rw (es, ea, ec, ed)
   written (go x y z) s a′ c′ d′ q =
       let es : s ≡ Lengths.Next (length x) (length y) (length z) = cc in
-      let ea : a′ ≡ x ++ drop (length x) a = cc in
-      let ec : c′ ≡ y ++ drop (length y) c = cc in
-      let ed : d′ ≡ z ++ drop (length z) d = cc in
+      let ea : a′ ≡ over x a = cc in
+      let ec : c′ ≡ over y c = cc in
+      let ed : d′ ≡ over z d = cc in
       rw (es, ea, ec, ed)
 
   pub loaded-made : g ≡ Words.Fine → (s : RoundLengths) (a′ c′ d′ : List ℕ) → Writing.after s a′ c′ d′ ≡ writtenBy (round (wordsIn text table n) u v p) a c d
@@ -238,8 +246,7 @@ pub output-written : (input out b : List ℕ) (r : ℕ) → outputMost ≤ lengt
 unfolding outputOf
 output-written input out b r h p =
     let n : r ≡ length (programOf input) = omega (arith, p .behind) in
-    let z : 0 + length (programOf input) ≡ length (programOf input) = omega arith in
-    let q : b ≡ programOf input ++ drop (length (programOf input)) out = p .same ∙ rw z in
+    let q : b ≡ over (programOf input) out = p .same ∙ written-zero (programOf input) out in
     rw (le-ltb _ _ h, n, q)
 
 pub ruleset prints = (output-narrow, output-written, needs)

@@ -17,7 +17,8 @@ use Rattle.overlap.proofs.Facts.{x-bound, z-bound}
 use Rattle.overlap.proofs.Maximal.{x-maximal, z-maximal, cut-whole, length-y, y-has-letters, y-is-no-piece}
 use Rattle.sheet.specs.Sheet.{cutBytes, cutSheet}
 use Rattle.presentation.proofs.Laws.{length-words}
-use Rattle.answers.specs.Entries.{over, sheetOf}
+use Rattle.writing.specs.Writing.{over}
+use Rattle.answers.specs.Entries.{sheetOf}
 use Rattle.answers.specs.Demands.{Reports, CutsReported}
 use Rattle.answers.proofs.Theorems.{loaded-c4}
 

@@ -1,10 +1,11 @@
 -- What each entry answers and leaves in its lent buffers, for every input whatever. Refusals come in the order of document 01, "Refusals by number".
 use Prim.Native.Nat.{ℕ, _*_}
 use mathlib.Core.Bool.{cond}
-use mathlib.Core.List.{List, _++_}
+use mathlib.Core.List.{List}
 use lib.Dec.{ltb}
-use lib.ListN.{length, drop}
+use lib.ListN.{length}
 use Rattle.words.specs.Words.{Word}
+use Rattle.writing.specs.Writing.{over}
 use Rattle.words.specs.Relations.{relationWords}
 use Rattle.congruence.specs.Rows.{Next, round}
 use Rattle.congruence.specs.Rows.Next.{end, go}
@@ -21,10 +22,6 @@ use Rattle.comparison.specs.Comparing.{comparisonOf}
 use Rattle.program.specs.Program.{programOf}
 use Rattle.program.specs.Size.{outputMost}
 use Rattle.answers.specs.Answers.{Answer, accepted, ended, next, wrote, refusal, ofComparison}
-
--- a list written over the start of a buffer, whose rest is kept
-abbrev pub over : List ℕ → List ℕ → List ℕ
-over out buffer = out ++ drop (length out) buffer
 
 -- 1 to 8: a refusal of the book goes straight back
 abbrev pub onLoaded : {A : Type 0} → BookReading → (Refusal → A) → (Presentation → A) → A

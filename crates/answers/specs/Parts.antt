@@ -8,10 +8,11 @@ use Rattle.refusals.specs.declared.Refusal.the-variants.{Narrow}
 use Rattle.rounds.specs.declared.RoundLengths.{RoundLengths}
 use Rattle.rounds.specs.declared.RoundLengths.the-variants as Lengths
 use Rattle.sheet.specs.Sheet.{sheetBytes, CutsIn}
+use Rattle.writing.specs.Writing.{over}
 use Rattle.answers.specs.declared.Round.{Round}
 use Rattle.answers.specs.declared.Round.the-variants as Rounds
 use Rattle.answers.specs.Answers.{accepted, refusal}
-use Rattle.answers.specs.Entries.{over, SheetOutcome}
+use Rattle.answers.specs.Entries.{SheetOutcome}
 
 -- the table has the cuts of all relation words
 pub record SheetReady (table : List ℕ) (relations : ℕ) : Type 0 where

@@ -13,10 +13,11 @@ use mir.Val.{Fits}
 use mir.Syntax.{w64}
 use Rattle.program.specs.Program.{programOf}
 use Rattle.program.specs.Size.{outputMost}
+use Rattle.writing.specs.Writing.{over}
 use Rattle.answers.specs.declared.Printed.{Printed}
 use Rattle.answers.specs.declared.Printed.the-variants.{Wrote}
 use Rattle.answers.specs.Answers.{wrote, ofPrinted}
-use Rattle.answers.specs.Entries.{over, OutputOutcome, outputOf}
+use Rattle.answers.specs.Entries.{OutputOutcome, outputOf}
 use Rattle.command.specs.declared.Got.{Got}
 use Rattle.command.specs.declared.Got.the-variants.{Bytes, Failed}
 use Rattle.command.specs.Got.{GotPiece, GotWithin}

@@ -2,9 +2,10 @@
 // refusals in document 01's order and lent buffers included: as an equality, or, of `compare`, as the field `is` of the record `Compared`, which holds demand 3
 // beside it. The demands are spelled out in crate answers, specs/Demands.antt.
 ghost use mathlib.Core.Path.{_≡_};
-ghost use Prim.Native.Nat.{_*_, _≤_};
+ghost use Prim.Native.Nat.{_*_};
 ghost use lib.ListN.{length};
 ghost use Rattle.layout.specs.Layout.{wordsIn};
+ghost use Rattle.comparison.specs.Comparing.{comparisonOf};
 ghost use Rattle.comparison.specs.State.{Ready};
 ghost use Rattle.answers.specs.Answers.{ofVerdict, ofRound, ofComparison, ofPrinted};
 ghost use Rattle.answers.specs.Entries.{checkOf, SheetOutcome as Sheets, sheetOf, RoundOutcome as Rounds, loadedRound, roundOf, roomOf, askedOf, OutputOutcome as Outputs, outputOf};
@@ -61,6 +62,34 @@ pub fn cut_sheet(book: &[u8], sheet: &mut [u8]) -> Verdict
     }
 }
 
+// Compares two words under a loaded book of so many letters. The arrays for the widened words are made here, when those of the loading are given back.
+fn compare_loaded(
+    text: &[u16],
+    table: &[u16],
+    n: usize,
+    letters: u8,
+    u: &[u8],
+    v: &[u8],
+    allowance: u32,
+) -> Comparison
+    requires { ⌜ Ready (now text) (now table) n ⌝ }
+    ensures { λ r. ⌜ r ≡ comparisonOf letters (wordsIn (now (text .entry)) (now (table .entry)) n) (now (u .entry)) (now (v .entry)) allowance ⌝ }
+{
+    let mut first = [0u16; Word::COMPARED];
+    let mut second = [0u16; Word::COMPARED];
+    comparison::compare_given(
+        text,
+        table,
+        n,
+        letters,
+        u,
+        v,
+        &mut first,
+        &mut second,
+        allowance,
+    )
+}
+
 // Compares two words under a book, with an allowance of rounds.
 pub fn compare(book: &[u8], u: &[u8], v: &[u8], allowance: u32) -> Comparison
     ensures { λ r. ⌜ Compared (now (book .entry)) (now (u .entry)) (now (v .entry)) allowance (ofComparison r) ⌝ }
@@ -69,7 +98,7 @@ pub fn compare(book: &[u8], u: &[u8], v: &[u8], allowance: u32) -> Comparison
     let mut table = [0u16; Table::ROOM];
     let loaded = presentation::load(book, &mut text, &mut table);
     match loaded {
-        Reading::Read(letters, relations) => comparison::compare_given(
+        Reading::Read(letters, relations) => compare_loaded(
             &text,
             &table,
             2 * relations,

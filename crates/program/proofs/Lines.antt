@@ -13,8 +13,9 @@ use Rattle.layout.specs.Layout.{wordsIn}
 use Rattle.refusals.specs.declared.Refusal.{Refusal}
 use Rattle.format.specs.Book.{between}
 use Rattle.comparison.specs.declared.Comparison.{Comparison}
-use Rattle.comparison.specs.State.{Ready}
+use Rattle.comparison.specs.State.{Ready, ReadyToWiden}
 use Rattle.comparison.specs.Comparing.{comparisonOf}
+use Rattle.writing.specs.Writing.{written}
 use Rattle.lines.specs.Lines.{WrittenTo, lineOf}
 use Rattle.lines.proofs.Laws.{put-both, room-first, room-second}
 use Rattle.program.specs.declared.Request.{Request}
@@ -40,6 +41,7 @@ module _ (input : List ℕ) (at : ℕ) (r : Request) (e : r ≡ requestAt input 
 
 -- nothing is written yet
 put-none : (out : List ℕ) (place : ℕ) → WrittenTo out place [] out place
+unfolding written
 put-none out place = record { behind = sym (add-zero place); same = rw add-zero (sym (take-append-drop place out)); kept = refl }
 
 -- the lines before a position are written
@@ -68,8 +70,8 @@ module _ (text table : List ℕ) (n letters : ℕ) (input : List ℕ) (start : �
       }
 
   module _ (at end : ℕ) (b : List ℕ) (l : Lining text table n letters input start out place at end b) where
-    pub lining-ready : Ready text table n
-    lining-ready = l .ready
+    pub lining-arrays : (a c : List ℕ) → length a ≡ 4096 → length c ≡ 4096 → ReadyToWiden text table n a c
+    lining-arrays a c e f = record { ready = l .ready; first-room = omega arith; second-room = omega arith }
 
     pub lining-end : length input ≤ at → WrittenTo out place (linesUnder text table n letters input start) b end
     unfolding linesFrom
@@ -148,7 +150,17 @@ module _ (text table : List ℕ) (n letters : ℕ) (input : List ℕ) (start : �
                 room = l .room;
               }
 
-pub ruleset linings = (lining-start, lining-ready, lining-end, lining-last-room, lining-last, lining-room, lining-less, lining-more, asked-order, asked-next, asked-inside, asked-middle, needs)
+-- the same, with two arrays for the words of a comparison
+pub record LiningWith (text table : List ℕ) (n letters : ℕ) (input : List ℕ) (start : ℕ) (out : List ℕ) (place at end : ℕ) (b u v : List ℕ) : Type 0 where
+  pub lining : Lining text table n letters input start out place at end b
+  pub first-long : length u ≡ 4096
+  pub second-long : length v ≡ 4096
+
+pub lining-with : (text table : List ℕ) (n letters : ℕ) (input : List ℕ) (start : ℕ) (out : List ℕ) (place at end : ℕ) (b u v : List ℕ)
+    → Lining text table n letters input start out place at end b → length u ≡ 4096 → length v ≡ 4096 → LiningWith text table n letters input start out place at end b u v
+lining-with text table n letters input start out place at end b u v l e f = record { lining = l; first-long = e; second-long = f }
+
+pub ruleset linings = (lining-with, lining-start, lining-arrays, lining-end, lining-last-room, lining-last, lining-room, lining-less, lining-more, asked-order, asked-next, asked-inside, asked-middle, needs)
 
 -- an accepted book: its line, then those of the comparisons
 module _ (text table : List ℕ) (relations letters : ℕ) (input : List ℕ) (end : ℕ) (out : List ℕ) (h : Accepted text table relations letters input end out) where

@@ -162,7 +162,8 @@ pub fn put_comparison(out: &mut [u8], at: usize, comparison: Comparison) -> usiz
     }
 }
 
-// Writes the lines of the comparison records from a position on, behind each other from a place of the buffer on, and answers the place behind them.
+// Writes the lines of the comparison records from a position on, behind each other from a place of the buffer on, and answers the place behind them. Two arrays
+// for the widened words serve all comparisons.
 pub fn write_lines(
     text: &[u16],
     table: &[u16],
@@ -176,6 +177,8 @@ pub fn write_lines(
     requires { ⌜ Lined (now text) (now table) n letters (now input) start (now out) place ⌝ }
     ensures { λ r. ⌜ WrittenTo (now (out .entry)) place (linesUnder (now (text .entry)) (now (table .entry)) n letters (now (input .entry)) start) (now (out .exit)) r ⌝ }
 {
+    let mut first_word = [0u16; Word::COMPARED];
+    let mut second_word = [0u16; Word::COMPARED];
     let mut at = start;
     let mut end = place;
     while at < input.len() {
@@ -190,6 +193,8 @@ pub fn write_lines(
                     letters,
                     &input[first..second],
                     &input[second..next],
+                    &mut first_word,
+                    &mut second_word,
                     allowance,
                 );
                 end = put_comparison(out, end, comparison);
