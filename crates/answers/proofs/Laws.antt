@@ -7,7 +7,7 @@ use native.Mathlib.Omega.{arith}
 use borrow.Author.Needs.{needs}
 use borrow.Author.Tests.{lt-ltb, le-ltb, ltb-false}
 use lib.Dec.{ltb}
-use lib.ListN.{length, replicate, length-replicate}
+use lib.ListN.{length}
 use mir.Val.{Fits}
 use mir.Syntax.{w64}
 use Rattle.words.specs.Words.{Word}
@@ -34,7 +34,7 @@ use Rattle.rounds.specs.declared.RoundLengths.{RoundLengths}
 use Rattle.rounds.specs.declared.RoundLengths.the-variants as Lengths
 use Rattle.comparison.specs.declared.Comparison.{Comparison}
 use Rattle.comparison.specs.declared.Comparison.the-variants as Comparisons
-use Rattle.comparison.specs.State.{Ready, ReadyToWiden}
+use Rattle.comparison.specs.State.{Ready}
 use Rattle.comparison.specs.Comparing.{comparisonOf}
 use Rattle.sheet.specs.Sheet.{cutSheet, sheetBytes, SheetRoom}
 use Rattle.sheet.proofs.Laws.{cuts-in, sheet-cut, length-sheet}
@@ -129,12 +129,6 @@ pub ruleset checks = (memory-made, check-refused, check-accepted, needs)
 pub ruleset cutSheets = (memory-made, sheet-refused, loaded-sheet, sheet-loaded, needs)
 
 pub ruleset compares = (memory-made, compare-refused, loaded-fits, loaded-ready, compare-loaded, needs)
-
--- arrays for the words of a comparison
-pub ready-to-widen : (text table : List ℕ) (n : ℕ) → Ready text table n → ReadyToWiden text table n (replicate 4096 0) (replicate 4096 0)
-ready-to-widen text table n r = let l = length-replicate {A = ℕ} 4096 0 in record { ready = r; first-room = omega arith; second-room = omega arith }
-
-pub ruleset loadedCompares = (ready-to-widen, needs)
 
 pub ruleset singles = (memory-made, round-refused, loaded-fits, loaded-ready, round-loaded, needs)
 
