@@ -526,17 +526,20 @@ module _ (text t : List ℕ) (j : ℕ) (g : Neighbours text t j) where
   pub neighbour-here : orderCell j < length t
   neighbour-here = omega (arith, g .below, g .lists .laid .few, g .lists .room)
 
-  pub neighbour-pair : (h : ℕ) → h ≡ orderOf t (j - 1) → (k : ℕ) → k ≡ orderOf t j → WordPair text t h k
-  neighbour-pair h e k f =
-      let a = g .lists .known (j - 1) (omega (arith, g .below)) in
-      let b = g .lists .known j (g .below) in
-      record { number = g .number; laid = g .lists .laid; first = omega arith; second = omega arith }
+  pub neighbour-left : (h : ℕ) → h ≡ orderOf t (j - 1) → h < g .number
+  neighbour-left h e = let a = g .lists .known (j - 1) (omega (arith, g .below)) in omega (arith, e, a)
+
+  pub neighbour-right : (k : ℕ) → k ≡ orderOf t j → k < g .number
+  neighbour-right k f = let b = g .lists .known j (g .below) in omega (arith, f, b)
+
+  pub neighbour-pair : (h k : ℕ) → h < g .number → k < g .number → WordPair text t h k
+  neighbour-pair h k a b = record { number = g .number; laid = g .lists .laid; first = a; second = b }
 
   pub neighbour-share : (h : ℕ) → h ≡ orderOf t (j - 1) → (k : ℕ) → k ≡ orderOf t j → (r : ℕ) → r ≡ commonPrefix (wordAt text t h) (wordAt text t k)
       → r ≡ commonPrefix (wordAt text t (orderOf t (j - 1))) (wordAt text t (orderOf t j))
   neighbour-share h e k f r c = rw (← e, ← f) c
 
-pub ruleset neighbours = (neighbour-before, neighbour-here, neighbour-pair, neighbour-share, needs)
+pub ruleset neighbours = (neighbour-before, neighbour-here, neighbour-left, neighbour-right, neighbour-pair, neighbour-share, needs)
 
 -- what words share with the one before is written below place j
 pub record Sharing (text t₀ t : List ℕ) (n j : ℕ) : Type 0 where
