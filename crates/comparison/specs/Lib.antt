@@ -1,3 +1,4 @@
 pub mod State
+pub mod Drops
 pub mod Runs
 pub mod Comparing

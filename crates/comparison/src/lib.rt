@@ -2,9 +2,12 @@
 // is ever copied (document 01, "Exchanges and rounds").
 ghost use mathlib.Core.Path.{_≡_};
 ghost use Prim.Native.Nat.{_+_, _-_, _<_};
+ghost use lib.ListN.{length, getD};
 ghost use Rattle.plans.specs.Plans.{PlansRound};
+ghost use Rattle.plans.specs.RowPlans.{dropOne};
 ghost use Rattle.layout.specs.Layout.{wordsIn};
-ghost use Rattle.comparison.specs.State.{beyondOf, Movable, advancedOf, MarkMovable, advancedMark, heldWord, markWord, ReadyToWiden, Fitting, Widenable, Poised, Applicable, movedOf, Moving};
+ghost use Rattle.comparison.specs.State.{MarkHeld, beyondOf, Movable, advancedOf, MarkMovable, advancedMark, heldWord, markWord, ReadyToWiden, Fitting, Widenable, Poised, Applicable, movedOf, Moving};
+ghost use Rattle.comparison.specs.Drops.{heldEmpty, HasLetter, markAllows, markLetters, DropsAtOnce};
 ghost use Rattle.comparison.specs.Runs.{Progressed};
 ghost use Rattle.comparison.specs.Comparing.{comparisonOf, answerOf};
 use refusals::Refusal;
@@ -150,6 +153,98 @@ fn carry_out(s: State, plan: Plan) -> Move
     }
 }
 
+// Whether a held word has no letter.
+fn held_empty(given: &[u16], h: Held) -> bool
+    ensures { λ r. ⌜ r ≡ heldEmpty (length (now (given .entry))) h ⌝ }
+{
+    if h.at < h.to {
+        return false;
+    }
+    given.len() <= h.from
+}
+
+// The first letter of a held word.
+fn first_letter(text: &[u16], given: &[u16], h: Held) -> u16
+    requires { ⌜ HasLetter (now text) (now given) h ⌝ }
+    ensures { λ r. ⌜ r ≡ getD (heldWord (now (text .entry)) (now (given .entry)) h) 0 0 ⌝ }
+{
+    let at = h.at;
+    let from = h.from;
+    if at < h.to {
+        return text[at];
+    }
+    given[from]
+}
+
+// Whether the front mark is empty or begins with x.
+fn mark_allows(text: &[u16], m: Mark, x: u16) -> bool
+    requires { ⌜ MarkHeld (now text) m ⌝ }
+    ensures { λ r. ⌜ r ≡ markAllows (now (text .entry)) m x ⌝ }
+{
+    let at = m.at;
+    if at < m.to {
+        return text[at] == x;
+    }
+    true
+}
+
+// Whether the round drops a letter of each word and no relation word begins with it, so that none need be looked for.
+fn drops_at_once(
+    text: &[u16],
+    table: &[u16],
+    n: usize,
+    first: &[u16],
+    second: &[u16],
+    s: State,
+) -> bool
+    requires { ⌜ Poised (now text) (now table) n (now first) (now second) s ⌝ }
+    ensures { λ r. ⌜ DropsAtOnce (now (text .entry)) (now (table .entry)) n (now (first .entry)) (now (second .entry)) s r ⌝ }
+{
+    if held_empty(first, s.u) {
+        return false;
+    }
+    if held_empty(second, s.v) {
+        return false;
+    }
+    let x = first_letter(text, first, s.u);
+    let y = first_letter(text, second, s.v);
+    if x == y {
+        if mark_allows(text, s.mark, x) {
+            return rows::begins_none(table, x);
+        }
+        return false;
+    }
+    false
+}
+
+// The state without the first letter of each word, and of the mark if it has one.
+fn drop_letters(s: State) -> Move
+    requires { ⌜ Applicable s (dropOne (markLetters (s .mark))) ⌝ }
+    ensures { λ r. ⌜ r ≡ movedOf s (dropOne (markLetters (s .mark))) ⌝ }
+{
+    let one = Change {
+        from: 0,
+        to: 0,
+        cut: 1,
+    };
+    let mark = s.mark;
+    if mark.at < mark.to {
+        return carry_out(s, Plan::Go(one, one, one));
+    }
+    carry_out(
+        s,
+        Plan::Go(
+            one,
+            one,
+            Change {
+                from: 0,
+                to: 0,
+                cut: 0,
+            },
+        ),
+    )
+}
+
 // One round.
 pub fn make_move(
     text: &[u16],
@@ -162,6 +257,9 @@ pub fn make_move(
     requires { ⌜ Poised (now text) (now table) n (now first) (now second) s ⌝ }
     ensures { λ r. ⌜ Moving (now (text .entry)) (now (table .entry)) n (now (first .entry)) (now (second .entry)) s r ⌝ }
 {
+    if drops_at_once(text, table, n, first, second, s) {
+        return drop_letters(s);
+    }
     let plan = plan_of(text, table, n, first, second, s);
     carry_out(s, plan)
 }

@@ -312,7 +312,7 @@ module _ (text : List ℕ) (B : List Word) (i j : ℕ) (s t : Site) (li : Lies t
       by-test false q = record { same = refl; fits = ends }
 
 -- the mark without its first letter, if it has one
-mark-drop : (p : Word) → drop (min 1 (length p)) p ≡ drop 1 p
+pub mark-drop : (p : Word) → drop (min 1 (length p)) p ≡ drop 1 p
 mark-drop [] = refl
 mark-drop (x ∷ p) = let e : min 1 (suc (length p)) ≡ 1 = omega arith in ap (λ k. drop k (x ∷ p)) e
 

@@ -8,9 +8,13 @@ ghost use lib.ListN.{length};
 ghost use Rattle.words.specs.Words.{isEmpty, isPrefix};
 ghost use Rattle.words.specs.Relations.{other};
 ghost use Rattle.congruence.specs.Rows.{hasRelationPrefixAt, hasRelationPrefixBetween, cleanRelationPrefix};
+ghost use Rattle.layout.specs.Places.{tableRoom};
 ghost use Rattle.layout.specs.Layout.{part, wordsIn, Checked};
 ghost use Rattle.rows.specs.Sites.{siteOf, SiteInText, SitesInText, KnownWord, Paired, PairedWord};
+ghost use Rattle.rows.specs.FirstLetters.{emptyList};
 ghost use Rattle.rows.specs.Shapes.{uncleanPrefix, shapeOf, rowBy, shapedRow, markInEitherX, rowAtSites, foundAt, FoundRow};
+use layout::Text;
+use numbers::wide16;
 
 // Where a relation word lies in the text: its start, the end of X, the start of Z and its end.
 pub struct Site {
@@ -302,4 +306,18 @@ pub fn find_row(
         return without_sites(2);
     }
     with_sites(text, table, n, i, ua, ub, va, vb, p)
+}
+
+// Whether no relation word begins with a letter: its list in the index is empty.
+pub fn begins_none(table: &[u16], letter: u16) -> bool
+    requires { ⌜ length (now table) ≡ tableRoom ⌝ }
+    ensures { λ r. ⌜ r ≡ emptyList (now (table .entry)) letter ⌝ }
+{
+    let c = wide16(letter);
+    if Text::LETTERS <= c {
+        return true;
+    }
+    let from = layout::first_of(table, c);
+    let to = layout::first_of(table, c + 1);
+    from == to
 }

@@ -1,4 +1,4 @@
-use Rattle.comparison.proofs.Laws.{steps}
+use Rattle.comparison.proofs.Drops.{quickMoves}
 use Rattle.comparison.proofs.make_move.Statement.{statement}
 use Rattle.comparison.proofs.make_move.Tie as tie
 
@@ -6,6 +6,9 @@ pub make-move-spec : {M : Type 1} → statement M
 make-move-spec =
     tie.close
     (tie.spec
-    (λ c κs. search steps)
-    (λ c κs. search steps)
-    (λ c. search steps))
+    (λ c κs. search quickMoves)
+    (λ c κs. search quickMoves)
+    (λ c. search quickMoves)
+    (λ c κs. search quickMoves)
+    (λ c κs. search quickMoves)
+    (λ c. search quickMoves))

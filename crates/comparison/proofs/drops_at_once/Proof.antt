@@ -1,0 +1,19 @@
+use Rattle.comparison.proofs.Drops.{dropsAtOnce}
+use Rattle.comparison.proofs.drops_at_once.Statement.{statement}
+use Rattle.comparison.proofs.drops_at_once.Tie as tie
+
+pub drops-at-once-spec : {M : Type 1} → statement M
+drops-at-once-spec =
+    tie.close
+    (tie.spec
+    (λ c κs. search dropsAtOnce)
+    (λ c. search dropsAtOnce)
+    (λ c κs. search dropsAtOnce)
+    (λ c. search dropsAtOnce)
+    (λ c κs. search dropsAtOnce)
+    (λ c κs. search dropsAtOnce)
+    (λ c κs. search dropsAtOnce)
+    (λ c κs. search dropsAtOnce)
+    (λ c. search dropsAtOnce)
+    (λ c. search dropsAtOnce)
+    (λ c. search dropsAtOnce))

@@ -1,0 +1,12 @@
+use Rattle.comparison.proofs.Drops.{firstLetters}
+use Rattle.comparison.proofs.first_letter.Statement.{statement}
+use Rattle.comparison.proofs.first_letter.Tie as tie
+
+pub first-letter-spec : {M : Type 1} → statement M
+first-letter-spec =
+    tie.close
+    (tie.spec
+    (λ c. search firstLetters)
+    (λ c. search firstLetters)
+    (λ c. search firstLetters)
+    (λ c. search firstLetters))

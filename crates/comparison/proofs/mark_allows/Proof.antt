@@ -1,0 +1,11 @@
+use Rattle.comparison.proofs.Drops.{marksAllow}
+use Rattle.comparison.proofs.mark_allows.Statement.{statement}
+use Rattle.comparison.proofs.mark_allows.Tie as tie
+
+pub mark-allows-spec : {M : Type 1} → statement M
+mark-allows-spec =
+    tie.close
+    (tie.spec
+    (λ c. search marksAllow)
+    (λ c. search marksAllow)
+    (λ c. search marksAllow))
