@@ -14,6 +14,7 @@ use lib.Seq.{getD-drop, getD-append-add}
 use Rattle.words.specs.Words.{Word, isEmpty}
 use Rattle.words.proofs.Lists.{part-length, part-at}
 use Rattle.congruence.specs.Rows.{alike}
+use Rattle.layout.specs.Places.{tableRoom}
 use Rattle.layout.specs.Layout.{part, wordsIn}
 use Rattle.rows.specs.FirstLetters.{emptyList}
 use Rattle.rows.proofs.FirstLetters.{begins-none}
@@ -97,7 +98,7 @@ module _ (text table : List ℕ) (n : ℕ) (first second : Word) (s : State) (p 
   pub drops-not : DropsAtOnce text table n first second s false
   drops-not = record { plan = λ e. absurd (true≢false (sym e)) }
 
-  pub table-long : length table ≡ 450
+  pub table-long : length table ≡ tableRoom
   table-long = p .fitting .ready .paired .checked .indexed .room
 
   pub mark-held : MarkHeld text (s .mark)

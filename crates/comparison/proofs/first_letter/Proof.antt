@@ -9,4 +9,6 @@ first-letter-spec =
     (λ c. search firstLetters)
     (λ c. search firstLetters)
     (λ c. search firstLetters)
+    (λ c. search firstLetters)
+    (λ c. search firstLetters)
     (λ c. search firstLetters))

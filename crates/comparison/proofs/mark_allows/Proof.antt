@@ -8,4 +8,5 @@ mark-allows-spec =
     (tie.spec
     (λ c. search marksAllow)
     (λ c. search marksAllow)
+    (λ c. search marksAllow)
     (λ c. search marksAllow))
