@@ -19,6 +19,8 @@ use layout::Table;
 use layout::Text;
 use libc::STDIN_FILENO;
 use libc::STDOUT_FILENO;
+use limits::Relation;
+use refusals::Refusal;
 
 fn main() {
     let mut buffer = [0u8; 65536];

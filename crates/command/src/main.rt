@@ -7,6 +7,7 @@ use entries::Printed;
 use limits::Input;
 use libc::STDIN_FILENO;
 use libc::STDOUT_FILENO;
+use limits::Input;
 use program::Output;
 
 // How many bytes were read, or a read failed.

@@ -10,7 +10,6 @@ ghost use Rattle.comparison.specs.State.{MarkHeld, beyondOf, Movable, ad
 ghost use Rattle.comparison.specs.Drops.{heldEmpty, HasLetter, markAllows, markLetters, DropsAtOnce};
 ghost use Rattle.comparison.specs.Runs.{Progressed};
 ghost use Rattle.comparison.specs.Comparing.{comparisonOf, answerOf};
-use refusals::Refusal;
 use given::Given;
 use given::widen_word;
 use plans::Change;

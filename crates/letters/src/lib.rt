@@ -39,4 +39,3 @@ pub fn first_unknown(word: &[u8], letters: u8) -> usize
     }
     search_unknown(word, letters)
 }
-

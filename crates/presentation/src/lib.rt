@@ -4,8 +4,8 @@ ghost use mathlib.Core.Path.{_≡_};
 ghost use Rattle.listing.specs.Listing.{Unlisted};
 ghost use Rattle.presentation.specs.Loading.{WordsChecked, byJudged, Memory, BookLoaded};
 use format::Reading;
-use refusals::Refusal;
 use pieces::Judged;
+use refusals::Refusal;
 
 // Refusals 7 and 8 over laid relation words; those of an accepted book get their cuts and their index.
 fn check_words(text: &[u16], table: &mut [u16], n: usize) -> Judged

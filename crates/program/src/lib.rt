@@ -13,9 +13,9 @@ ghost use Rattle.program.specs.Examples.{Hold, examples, HeavyFirst};
 ghost use Rattle.program.specs.Size.{OutputFits, sizes};
 use comparison::Comparison;
 use comparison::compare_given;
+use format::Reading;
 use limits::Input;
 use limits::MadeInput;
-use format::Reading;
 use limits::Record;
 use refusals::Refusal;
 use limits::Word;
@@ -27,6 +27,8 @@ use lines::put_pair_line;
 use presentation::load;
 use records::field_at;
 use records::record_at;
+use refusals::Refusal;
+use refusals::number_and_place;
 
 // What the program writes, by its length.
 pub struct Output {

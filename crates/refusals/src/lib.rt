@@ -46,18 +46,57 @@ pub fn number_and_place(refusal: Refusal) -> Numbered
     ensures { λ r. ⌜ r ≡ numberAndPlace refusal ⌝ }
 {
     match refusal {
-        Refusal::Short(at) => Numbered { number: 1, place: at },
-        Refusal::Kind(at) => Numbered { number: 2, place: at },
-        Refusal::Length(at) => Numbered { number: 3, place: at },
-        Refusal::Range(at) => Numbered { number: 4, place: at },
-        Refusal::UnknownLetter(at) => Numbered { number: 5, place: at },
-        Refusal::TooMany(at) => Numbered { number: 6, place: at },
-        Refusal::Repeated(word) => Numbered { number: 7, place: word },
-        Refusal::Loose(word) => Numbered { number: 8, place: word },
-        Refusal::Long(word) => Numbered { number: 9, place: Word::SPACING * wide(word) },
-        Refusal::Stranger(word, position) => Numbered { number: 10, place: Word::SPACING * wide(word) + position as usize },
-        Refusal::Spent(rounds) => Numbered { number: 11, place: rounds as usize },
-        Refusal::Narrow(buffer) => Numbered { number: 12, place: buffer },
-        Refusal::Heavy => Numbered { number: 13, place: Input::MOST },
+        Refusal::Short(at) => Numbered {
+            number: 1,
+            place: at,
+        },
+        Refusal::Kind(at) => Numbered {
+            number: 2,
+            place: at,
+        },
+        Refusal::Length(at) => Numbered {
+            number: 3,
+            place: at,
+        },
+        Refusal::Range(at) => Numbered {
+            number: 4,
+            place: at,
+        },
+        Refusal::UnknownLetter(at) => Numbered {
+            number: 5,
+            place: at,
+        },
+        Refusal::TooMany(at) => Numbered {
+            number: 6,
+            place: at,
+        },
+        Refusal::Repeated(word) => Numbered {
+            number: 7,
+            place: word,
+        },
+        Refusal::Loose(word) => Numbered {
+            number: 8,
+            place: word,
+        },
+        Refusal::Long(word) => Numbered {
+            number: 9,
+            place: Word::SPACING * wide(word),
+        },
+        Refusal::Stranger(word, position) => Numbered {
+            number: 10,
+            place: Word::SPACING * wide(word) + position as usize,
+        },
+        Refusal::Spent(rounds) => Numbered {
+            number: 11,
+            place: rounds as usize,
+        },
+        Refusal::Narrow(buffer) => Numbered {
+            number: 12,
+            place: buffer,
+        },
+        Refusal::Heavy => Numbered {
+            number: 13,
+            place: Input::MOST,
+        },
     }
 }
