@@ -14,7 +14,7 @@ use mir.Val.{Fits}
 use mir.Syntax.{w64}
 use Rattle.writing.specs.Writing.{written}
 use Rattle.writing.proofs.Writing.{written-one, written-behind}
-use Rattle.lines.specs.Decimal.{digitsOf, countUpTo, digitCount, decimal}
+use Rattle.lines.specs.Decimal.{digitsOf, countUpTo, FuelSuffices, digitCount, decimal}
 use Rattle.lines.specs.Lines.{numbered, lineOf, pairLineOf, WrittenTo}
 
 -- counting with any sufficient limit gives the same
@@ -28,6 +28,9 @@ count-limit (suc f) (suc g) n h k = go (λ a b. count-limit f g (n / 10) a b) (l
     go : (n / 10 ≤ f → n / 10 ≤ g → countUpTo f (n / 10) ≡ countUpTo g (n / 10)) → (t : Bool) → ltb n 10 ≡ t → countUpTo (suc f) n ≡ countUpTo (suc g) n
     go r true e = rw (e, countUpTo)
     go r false e = rw (e, countUpTo) (ap suc (r (omega arith) (omega arith)))
+
+pub fuel-suffices : FuelSuffices
+fuel-suffices fuel more n h k = count-limit more fuel n k h
 
 pub count-small : (n : ℕ) → n < 10 → digitCount n ≡ 1
 unfolding countUpTo

@@ -1,7 +1,8 @@
 -- A number in decimal, as text.
-use Prim.Native.Nat.{ℕ, zero, suc, _+_, _/_, _%_}
+use Prim.Native.Nat.{ℕ, zero, suc, _+_, _/_, _%_, _≤_}
 use mathlib.Core.Bool.{true, false}
 use mathlib.Core.List.{List, [], _∷_, _++_}
+use mathlib.Core.Path.{_≡_}
 use lib.Dec.{ltb}
 
 -- the last k decimal digits of n, the most significant first
@@ -14,7 +15,11 @@ unfoldable pub countUpTo : ℕ → ℕ → ℕ
 countUpTo zero n = 1
 countUpTo (suc most) n = elim (ltb n 10) [ true ↦ 1 | false ↦ suc (countUpTo most (n / 10)) ]
 
--- how many digits n has: no number has more digits than n + 1
+-- a limit of the number itself is enough: more of it changes nothing
+abbrev pub FuelSuffices : Type 0
+FuelSuffices = (fuel more n : ℕ) → n ≤ fuel → n ≤ more → countUpTo more n ≡ countUpTo fuel n
+
+-- how many digits n has: no number has more digits than n + 1 (FuelSuffices)
 abbrev pub digitCount : ℕ → ℕ
 digitCount n = countUpTo n n
 
