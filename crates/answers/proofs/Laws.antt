@@ -42,8 +42,8 @@ use Rattle.answers.specs.declared.Verdict.the-variants as Verdicts
 use Rattle.answers.specs.declared.Round.{Round}
 use Rattle.answers.specs.declared.Printed.the-variants as Prints
 use Rattle.lines.specs.Lines.{WrittenTo}
-use Rattle.program.specs.Program.{programOf}
-use Rattle.program.specs.Size.{outputMost}
+use Rattle.output.specs.Program.{programOf}
+use Rattle.output.specs.Size.{outputMost}
 use Rattle.answers.specs.declared.Round.the-variants as Rounds
 use Rattle.answers.specs.Answers.{accepted, refusal, ofVerdict, ofRound, ofComparison, ofPrinted}
 use Rattle.answers.specs.Entries.{checkOf, SheetOutcome, sheetOf, RoundOutcome, OutputOutcome, outputOf, roomOf, askedOf, writing, loadedRound, roundOf, compareOf}

@@ -19,8 +19,8 @@ use Rattle.given.specs.declared.Given.the-variants as Words
 use Rattle.given.specs.Given.{andThen, tripleOf}
 use Rattle.sheet.specs.Sheet.{cutSheet}
 use Rattle.comparison.specs.Comparing.{comparisonOf}
-use Rattle.program.specs.Program.{programOf}
-use Rattle.program.specs.Size.{outputMost}
+use Rattle.output.specs.Program.{programOf}
+use Rattle.output.specs.Size.{outputMost}
 use Rattle.answers.specs.Answers.{Answer, accepted, ended, next, wrote, refusal, ofComparison}
 
 -- 1 to 8: a refusal of the book goes straight back

@@ -4,13 +4,11 @@ ghost use Prim.Native.Nat.{_+_, _≤_, _<_};
 ghost use lib.ListN.{length};
 ghost use Rattle.records.specs.Reads.{Payload};
 ghost use Rattle.lines.specs.Lines.{WrittenTo};
-ghost use Rattle.program.specs.Program.{bookEnd, refusedLine, comparisonLine, loadedOutput, programOf, FuelSuffices};
-ghost use Rattle.program.specs.Requests.{longField, fieldsOf, requestAt};
-ghost use Rattle.program.specs.Writing.{linesUnder, Lined, linesOfAccepted, Accepted, Roomy};
+ghost use Rattle.output.specs.Program.{bookEnd, refusedLine, comparisonLine, loadedOutput, programOf};
+ghost use Rattle.output.specs.Requests.{longField, fieldsOf, requestAt};
+ghost use Rattle.output.specs.Writing.{linesUnder, Lined, linesOfAccepted, Accepted, Roomy};
 ghost use Rattle.comparison.specs.State.{Ready};
 ghost use Rattle.layout.specs.Layout.{wordsIn};
-ghost use Rattle.program.specs.Examples.{Hold, examples, HeavyFirst};
-ghost use Rattle.program.specs.Size.{OutputFits, sizes};
 use comparison::Comparison;
 use comparison::compare_given;
 use format::Reading;
@@ -24,58 +22,13 @@ use layout::Text;
 use refusals::number_and_place;
 use lines::put_line;
 use lines::put_pair_line;
+pub use output::Output;
+use output::Request;
 use presentation::load;
 use records::field_at;
 use records::record_at;
 use refusals::Refusal;
 use refusals::number_and_place;
-
-// What the program writes, by its length.
-pub struct Output {
-    pub length: usize,
-}
-
-impl Output {
-    // The most bytes of a line.
-    pub const LINE: usize = 22;
-
-    // The most bytes of the output: a line for the book, and one for each comparison record that the input has room for.
-    pub const MOST: usize = Output::LINE * (1 + Input::MOST / (Record::PREFIX + Word::LENGTH));
-}
-
-// The worked examples hold of the definition of the output.
-pub fn examples_hold()
-    ensures { λ _. ⌜ Hold examples ⌝ }
-{}
-
-// 13 comes before everything else.
-pub fn heavy_first()
-    ensures { λ _. ⌜ HeavyFirst ⌝ }
-{}
-
-// The constants are the numbers that the definitions write again.
-pub fn sizes() -> [usize; 2]
-    ensures { λ r. ⌜ r ≡ sizes ⌝ }
-{
-    [Output::LINE, Output::MOST]
-}
-
-// The output of no input is longer than that.
-pub fn output_fits()
-    ensures { λ _. ⌜ OutputFits ⌝ }
-{}
-
-// No input needs more fuel than the definitions give it.
-pub fn fuel_suffices()
-    ensures { λ _. ⌜ FuelSuffices ⌝ }
-{}
-
-// What a record of the kind 3 part asks for: a comparison, by its allowance, where its first word begins, where the second begins and where it ends; or its
-// refusal.
-pub enum Request {
-    Compare(u32, usize, usize, usize),
-    Refused(Refusal),
-}
 
 // A four-byte field, little-endian.
 fn long_field_at(input: &[u8], at: usize) -> u32

@@ -1,6 +1,6 @@
 use Prim.Native.Nat.{_-_}
 use lib.ListN.{length}
-use Rattle.program.proofs.Reading.{Ending, endings, ending-cut}
+use Rattle.output.proofs.Reading.{Ending, endings, ending-cut}
 use Rattle.program.proofs.book_end.Statement.{statement}
 use Rattle.program.proofs.book_end.Tie as tie
 

@@ -1,4 +1,4 @@
-use Rattle.program.proofs.Reading.{fieldsets}
+use Rattle.output.proofs.Reading.{fieldsets}
 use Rattle.program.proofs.fields_at.Statement.{statement}
 use Rattle.program.proofs.fields_at.Tie as tie
 

@@ -1,4 +1,4 @@
-use Rattle.program.proofs.Reading.{requests}
+use Rattle.output.proofs.Reading.{requests}
 use Rattle.program.proofs.request_at.Statement.{statement}
 use Rattle.program.proofs.request_at.Tie as tie
 

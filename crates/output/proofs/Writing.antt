@@ -10,7 +10,7 @@ use Rattle.refusals.specs.Refusals.{numberAndPlace}
 use Rattle.comparison.specs.declared.Comparison.{Comparison}
 use Rattle.comparison.specs.declared.Comparison.the-variants.{Same, Different, Refused}
 use Rattle.lines.specs.Lines.{WrittenTo, lineOf, pairLineOf}
-use Rattle.program.specs.Program.{refusedText, sameText, differentText, refusedLine, comparisonLine}
+use Rattle.output.specs.Program.{refusedText, sameText, differentText, refusedLine, comparisonLine}
 
 -- a refusal, by its number and its place
 module _ (out : List ℕ) (at : ℕ) (refusal : Refusal) (n : Numbered) (e : n ≡ numberAndPlace refusal) where

@@ -17,9 +17,9 @@ use Rattle.comparison.specs.declared.Comparison.{Comparison}
 use Rattle.comparison.specs.declared.Comparison.the-variants.{Same, Different, Refused}
 use Rattle.comparison.specs.Comparing.{comparisonOf}
 use Rattle.lines.specs.Lines.{lineOf, pairLineOf}
-use Rattle.program.specs.declared.Request.{Request}
-use Rattle.program.specs.declared.Request.the-variants as Requests
-use Rattle.program.specs.Requests.{requestAt}
+use Rattle.output.specs.declared.Request.{Request}
+use Rattle.output.specs.declared.Request.the-variants as Requests
+use Rattle.output.specs.Requests.{requestAt}
 
 -- the words of the output: refused, book, same, different
 abbrev pub refusedText : List ℕ

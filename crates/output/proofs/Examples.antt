@@ -17,9 +17,9 @@ use Rattle.given.specs.Given.{givenOf, pairOf}
 use Rattle.comparison.specs.Comparing.{answerOf, comparisonOf}
 use Rattle.lines.specs.Decimal.{digitsOf, countUpTo, decimal}
 use Rattle.lines.specs.Lines.{numbered, lineOf, pairLineOf}
-use Rattle.program.specs.Requests.{fieldsOf, requestAt}
-use Rattle.program.specs.Program.{refusedLine, bookEndFrom, linesFrom, programOf}
-use Rattle.program.specs.Examples.{Hold, none, more, examples, HeavyFirst}
+use Rattle.output.specs.Requests.{fieldsOf, requestAt}
+use Rattle.output.specs.Program.{refusedLine, bookEndFrom, linesFrom, programOf}
+use Rattle.output.specs.Examples.{Hold, none, more, examples, HeavyFirst}
 
 pub examples-hold : Hold examples
 unfolding judge firstRepeated isRepeated sameWord firstLoose loose three pieceAt twin xlen zlen greatest least anyBelow isPrefix hasRelationPrefixAt hasRelationPrefixBetween clean cleanRelationPrefix active row1 row2 row4 row5 row6 row7 row8 makes fitting firstRow round answerFrom commonSuffix recordAt firstUnknown headAt fieldsAt relationAt relationsFrom readBook loadBook givenOf pairOf answerOf comparisonOf digitsOf countUpTo decimal numbered lineOf pairLineOf refusedLine bookEndFrom fieldsOf requestAt linesFrom programOf examples relationWords

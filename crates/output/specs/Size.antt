@@ -3,7 +3,7 @@ use Prim.Native.Nat.{ℕ, _+_, _*_, _/_, _<_, _≤_}
 use mathlib.Core.List.{List, [], _∷_}
 use lib.ListN.{length, getD}
 use Rattle.limits.specs.Limits.{recordPrefix, inputMost, comparisonLength}
-use Rattle.program.specs.Program.{programOf}
+use Rattle.output.specs.Program.{programOf}
 
 -- no line is longer: `refused`, a number of at most two digits, a place of at most ten, two spaces and a newline
 abbrev pub lineMost : ℕ

@@ -18,10 +18,10 @@ use Rattle.limits.specs.Limits.{comparisonKind, comparisonLength}
 use Rattle.format.specs.Book.{field, recordAt, differs}
 use Rattle.format.proofs.Readings.{passed, passed-whole, equal-of, WholeAt, whole-at}
 use Rattle.records.specs.Reads.{Field, Payload}
-use Rattle.program.specs.declared.Request.{Request}
-use Rattle.program.specs.declared.Request.the-variants.{Compare, Refused}
-use Rattle.program.specs.Requests.{longField, fieldsOf, requestAt}
-use Rattle.program.specs.Program.{bookEndFrom, bookEnd}
+use Rattle.output.specs.declared.Request.{Request}
+use Rattle.output.specs.declared.Request.the-variants.{Compare, Refused}
+use Rattle.output.specs.Requests.{longField, fieldsOf, requestAt}
+use Rattle.output.specs.Program.{bookEndFrom, bookEnd}
 
 -- the book goes on at a position
 pub record Ending (input : List ℕ) (at : ℕ) : Type 0 where

@@ -10,11 +10,11 @@ use lib.ListN.{length}
 use Rattle.words.specs.Words.{Word}
 use Rattle.format.specs.Book.{field, between}
 use Rattle.comparison.specs.Comparing.{comparisonOf}
-use Rattle.program.specs.declared.Request.{Request}
-use Rattle.program.specs.declared.Request.the-variants.{Compare, Refused}
-use Rattle.program.specs.Requests.{requestAt}
-use Rattle.program.specs.Program.{comparisonLine, bookEndFrom, byRequest, linesFrom, FuelSuffices}
-use Rattle.program.proofs.Reading.{lies-of}
+use Rattle.output.specs.declared.Request.{Request}
+use Rattle.output.specs.declared.Request.the-variants.{Compare, Refused}
+use Rattle.output.specs.Requests.{requestAt}
+use Rattle.output.specs.Program.{comparisonLine, bookEndFrom, byRequest, linesFrom, FuelSuffices}
+use Rattle.output.proofs.Reading.{lies-of}
 
 end-fuel : (fuel larger : ℕ) (input : List ℕ) (at : ℕ) → length input ≤ at + fuel → fuel ≤ larger → bookEndFrom larger input at ≡ bookEndFrom fuel input at
 unfolding bookEndFrom

@@ -6,7 +6,7 @@ use Rattle.layout.specs.Layout.{wordsIn}
 use Rattle.comparison.specs.State.{Ready}
 use Rattle.lines.specs.Lines.{lineOf}
 use Rattle.limits.specs.Limits.{relationsMost}
-use Rattle.program.specs.Program.{bookText, linesFrom, loadedOutput}
+use Rattle.output.specs.Program.{bookText, linesFrom, loadedOutput}
 
 -- the lines of the comparison records from a position on, under the relation words of a checked presentation
 abbrev pub linesUnder : List ℕ → List ℕ → ℕ → ℕ → List ℕ → ℕ → List ℕ

@@ -39,12 +39,12 @@ use Rattle.comparison.specs.Comparing.{byAnswer, byGiven, answerOf, comparisonO
 use Rattle.lines.specs.Decimal.{digitCount}
 use Rattle.lines.specs.Lines.{numbered, lineOf, pairLineOf}
 use Rattle.lines.proofs.Laws.{count-small, count-below, length-decimal}
-use Rattle.program.specs.declared.Request.{Request}
-use Rattle.program.specs.declared.Request.the-variants as Requests
-use Rattle.program.specs.Requests.{longField, fieldsOf, requestAt}
-use Rattle.program.specs.Program.{bookText, sameText, differentText, refusedLine, comparisonLine, bookEndFrom, bookEnd, byRequest, linesFrom, byLoading, loadedOutput, programOf}
-use Rattle.program.specs.Size.{lineMost, outputMost, AreBytes, OutputFits}
-use Rattle.program.proofs.Reading.{lies-of}
+use Rattle.output.specs.declared.Request.{Request}
+use Rattle.output.specs.declared.Request.the-variants as Requests
+use Rattle.output.specs.Requests.{longField, fieldsOf, requestAt}
+use Rattle.output.specs.Program.{bookText, sameText, differentText, refusedLine, comparisonLine, bookEndFrom, bookEnd, byRequest, linesFrom, byLoading, loadedOutput, programOf}
+use Rattle.output.specs.Size.{lineMost, outputMost, AreBytes, OutputFits}
+use Rattle.output.proofs.Reading.{lies-of}
 
 -- a number that is printed: it has at most ten digits
 abbrev numberMost : ℕ

@@ -5,7 +5,7 @@ use mathlib.Core.Path.{_≡_}
 use lib.ListN.{length, take}
 use Rattle.limits.specs.Limits.{inputMost}
 use Rattle.format.specs.Examples.{four, abdc-cadb}
-use Rattle.program.specs.Program.{programOf}
+use Rattle.output.specs.Program.{programOf}
 
 pub record Example : Type 0 where
   pub input : List ℕ

@@ -5,8 +5,8 @@ use mathlib.Core.List.{List}
 use Rattle.limits.specs.Limits.{comparisonKind, comparisonLength}
 use Rattle.refusals.specs.declared.Refusal.the-variants.{Short, Kind, Length}
 use Rattle.format.specs.Book.{field, recordAt, onWhole, differs}
-use Rattle.program.specs.declared.Request.{Request}
-use Rattle.program.specs.declared.Request.the-variants.{Compare, Refused}
+use Rattle.output.specs.declared.Request.{Request}
+use Rattle.output.specs.declared.Request.the-variants.{Compare, Refused}
 
 -- a four-byte field, little-endian
 abbrev pub longField : List ℕ → ℕ → ℕ
