@@ -75,9 +75,10 @@ module _ (book : List ℕ) (reading : Reading) (text table : List ℕ) (d : Book
   compare-refused u v allowance r e = compared book u v allowance (refusal r) (sym (rw (load-refused book reading text table d r e)))
 
   -- the round
-  pub round-refused : (u v p a c e : List ℕ) (r : Refusal) → reading ≡ Refused r → RoundOutcome.after (ofRound (Rounds.Refused r)) a c e ≡ roundOf book u v p a c e
+  pub round-refused : (u v p nextU nextV nextP : List ℕ) (r : Refusal) → reading ≡ Refused r
+      → RoundOutcome.after (ofRound (Rounds.Refused r)) nextU nextV nextP ≡ roundOf book u v p nextU nextV nextP
   unfolding roundOf
-  round-refused u v p a c e r f = sym (rw (load-refused book reading text table d r f))
+  round-refused u v p nextU nextV nextP r f = sym (rw (load-refused book reading text table d r f))
 
   module _ (letters count : ℕ) (e : reading ≡ Read letters count) where
     held : Holding book letters count text table
@@ -113,12 +114,13 @@ module _ (book : List ℕ) (reading : Reading) (text table : List ℕ) (d : Book
         let g : x ≡ comparisonOf (h .presentation .letters) (relationWords (h .presentation .relations)) u v allowance = f ∙ rw (h .words, ← h .lettered) in
         compared book u v allowance (ofComparison x) (ap ofComparison g ∙ sym q)
 
-    pub round-loaded : (u v p a c b : List ℕ) (x : RoundOutcome) → x ≡ loadedRound letters (wordsIn text table (2 * count)) u v p a c b → x ≡ roundOf book u v p a c b
+    pub round-loaded : (u v p nextU nextV nextP : List ℕ) (x : RoundOutcome) → x ≡ loadedRound letters (wordsIn text table (2 * count)) u v p nextU nextV nextP
+        → x ≡ roundOf book u v p nextU nextV nextP
     unfolding roundOf
-    round-loaded u v p a c b x f =
+    round-loaded u v p nextU nextV nextP x f =
         let h = held in
         let g = rw (h .words) at f in
-        let q : roundOf book u v p a c b ≡ loadedRound letters (relationWords (h .presentation .relations)) u v p a c b = rw (h .is, ← h .lettered) in
+        let q : roundOf book u v p nextU nextV nextP ≡ loadedRound letters (relationWords (h .presentation .relations)) u v p nextU nextV nextP = rw (h .is, ← h .lettered) in
         g ∙ sym q
 
 pub memory-made : (text table : List ℕ) → length text ≡ 4160 → length table ≡ 450 → Memory text table
@@ -155,12 +157,12 @@ module _ (table : List ℕ) (count : ℕ) (s : SheetReady table count) (sheet : 
 pub ruleset tableSheets = (sheet-fits, words-fit, sheet-narrow, sheet-roomy, sheet-written, needs)
 
 -- what is given to a round
-module _ (letters : ℕ) (u v p : Word) (a c d : ℕ) (g : Given) (e : g ≡ tripleOf letters u v p) where
-  pub asked-words : (r : Refusal) → g ≡ Words.Refused r → g ≡ askedOf letters u v p a c d
+module _ (letters : ℕ) (u v p : Word) (roomU roomV roomP : ℕ) (g : Given) (e : g ≡ tripleOf letters u v p) where
+  pub asked-words : (r : Refusal) → g ≡ Words.Refused r → g ≡ askedOf letters u v p roomU roomV roomP
   unfolding askedOf
   asked-words r f = rw (← e, f)
 
-  pub asked-room : (x : Given) → g ≡ Words.Fine → x ≡ roomOf a c d → x ≡ askedOf letters u v p a c d
+  pub asked-room : (x : Given) → g ≡ Words.Fine → x ≡ roomOf roomU roomV roomP → x ≡ askedOf letters u v p roomU roomV roomP
   unfolding askedOf
   asked-room x f h = rw (← e, f) h
 
@@ -176,57 +178,61 @@ answered-next s a b c e = rw e
 pub ruleset answereds = (answered-end, answered-next, needs)
 
 -- what is fine is within its limits
-fine-room : (a c d : ℕ) → roomOf a c d ≡ Words.Fine → (nextRoom ≤ a) × (nextRoom ≤ c) × (markMost ≤ d)
+fine-room : (roomU roomV roomP : ℕ) → roomOf roomU roomV roomP ≡ Words.Fine → (nextRoom ≤ roomU) × (nextRoom ≤ roomV) × (markMost ≤ roomP)
 unfolding roomOf
-fine-room a c d e = go (ltb a nextRoom) refl (ltb c nextRoom) refl (ltb d markMost) refl
+fine-room roomU roomV roomP e = go (ltb roomU nextRoom) refl (ltb roomV nextRoom) refl (ltb roomP markMost) refl
   where
-    go : (x : Bool) → ltb a nextRoom ≡ x → (y : Bool) → ltb c nextRoom ≡ y → (z : Bool) → ltb d markMost ≡ z → (nextRoom ≤ a) × (nextRoom ≤ c) × (markMost ≤ d)
+    go : (x : Bool) → ltb roomU nextRoom ≡ x → (y : Bool) → ltb roomV nextRoom ≡ y → (z : Bool) → ltb roomP markMost ≡ z
+        → (nextRoom ≤ roomU) × (nextRoom ≤ roomV) × (markMost ≤ roomP)
     go true p y q z r = let f : Words.Refused (Narrow 0) ≡ Words.Fine = rw p at e in let o : _≡_ {A = ℕ} 0 1 = cc in absurd (omega arith)
     go false p true q z r = let f : Words.Refused (Narrow 1) ≡ Words.Fine = rw (p, q) at e in let o : _≡_ {A = ℕ} 0 1 = cc in absurd (omega arith)
     go false p false q true r = let f : Words.Refused (Narrow 2) ≡ Words.Fine = rw (p, q, r) at e in let o : _≡_ {A = ℕ} 0 1 = cc in absurd (omega arith)
-    go false p false q false r = (ltb-false a nextRoom p, ltb-false c nextRoom q, ltb-false d markMost r)
+    go false p false q false r = (ltb-false roomU nextRoom p, ltb-false roomV nextRoom q, ltb-false roomP markMost r)
 
-fine-asked : (letters : ℕ) (u v p : Word) (a c d : ℕ) → askedOf letters u v p a c d ≡ Words.Fine
-    → (length u ≤ 4160) × (length v ≤ 4160) × (length p ≤ 64) × (4224 ≤ a) × (4224 ≤ c) × (64 ≤ d)
+fine-asked : (letters : ℕ) (u v p : Word) (roomU roomV roomP : ℕ) → askedOf letters u v p roomU roomV roomP ≡ Words.Fine
+    → (length u ≤ 4160) × (length v ≤ 4160) × (length p ≤ 64) × (4224 ≤ roomU) × (4224 ≤ roomV) × (64 ≤ roomP)
 unfolding askedOf tripleOf
-fine-asked letters u v p a c d e =
-    let t = fine-both (andThen (givenOf 0 roundMost letters u) (andThen (givenOf 1 roundMost letters v) (givenOf 2 markMost letters p))) (roomOf a c d) e in
+fine-asked letters u v p roomU roomV roomP e =
+    let t = fine-both (andThen (givenOf 0 roundMost letters u) (andThen (givenOf 1 roundMost letters v) (givenOf 2 markMost letters p))) (roomOf roomU roomV roomP) e in
     let x = fine-both (givenOf 0 roundMost letters u) (andThen (givenOf 1 roundMost letters v) (givenOf 2 markMost letters p)) (t .0) in
     let y = fine-both (givenOf 1 roundMost letters v) (givenOf 2 markMost letters p) (x .1) in
-    let r = fine-room a c d (t .1) in
+    let r = fine-room roomU roomV roomP (t .1) in
     (fine-short 0 roundMost letters u (x .0), fine-short 1 roundMost letters v (y .0), fine-short 2 markMost letters p (y .1), r .0, r .1, r .2)
 
 -- a round under a loaded book
-module _ (text table : List ℕ) (n letters : ℕ) (u v p a c d : List ℕ) (g : Given) (e : g ≡ askedOf letters u v p (length a) (length c) (length d)) where
-  pub loaded-refused : (r : Refusal) → g ≡ Words.Refused r → RoundOutcome.after (ofRound (Rounds.Refused r)) a c d ≡ loadedRound letters (wordsIn text table n) u v p a c d
+module _ (text table : List ℕ) (n letters : ℕ) (u v p nextU nextV nextP : List ℕ) (g : Given) (e : g ≡ askedOf letters u v p (length nextU) (length nextV) (length nextP)) where
+  pub loaded-refused : (r : Refusal) → g ≡ Words.Refused r
+      → RoundOutcome.after (ofRound (Rounds.Refused r)) nextU nextV nextP ≡ loadedRound letters (wordsIn text table n) u v p nextU nextV nextP
   unfolding loadedRound
   loaded-refused r f = rw (← e, f)
 
-  pub loaded-lent : Ready text table n → g ≡ Words.Fine → Lent text table n u v p a c d
+  pub loaded-lent : Ready text table n → g ≡ Words.Fine → Lent text table n u v p nextU nextV nextP
   loaded-lent r f =
-      let k = fine-asked letters u v p (length a) (length c) (length d) (sym e ∙ f) in
+      let k = fine-asked letters u v p (length nextU) (length nextV) (length nextP) (sym e ∙ f) in
       record { given = record { paired = r .paired; shortU = k .0; shortV = k .1; shortP = k .2 }; roomU = k .3; roomV = k .4; roomP = k .5 }
 
   -- the round's outcome in document 01's words
-  written : (x : Next) (s : RoundLengths) (a′ c′ d′ : List ℕ) → Writing.after s a′ c′ d′ ≡ writtenBy x a c d → RoundOutcome.after (ofRound (answeredRound s)) a′ c′ d′ ≡ writing x a c d
+  written : (x : Next) (s : RoundLengths) (nextU′ nextV′ nextP′ : List ℕ) → Writing.after s nextU′ nextV′ nextP′ ≡ writtenBy x nextU nextV nextP
+      → RoundOutcome.after (ofRound (answeredRound s)) nextU′ nextV′ nextP′ ≡ writing x nextU nextV nextP
   unfolding writtenBy
-  written (end b) s a′ c′ d′ q =
+  written (end b) s nextU′ nextV′ nextP′ q =
       let es : s ≡ Lengths.End b = cc in
-      let ea : a′ ≡ a = cc in
-      let ec : c′ ≡ c = cc in
-      let ed : d′ ≡ d = cc in
+      let ea : nextU′ ≡ nextU = cc in
+      let ec : nextV′ ≡ nextV = cc in
+      let ed : nextP′ ≡ nextP = cc in
       rw (es, ea, ec, ed)
-  written (go x y z) s a′ c′ d′ q =
+  written (go x y z) s nextU′ nextV′ nextP′ q =
       let es : s ≡ Lengths.Next (length x) (length y) (length z) = cc in
-      let ea : a′ ≡ over x a = cc in
-      let ec : c′ ≡ over y c = cc in
-      let ed : d′ ≡ over z d = cc in
+      let ea : nextU′ ≡ over x nextU = cc in
+      let ec : nextV′ ≡ over y nextV = cc in
+      let ed : nextP′ ≡ over z nextP = cc in
       rw (es, ea, ec, ed)
 
-  pub loaded-made : g ≡ Words.Fine → (s : RoundLengths) (a′ c′ d′ : List ℕ) → Writing.after s a′ c′ d′ ≡ writtenBy (round (wordsIn text table n) u v p) a c d
-      → (r : Round) → r ≡ answeredRound s → RoundOutcome.after (ofRound r) a′ c′ d′ ≡ loadedRound letters (wordsIn text table n) u v p a c d
+  pub loaded-made : g ≡ Words.Fine → (s : RoundLengths) (nextU′ nextV′ nextP′ : List ℕ)
+      → Writing.after s nextU′ nextV′ nextP′ ≡ writtenBy (round (wordsIn text table n) u v p) nextU nextV nextP
+      → (r : Round) → r ≡ answeredRound s → RoundOutcome.after (ofRound r) nextU′ nextV′ nextP′ ≡ loadedRound letters (wordsIn text table n) u v p nextU nextV nextP
   unfolding loadedRound
-  loaded-made f s a′ c′ d′ q r h = rw (h, ← e, f) (written (round (wordsIn text table n) u v p) s a′ c′ d′ q)
+  loaded-made f s nextU′ nextV′ nextP′ q r h = rw (h, ← e, f) (written (round (wordsIn text table n) u v p) s nextU′ nextV′ nextP′ q)
 
 pub ruleset loadeds = (loaded-refused, loaded-lent, loaded-made, needs)
 

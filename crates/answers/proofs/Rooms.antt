@@ -8,21 +8,21 @@ use Rattle.limits.specs.Limits.{nextRoom, markMost}
 use Rattle.given.specs.declared.Given.the-variants as Words
 use Rattle.answers.specs.Entries.{roomOf}
 
-module _ (a c d : ℕ) where
-  pub room-first : a < nextRoom → Words.Refused (Narrow 0) ≡ roomOf a c d
+module _ (roomU roomV roomP : ℕ) where
+  pub room-first : roomU < nextRoom → Words.Refused (Narrow 0) ≡ roomOf roomU roomV roomP
   unfolding roomOf
-  room-first h = rw (lt-ltb a nextRoom h)
+  room-first h = rw (lt-ltb roomU nextRoom h)
 
-  pub room-second : nextRoom ≤ a → c < nextRoom → Words.Refused (Narrow 1) ≡ roomOf a c d
+  pub room-second : nextRoom ≤ roomU → roomV < nextRoom → Words.Refused (Narrow 1) ≡ roomOf roomU roomV roomP
   unfolding roomOf
-  room-second h k = rw (le-ltb a nextRoom h, lt-ltb c nextRoom k)
+  room-second h k = rw (le-ltb roomU nextRoom h, lt-ltb roomV nextRoom k)
 
-  pub room-third : nextRoom ≤ a → nextRoom ≤ c → d < markMost → Words.Refused (Narrow 2) ≡ roomOf a c d
+  pub room-third : nextRoom ≤ roomU → nextRoom ≤ roomV → roomP < markMost → Words.Refused (Narrow 2) ≡ roomOf roomU roomV roomP
   unfolding roomOf
-  room-third h k l = rw (le-ltb a nextRoom h, le-ltb c nextRoom k, lt-ltb d markMost l)
+  room-third h k l = rw (le-ltb roomU nextRoom h, le-ltb roomV nextRoom k, lt-ltb roomP markMost l)
 
-  pub room-fine : nextRoom ≤ a → nextRoom ≤ c → markMost ≤ d → Words.Fine ≡ roomOf a c d
+  pub room-fine : nextRoom ≤ roomU → nextRoom ≤ roomV → markMost ≤ roomP → Words.Fine ≡ roomOf roomU roomV roomP
   unfolding roomOf
-  room-fine h k l = rw (le-ltb a nextRoom h, le-ltb c nextRoom k, le-ltb d markMost l)
+  room-fine h k l = rw (le-ltb roomU nextRoom h, le-ltb roomV nextRoom k, le-ltb roomP markMost l)
 
 pub ruleset rooms = (room-first, room-second, room-third, room-fine, needs)

@@ -14,7 +14,6 @@ use comparison::Comparison;
 use entries::Round;
 use entries::Verdict;
 use format::Reading;
-use refusals::Refusal;
 use layout::Table;
 use layout::Text;
 use libc::STDIN_FILENO;

@@ -11,8 +11,8 @@ use lib.ListN.{length, take, drop, length-append, length-take, length-drop}
 use lib.Seq.{length-take-le}
 use mir.Val.{Fits}
 use mir.Syntax.{w64}
-use Rattle.program.specs.Program.{programOf}
-use Rattle.program.specs.Size.{outputMost}
+use Rattle.output.specs.Program.{programOf}
+use Rattle.output.specs.Size.{outputMost}
 use Rattle.writing.specs.Writing.{over}
 use Rattle.answers.specs.declared.Printed.{Printed}
 use Rattle.answers.specs.declared.Printed.the-variants.{Wrote}

@@ -4,7 +4,6 @@ ghost use Prim.Native.Nat.{_≤_};
 ghost use lib.ListN.{length};
 ghost use Rattle.command.specs.Got.{GotPiece, GotWithin};
 use entries::Printed;
-use limits::Input;
 use libc::STDIN_FILENO;
 use libc::STDOUT_FILENO;
 use limits::Input;
