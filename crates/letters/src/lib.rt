@@ -30,7 +30,8 @@ fn search_unknown(word: &[u8], letters: u8) -> usize
     at
 }
 
-// The same; a word without such a letter, which is the usual case, is not searched.
+// The position of the first letter that is not below the number of letters, or the word's length. A word without such a letter, which is the usual case, is not
+// searched.
 pub fn first_unknown(word: &[u8], letters: u8) -> usize
     ensures { λ r. ⌜ r ≡ firstUnknown letters (now (word .entry)) ⌝ }
 {

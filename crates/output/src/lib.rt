@@ -27,7 +27,7 @@ pub fn examples_hold()
     ensures { λ _. ⌜ Hold examples ⌝ }
 {}
 
-// 13 comes before everything else.
+// Refusal 13 comes before everything else.
 pub fn heavy_first()
     ensures { λ _. ⌜ HeavyFirst ⌝ }
 {}
@@ -39,7 +39,7 @@ pub fn sizes() -> [usize; 2]
     [Output::LINE, Output::MOST]
 }
 
-// The output of no input is longer than that.
+// No output is longer than `Output::MOST`.
 pub fn output_fits()
     ensures { λ _. ⌜ OutputFits ⌝ }
 {}
