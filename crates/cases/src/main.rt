@@ -18,7 +18,6 @@ use layout::Table;
 use layout::Text;
 use libc::STDIN_FILENO;
 use libc::STDOUT_FILENO;
-use limits::Relation;
 use refusals::Refusal;
 
 fn main() {

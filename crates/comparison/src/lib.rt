@@ -14,6 +14,7 @@ use given::Given;
 use given::widen_word;
 use plans::Change;
 use plans::Plan;
+use refusals::Refusal;
 
 // A word: text[at..to], then the given word from `from` on.
 pub struct Held {
