@@ -112,7 +112,7 @@ fn print_text(line: &[u8]) {
 fn answer_read(line: &[u8]) {
     let mut book = [0u8; 8192];
     let n = put_field(line, 1, &mut book);
-    let mut text = [0u8; Text::ROOM];
+    let mut text = [0u16; Text::ROOM];
     let mut table = [0u16; Table::ROOM];
     let reading = reader::read_book(&book[..n], &mut text, &mut table);
     match reading {
