@@ -73,7 +73,7 @@ extern "C" {
 #define VANECITRON_OUTPUT 110022u        /* the program's output: no input has a longer one */
 
 /* Enough stack for a call, in bytes: no measured call needs more (see "Calls" above). */
-#define VANECITRON_STACK 16384u
+#define VANECITRON_STACK 32768u
 
 /*
  * Refusals (the specification, "Refusals by number"); vanecitron_refusal_text says them in words.
