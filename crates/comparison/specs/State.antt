@@ -104,12 +104,6 @@ pub record Widenable (text table : List ℕ) (n : ℕ) (first second : Word) (a 
   pub first-room : length first ≤ length a
   pub second-room : length second ≤ length c
 
--- a checked presentation, and two arrays with room for words within the limit
-pub record ReadyToWiden (text table : List ℕ) (n : ℕ) (a c : List ℕ) : Type 0 where
-  pub ready : Ready text table n
-  pub first-room : comparedMost ≤ length a
-  pub second-room : comparedMost ≤ length c
-
 -- a state from which a round can be made
 pub record Poised (text table : List ℕ) (n : ℕ) (first second : Word) (s : State) : Type 0 where
   pub fitting : Fitting text table n first second

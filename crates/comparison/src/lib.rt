@@ -6,12 +6,13 @@ ghost use lib.ListN.{length, getD};
 ghost use Rattle.plans.specs.Plans.{PlansRound};
 ghost use Rattle.plans.specs.RowPlans.{dropOne};
 ghost use Rattle.layout.specs.Layout.{wordsIn};
-ghost use Rattle.comparison.specs.State.{MarkHeld, beyondOf, Movable, advancedOf, MarkMovable, advancedMark, heldWord, markWord, ReadyToWiden, Fitting, Widenable, Poised, Applicable, movedOf, Moving};
+ghost use Rattle.comparison.specs.State.{MarkHeld, beyondOf, Movable, advancedOf, MarkMovable, advancedMark, heldWord, markWord, Ready, Fitting, Widenable, Poised, Applicable, movedOf, Moving};
 ghost use Rattle.comparison.specs.Drops.{heldEmpty, HasLetter, markAllows, markLetters, DropsAtOnce};
 ghost use Rattle.comparison.specs.Runs.{Progressed};
 ghost use Rattle.comparison.specs.Comparing.{comparisonOf, answerOf};
 use given::Given;
 use given::widen_word;
+use limits::Word;
 use plans::Change;
 use plans::Plan;
 use refusals::Refusal;
@@ -354,7 +355,56 @@ fn compare_bytes(
     )
 }
 
-// Two given words under a checked presentation, with an allowance of rounds and arrays to widen them into.
+// The same with arrays of its own, for words that are too long for the lent ones.
+fn compare_long(
+    text: &[u16],
+    table: &[u16],
+    n: usize,
+    u: &[u8],
+    v: &[u8],
+    allowance: u32,
+) -> Comparison
+    requires { ⌜ Fitting (now text) (now table) n (now u) (now v) ⌝ }
+    ensures { λ r. ⌜ r ≡ answerOf (wordsIn (now (text .entry)) (now (table .entry)) n) (now (u .entry)) (now (v .entry)) allowance ⌝ }
+{
+    let mut first = [0u16; Word::COMPARED];
+    let mut second = [0u16; Word::COMPARED];
+    compare_bytes(
+        text,
+        table,
+        n,
+        u,
+        v,
+        &mut first,
+        &mut second,
+        allowance,
+    )
+}
+
+// The same by the lent arrays, where both words have room in them: the usual case, in which no array is made.
+fn compare_checked(
+    text: &[u16],
+    table: &[u16],
+    n: usize,
+    u: &[u8],
+    v: &[u8],
+    wide_u: &mut [u16],
+    wide_v: &mut [u16],
+    allowance: u32,
+) -> Comparison
+    requires { ⌜ Fitting (now text) (now table) n (now u) (now v) ⌝ }
+    ensures { λ r. ⌜ r ≡ answerOf (wordsIn (now (text .entry)) (now (table .entry)) n) (now (u .entry)) (now (v .entry)) allowance ⌝ }
+{
+    if wide_u.len() < u.len() {
+        return compare_long(text, table, n, u, v, allowance);
+    }
+    if wide_v.len() < v.len() {
+        return compare_long(text, table, n, u, v, allowance);
+    }
+    compare_bytes(text, table, n, u, v, wide_u, wide_v, allowance)
+}
+
+// Two given words under a checked presentation, with an allowance of rounds, and arrays to widen words into, as long as the caller likes.
 pub fn compare_given(
     text: &[u16],
     table: &[u16],
@@ -366,12 +416,12 @@ pub fn compare_given(
     wide_v: &mut [u16],
     allowance: u32,
 ) -> Comparison
-    requires { ⌜ ReadyToWiden (now text) (now table) n (now «wide_u») (now «wide_v») ⌝ }
+    requires { ⌜ Ready (now text) (now table) n ⌝ }
     ensures { λ r. ⌜ r ≡ comparisonOf letters (wordsIn (now (text .entry)) (now (table .entry)) n) (now (u .entry)) (now (v .entry)) allowance ⌝ }
 {
     let given = given::check_pair(letters, u, v);
     match given {
         Given::Refused(refusal) => Comparison::Refused(refusal),
-        Given::Fine => compare_bytes(text, table, n, u, v, wide_u, wide_v, allowance),
+        Given::Fine => compare_checked(text, table, n, u, v, wide_u, wide_v, allowance),
     }
 }

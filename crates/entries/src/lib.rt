@@ -5,7 +5,6 @@ ghost use mathlib.Core.Path.{_≡_};
 ghost use Prim.Native.Nat.{_*_};
 ghost use lib.ListN.{length};
 ghost use Rattle.layout.specs.Layout.{wordsIn};
-ghost use Rattle.comparison.specs.Comparing.{comparisonOf};
 ghost use Rattle.comparison.specs.State.{Ready};
 ghost use Rattle.answers.specs.Answers.{ofVerdict, ofRound, ofComparison, ofPrinted};
 ghost use Rattle.answers.specs.Entries.{checkOf, SheetOutcome as Sheets, sheetOf, RoundOutcome as Rounds, loadedRound, roundOf, roomOf, askedOf, OutputOutcome as Outputs, outputOf};
@@ -62,49 +61,25 @@ pub fn cut_sheet(book: &[u8], sheet: &mut [u8]) -> Verdict
     }
 }
 
-// Compares two words under a loaded book of so many letters. The arrays for the widened words are made here, when those of the loading are given back.
-fn compare_loaded(
-    text: &[u16],
-    table: &[u16],
-    n: usize,
-    letters: u8,
-    u: &[u8],
-    v: &[u8],
-    allowance: u32,
-) -> Comparison
-    requires { ⌜ Ready (now text) (now table) n ⌝ }
-    ensures { λ r. ⌜ r ≡ comparisonOf letters (wordsIn (now (text .entry)) (now (table .entry)) n) (now (u .entry)) (now (v .entry)) allowance ⌝ }
-{
-    let mut first = [0u16; Word::COMPARED];
-    let mut second = [0u16; Word::COMPARED];
-    comparison::compare_given(
-        text,
-        table,
-        n,
-        letters,
-        u,
-        v,
-        &mut first,
-        &mut second,
-        allowance,
-    )
-}
-
 // Compares two words under a book, with an allowance of rounds.
 pub fn compare(book: &[u8], u: &[u8], v: &[u8], allowance: u32) -> Comparison
     ensures { λ r. ⌜ Compared (now (book .entry)) (now (u .entry)) (now (v .entry)) allowance (ofComparison r) ⌝ }
 {
     let mut text = [0u16; Text::ROOM];
     let mut table = [0u16; Table::ROOM];
+    let mut first = [0u16; given::SHORT];
+    let mut second = [0u16; given::SHORT];
     let loaded = presentation::load(book, &mut text, &mut table);
     match loaded {
-        Reading::Read(letters, relations) => compare_loaded(
+        Reading::Read(letters, relations) => comparison::compare_given(
             &text,
             &table,
             2 * relations,
             letters,
             u,
             v,
+            &mut first,
+            &mut second,
             allowance,
         ),
         Reading::Refused(refusal) => Comparison::Refused(refusal),

@@ -7,6 +7,9 @@ use limits::MadeWord;
 use limits::Word;
 use refusals::Refusal;
 
+// The letters of an array into which short words are widened. Longer ones get an array of the most letters, whose making takes as long as a short call.
+pub const SHORT: usize = 256;
+
 // A given word is fine, or refused.
 pub enum Given {
     Fine,

@@ -13,7 +13,7 @@ use Rattle.layout.specs.Layout.{wordsIn}
 use Rattle.refusals.specs.declared.Refusal.{Refusal}
 use Rattle.format.specs.Book.{between}
 use Rattle.comparison.specs.declared.Comparison.{Comparison}
-use Rattle.comparison.specs.State.{Ready, ReadyToWiden}
+use Rattle.comparison.specs.State.{Ready}
 use Rattle.comparison.specs.Comparing.{comparisonOf}
 use Rattle.writing.specs.Writing.{written}
 use Rattle.lines.specs.Lines.{WrittenTo, lineOf}
@@ -70,8 +70,8 @@ module _ (text table : List ℕ) (n letters : ℕ) (input : List ℕ) (start : �
       }
 
   module _ (at end : ℕ) (b : List ℕ) (l : Lining text table n letters input start out place at end b) where
-    pub lining-arrays : (a c : List ℕ) → length a ≡ 4096 → length c ≡ 4096 → ReadyToWiden text table n a c
-    lining-arrays a c e f = record { ready = l .ready; first-room = omega arith; second-room = omega arith }
+    pub lining-ready : Ready text table n
+    lining-ready = l .ready
 
     pub lining-end : length input ≤ at → WrittenTo out place (linesUnder text table n letters input start) b end
     unfolding linesFrom
@@ -153,14 +153,14 @@ module _ (text table : List ℕ) (n letters : ℕ) (input : List ℕ) (start : �
 -- the same, with two arrays for the words of a comparison
 pub record LiningWith (text table : List ℕ) (n letters : ℕ) (input : List ℕ) (start : ℕ) (out : List ℕ) (place at end : ℕ) (b u v : List ℕ) : Type 0 where
   pub lining : Lining text table n letters input start out place at end b
-  pub first-long : length u ≡ 4096
-  pub second-long : length v ≡ 4096
+  pub first-long : length u ≡ 256
+  pub second-long : length v ≡ 256
 
 pub lining-with : (text table : List ℕ) (n letters : ℕ) (input : List ℕ) (start : ℕ) (out : List ℕ) (place at end : ℕ) (b u v : List ℕ)
-    → Lining text table n letters input start out place at end b → length u ≡ 4096 → length v ≡ 4096 → LiningWith text table n letters input start out place at end b u v
+    → Lining text table n letters input start out place at end b → length u ≡ 256 → length v ≡ 256 → LiningWith text table n letters input start out place at end b u v
 lining-with text table n letters input start out place at end b u v l e f = record { lining = l; first-long = e; second-long = f }
 
-pub ruleset linings = (lining-with, lining-start, lining-arrays, lining-end, lining-last-room, lining-last, lining-room, lining-less, lining-more, asked-order, asked-next, asked-inside, asked-middle, needs)
+pub ruleset linings = (lining-with, lining-start, lining-ready, lining-end, lining-last-room, lining-last, lining-room, lining-less, lining-more, asked-order, asked-next, asked-inside, asked-middle, needs)
 
 -- an accepted book: its line, then those of the comparisons
 module _ (text table : List ℕ) (relations letters : ℕ) (input : List ℕ) (end : ℕ) (out : List ℕ) (h : Accepted text table relations letters input end out) where

@@ -116,7 +116,7 @@ pub fn put_comparison(out: &mut [u8], at: usize, comparison: Comparison) -> usiz
 }
 
 // Writes the lines of the comparison records from a position on, behind each other from a place of the buffer on, and answers the place behind them. Two arrays
-// for the widened words serve all comparisons.
+// for widened words serve all comparisons of short words.
 pub fn write_lines(
     text: &[u16],
     table: &[u16],
@@ -130,8 +130,8 @@ pub fn write_lines(
     requires { ⌜ Lined (now text) (now table) n letters (now input) start (now out) place ⌝ }
     ensures { λ r. ⌜ WrittenTo (now (out .entry)) place (linesUnder (now (text .entry)) (now (table .entry)) n letters (now (input .entry)) start) (now (out .exit)) r ⌝ }
 {
-    let mut first_word = [0u16; Word::COMPARED];
-    let mut second_word = [0u16; Word::COMPARED];
+    let mut first_word = [0u16; given::SHORT];
+    let mut second_word = [0u16; given::SHORT];
     let mut at = start;
     let mut end = place;
     while at < input.len() {

@@ -26,7 +26,7 @@ use Rattle.rounds.specs.declared.RoundLengths.the-variants as S
 use Rattle.rows.specs.Sites.{Paired}
 use Rattle.plans.specs.Plans.{planned, Fit, MarkFit, PlanFit, PlansRound}
 use Rattle.plans.specs.Plans.PlanFit.{goes}
-use Rattle.rounds.specs.Writing.{writtenBy, Writable, Written, Changes, Planned, GivenShort, LentInBytes, Lent}
+use Rattle.rounds.specs.Writing.{writtenBy, Writable, Written, Changes, Planned, GivenShort, GivenRoom, LentInBytes, Lent}
 use Rattle.rounds.specs.Writing.Outcome.{after}
 
 -- a change is written by two writings, one behind the other
@@ -130,24 +130,18 @@ mark-writable text B p d c b f h r =
     record { up = f .up; inside = f .inside; within = f .within; room = omega arith; small = b }
 
 -- words in bytes are decided as they are widened
-module _ (text table : List ℕ) (n : ℕ) (u v p : Word) (g : GivenShort text table n u v p) where
+module _ (text table : List ℕ) (n : ℕ) (u v p : Word) (a c : List ℕ) (g : GivenRoom text table n u v p a c) where
   pub given-paired : Paired text table n
-  given-paired = g .paired
-
-  pub given-u : length u ≤ length (replicate {A = ℕ} 4160 0)
-  given-u = let l = length-replicate {A = ℕ} 4160 0 in omega (arith, g .shortU)
-
-  pub given-v : length v ≤ length (replicate {A = ℕ} 4160 0)
-  given-v = let l = length-replicate {A = ℕ} 4160 0 in omega (arith, g .shortV)
+  given-paired = g .given .paired
 
   pub given-p : length p ≤ length (replicate {A = ℕ} 64 0)
-  given-p = let l = length-replicate {A = ℕ} 64 0 in omega (arith, g .shortP)
+  given-p = let l = length-replicate {A = ℕ} 64 0 in omega (arith, g .given .shortP)
 
 pub given-decided : (text table : List ℕ) (n : ℕ) (u v p nu nv np : List ℕ) (plan : Plan) → Widened u nu → Widened v nv → Widened p np
     → PlansRound text table n (take (length u) nu) (take (length v) nv) (take (length p) np) plan → PlansRound text table n u v p plan
 given-decided text table n u v p nu nv np plan x y z q = rw (x .same, y .same, z .same) at q
 
-pub ruleset decisions = (given-paired, given-u, given-v, given-p, given-decided, needs)
+pub ruleset decisions = (given-paired, given-p, given-decided, needs)
 
 -- the single round over the text as far as its last fence
 module _ (text table : List ℕ) (n : ℕ) (u v p nu nv np : List ℕ) (h : LentInBytes text table n u v p nu nv np) where

@@ -54,6 +54,12 @@ pub record GivenShort (text table : List ℕ) (n : ℕ) (u v p : Word) : Type 0 
   pub shortV : length v ≤ 4160
   pub shortP : length p ≤ 64
 
+-- two arrays have room for u and v
+pub record GivenRoom (text table : List ℕ) (n : ℕ) (u v p a c : List ℕ) : Type 0 where
+  pub given : GivenShort text table n u v p
+  pub roomU : length u ≤ length a
+  pub roomV : length v ≤ length c
+
 -- what the single round asks of its words and buffers
 pub record Lent (text table : List ℕ) (n : ℕ) (u v p nu nv np : List ℕ) : Type 0 where
   pub given : GivenShort text table n u v p

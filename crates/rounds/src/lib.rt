@@ -5,7 +5,7 @@ ghost use Rattle.congruence.specs.Rows.{round};
 ghost use Rattle.layout.specs.Layout.{wordsIn};
 ghost use Rattle.plans.specs.Plans.{planned, PlansRound};
 ghost use Rattle.plans.specs.declared.Plan.the-variants.{Go};
-ghost use Rattle.rounds.specs.Writing.{Writable, Written, writtenBy, Changes, Planned, GivenShort, LentInBytes, Lent};
+ghost use Rattle.rounds.specs.Writing.{Writable, Written, writtenBy, Changes, Planned, GivenShort, GivenRoom, LentInBytes, Lent};
 ghost use Rattle.rounds.specs.Writing.Outcome.{after};
 use given::widen_word;
 use limits::Word;
@@ -74,16 +74,23 @@ fn write_plan(
     }
 }
 
-// The plan of a round whose words are given in bytes.
-fn decide_given(text: &[u16], table: &[u16], n: usize, u: &[u8], v: &[u8], p: &[u8]) -> Plan
-    requires { ⌜ GivenShort (now text) (now table) n (now u) (now v) (now p) ⌝ }
+// The plan of a round whose words are given in bytes. u and v are widened into lent arrays.
+fn decide_bytes(
+    text: &[u16],
+    table: &[u16],
+    n: usize,
+    u: &[u8],
+    v: &[u8],
+    p: &[u8],
+    wide_u: &mut [u16],
+    wide_v: &mut [u16],
+) -> Plan
+    requires { ⌜ GivenRoom (now text) (now table) n (now u) (now v) (now p) (now «wide_u») (now «wide_v») ⌝ }
     ensures { λ r. ⌜ PlansRound (now (text .entry)) (now (table .entry)) n (now (u .entry)) (now (v .entry)) (now (p .entry)) r ⌝ }
 {
-    let mut wide_u = [0u16; Word::ROUND];
-    let mut wide_v = [0u16; Word::ROUND];
     let mut wide_p = [0u16; Word::MARK];
-    widen_word(u, &mut wide_u);
-    widen_word(v, &mut wide_v);
+    widen_word(u, wide_u);
+    widen_word(v, wide_v);
     widen_word(p, &mut wide_p);
     decide(
         text,
@@ -95,6 +102,32 @@ fn decide_given(text: &[u16], table: &[u16], n: usize, u: &[u8], v: &[u8], p: &[
         &wide_v[..v.len()],
         &wide_p[..p.len()],
     )
+}
+
+// The same with arrays for the longest words.
+fn decide_long(text: &[u16], table: &[u16], n: usize, u: &[u8], v: &[u8], p: &[u8]) -> Plan
+    requires { ⌜ GivenShort (now text) (now table) n (now u) (now v) (now p) ⌝ }
+    ensures { λ r. ⌜ PlansRound (now (text .entry)) (now (table .entry)) n (now (u .entry)) (now (v .entry)) (now (p .entry)) r ⌝ }
+{
+    let mut first = [0u16; Word::ROUND];
+    let mut second = [0u16; Word::ROUND];
+    decide_bytes(text, table, n, u, v, p, &mut first, &mut second)
+}
+
+// The same, with shorter arrays where they suffice.
+fn decide_given(text: &[u16], table: &[u16], n: usize, u: &[u8], v: &[u8], p: &[u8]) -> Plan
+    requires { ⌜ GivenShort (now text) (now table) n (now u) (now v) (now p) ⌝ }
+    ensures { λ r. ⌜ PlansRound (now (text .entry)) (now (table .entry)) n (now (u .entry)) (now (v .entry)) (now (p .entry)) r ⌝ }
+{
+    if given::SHORT < u.len() {
+        return decide_long(text, table, n, u, v, p);
+    }
+    if given::SHORT < v.len() {
+        return decide_long(text, table, n, u, v, p);
+    }
+    let mut first = [0u16; given::SHORT];
+    let mut second = [0u16; given::SHORT];
+    decide_bytes(text, table, n, u, v, p, &mut first, &mut second)
 }
 
 // The single round over a text that ends with its last fence: it is decided over u, v and p, and then the next words are written at the start of the three
