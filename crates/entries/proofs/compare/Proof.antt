@@ -13,6 +13,8 @@ compare-spec =
     (λ c. search compares)
     (λ c. search compares)
     (λ c. search compares)
+    (λ c. search compares)
+    (λ c. search compares)
     (λ c κs. search compares)
     (λ c. search compares)
     (λ c. search compares)
