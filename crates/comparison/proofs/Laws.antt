@@ -40,7 +40,7 @@ use Rattle.comparison.specs.declared.Progress.{Progress}
 use Rattle.comparison.specs.declared.Progress.the-variants.{Ended, Paused}
 use Rattle.comparison.specs.declared.Comparison.{Comparison}
 use Rattle.comparison.specs.declared.Comparison.the-variants.{Same, Different, Refused}
-use Rattle.comparison.specs.State.{heldWord, markWord, HeldFit, MarkHeld, beyondOf, Movable, MarkMovable, advancedOf, advancedMark, movedOf, Applicable, Ready, Fitting, Widenable, Poised, MoveStands, Moving}
+use Rattle.comparison.specs.State.{heldWord, markWord, HeldFit, MarkHeld, beyondOf, Movable, MarkMovable, advancedOf, advancedMark, movedOf, Applicable, ReadyToWiden, Fitting, Widenable, Poised, MoveStands, Moving}
 use Rattle.comparison.specs.Runs.{Ran, ended, paused, runFrom, answered, ranOf, Progressed}
 use Rattle.comparison.specs.Comparing.{answerOf, comparisonOf}
 use Rattle.comparison.proofs.Advancing.{holds-advanced, mark-advanced}
@@ -312,10 +312,17 @@ module _ (text table : List ℕ) (n letters : ℕ) (u v : Word) (allowance : ℕ
   unfolding comparisonOf
   given-compared x f h = rw (← e, f) h
 
-pub given-fitting : (text table : List ℕ) (n letters : ℕ) (u v : Word) (g : Given) → Ready text table n → g ≡ pairOf letters u v → g ≡ Words.Fine → Fitting text table n u v
+pub given-widenable : (text table : List ℕ) (n letters : ℕ) (u v : Word) (a c : List ℕ) (g : Given) → ReadyToWiden text table n u v a c → g ≡ pairOf letters u v → g ≡ Words.Fine
+    → Widenable text table n u v a c
 unfolding pairOf
-given-fitting text table n letters u v g r e f =
+given-widenable text table n letters u v a c g r e f =
     let b = fine-both (givenOf 0 comparedMost letters u) (givenOf 1 comparedMost letters v) (sym e ∙ f) in
-    record { ready = r; first-short = fine-short 0 comparedMost letters u (b .0); second-short = fine-short 1 comparedMost letters v (b .1) }
+    let shortU = fine-short 0 comparedMost letters u (b .0) in
+    let shortV = fine-short 1 comparedMost letters v (b .1) in
+    record {
+      fitting = record { ready = r .ready; first-short = shortU; second-short = shortV };
+      first-room = r .first-room shortU;
+      second-room = r .second-room shortV;
+    }
 
-pub ruleset givens = (given-refused, given-compared, given-fitting, needs)
+pub ruleset givens = (given-refused, given-compared, given-widenable, needs)

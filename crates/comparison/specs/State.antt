@@ -104,6 +104,12 @@ pub record Widenable (text table : List ℕ) (n : ℕ) (first second : Word) (a 
   pub first-room : length first ≤ length a
   pub second-room : length second ≤ length c
 
+-- a checked presentation, and two arrays that have room for two words if these are within the limit
+pub record ReadyToWiden (text table : List ℕ) (n : ℕ) (first second : Word) (a c : List ℕ) : Type 0 where
+  pub ready : Ready text table n
+  pub first-room : length first ≤ comparedMost → length first ≤ length a
+  pub second-room : length second ≤ comparedMost → length second ≤ length c
+
 -- a state from which a round can be made
 pub record Poised (text table : List ℕ) (n : ℕ) (first second : Word) (s : State) : Type 0 where
   pub fitting : Fitting text table n first second

@@ -6,7 +6,7 @@ ghost use lib.ListN.{length, getD};
 ghost use Rattle.plans.specs.Plans.{PlansRound};
 ghost use Rattle.plans.specs.RowPlans.{dropOne};
 ghost use Rattle.layout.specs.Layout.{wordsIn};
-ghost use Rattle.comparison.specs.State.{MarkHeld, beyondOf, Movable, advancedOf, MarkMovable, advancedMark, heldWord, markWord, Ready, Fitting, Widenable, Poised, Applicable, movedOf, Moving};
+ghost use Rattle.comparison.specs.State.{MarkHeld, beyondOf, Movable, advancedOf, MarkMovable, advancedMark, heldWord, markWord, Ready, ReadyToWiden, Fitting, Widenable, Poised, Applicable, movedOf, Moving};
 ghost use Rattle.comparison.specs.Drops.{heldEmpty, HasLetter, markAllows, markLetters, DropsAtOnce};
 ghost use Rattle.comparison.specs.Runs.{Progressed};
 ghost use Rattle.comparison.specs.Comparing.{comparisonOf, answerOf};
@@ -355,56 +355,7 @@ fn compare_bytes(
     )
 }
 
-// The same with arrays of its own, for words that are too long for the lent ones.
-fn compare_long(
-    text: &[u16],
-    table: &[u16],
-    n: usize,
-    u: &[u8],
-    v: &[u8],
-    allowance: u32,
-) -> Comparison
-    requires { ⌜ Fitting (now text) (now table) n (now u) (now v) ⌝ }
-    ensures { λ r. ⌜ r ≡ answerOf (wordsIn (now (text .entry)) (now (table .entry)) n) (now (u .entry)) (now (v .entry)) allowance ⌝ }
-{
-    let mut first = [0u16; Word::COMPARED];
-    let mut second = [0u16; Word::COMPARED];
-    compare_bytes(
-        text,
-        table,
-        n,
-        u,
-        v,
-        &mut first,
-        &mut second,
-        allowance,
-    )
-}
-
-// The same by the lent arrays, where both words have room in them: the usual case, in which no array is made.
-fn compare_checked(
-    text: &[u16],
-    table: &[u16],
-    n: usize,
-    u: &[u8],
-    v: &[u8],
-    wide_u: &mut [u16],
-    wide_v: &mut [u16],
-    allowance: u32,
-) -> Comparison
-    requires { ⌜ Fitting (now text) (now table) n (now u) (now v) ⌝ }
-    ensures { λ r. ⌜ r ≡ answerOf (wordsIn (now (text .entry)) (now (table .entry)) n) (now (u .entry)) (now (v .entry)) allowance ⌝ }
-{
-    if wide_u.len() < u.len() {
-        return compare_long(text, table, n, u, v, allowance);
-    }
-    if wide_v.len() < v.len() {
-        return compare_long(text, table, n, u, v, allowance);
-    }
-    compare_bytes(text, table, n, u, v, wide_u, wide_v, allowance)
-}
-
-// Two given words under a checked presentation, with an allowance of rounds, and arrays to widen words into, as long as the caller likes.
+// Two given words under a checked presentation, with an allowance of rounds, and arrays with room for them if they are within their limit.
 pub fn compare_given(
     text: &[u16],
     table: &[u16],
@@ -416,12 +367,74 @@ pub fn compare_given(
     wide_v: &mut [u16],
     allowance: u32,
 ) -> Comparison
-    requires { ⌜ Ready (now text) (now table) n ⌝ }
+    requires { ⌜ ReadyToWiden (now text) (now table) n (now u) (now v) (now «wide_u») (now «wide_v») ⌝ }
     ensures { λ r. ⌜ r ≡ comparisonOf letters (wordsIn (now (text .entry)) (now (table .entry)) n) (now (u .entry)) (now (v .entry)) allowance ⌝ }
 {
     let given = given::check_pair(letters, u, v);
     match given {
         Given::Refused(refusal) => Comparison::Refused(refusal),
-        Given::Fine => compare_checked(text, table, n, u, v, wide_u, wide_v, allowance),
+        Given::Fine => compare_bytes(text, table, n, u, v, wide_u, wide_v, allowance),
     }
+}
+
+// The same with arrays for the longest words.
+fn compare_long(
+    text: &[u16],
+    table: &[u16],
+    n: usize,
+    letters: u8,
+    u: &[u8],
+    v: &[u8],
+    allowance: u32,
+) -> Comparison
+    requires { ⌜ Ready (now text) (now table) n ⌝ }
+    ensures { λ r. ⌜ r ≡ comparisonOf letters (wordsIn (now (text .entry)) (now (table .entry)) n) (now (u .entry)) (now (v .entry)) allowance ⌝ }
+{
+    let mut first = [0u16; Word::COMPARED];
+    let mut second = [0u16; Word::COMPARED];
+    compare_given(
+        text,
+        table,
+        n,
+        letters,
+        u,
+        v,
+        &mut first,
+        &mut second,
+        allowance,
+    )
+}
+
+// The same with arrays of its own, short ones where they suffice.
+pub fn compare_once(
+    text: &[u16],
+    table: &[u16],
+    n: usize,
+    letters: u8,
+    u: &[u8],
+    v: &[u8],
+    allowance: u32,
+) -> Comparison
+    requires { ⌜ Ready (now text) (now table) n ⌝ }
+    ensures { λ r. ⌜ r ≡ comparisonOf letters (wordsIn (now (text .entry)) (now (table .entry)) n) (now (u .entry)) (now (v .entry)) allowance ⌝ }
+{
+    if given::SHORT < u.len() {
+        return compare_long(text, table, n, letters, u, v, allowance);
+    }
+    if given::SHORT < v.len() {
+        return compare_long(text, table, n, letters, u, v, allowance);
+    }
+    let mut first = [0u16; given::SHORT];
+    let mut second = [0u16; given::SHORT];
+    compare_given(
+        text,
+        table,
+        n,
+        letters,
+        u,
+        v,
+        &mut first,
+        &mut second,
+        allowance,
+    )
 }

@@ -67,19 +67,15 @@ pub fn compare(book: &[u8], u: &[u8], v: &[u8], allowance: u32) -> Comparison
 {
     let mut text = [0u16; Text::ROOM];
     let mut table = [0u16; Table::ROOM];
-    let mut first = [0u16; given::SHORT];
-    let mut second = [0u16; given::SHORT];
     let loaded = presentation::load(book, &mut text, &mut table);
     match loaded {
-        Reading::Read(letters, relations) => comparison::compare_given(
+        Reading::Read(letters, relations) => comparison::compare_once(
             &text,
             &table,
             2 * relations,
             letters,
             u,
             v,
-            &mut first,
-            &mut second,
             allowance,
         ),
         Reading::Refused(refusal) => Comparison::Refused(refusal),

@@ -7,10 +7,12 @@ ghost use Rattle.lines.specs.Lines.{WrittenTo};
 ghost use Rattle.output.specs.Program.{bookEnd, refusedLine, comparisonLine, loadedOutput, programOf};
 ghost use Rattle.output.specs.Requests.{longField, fieldsOf, requestAt};
 ghost use Rattle.output.specs.Writing.{linesUnder, Lined, linesOfAccepted, Accepted, Roomy};
+ghost use Rattle.comparison.specs.Comparing.{comparisonOf};
 ghost use Rattle.comparison.specs.State.{Ready};
 ghost use Rattle.layout.specs.Layout.{wordsIn};
 use comparison::Comparison;
 use comparison::compare_given;
+use comparison::compare_once;
 use format::Reading;
 use layout::Table;
 use layout::Text;
@@ -115,8 +117,31 @@ pub fn put_comparison(out: &mut [u8], at: usize, comparison: Comparison) -> usiz
     }
 }
 
-// Writes the lines of the comparison records from a position on, behind each other from a place of the buffer on, and answers the place behind them. Two arrays
-// for widened words serve all comparisons of short words.
+// The comparison of two words that a record has. The lent arrays serve short words, so that no array is made for each record.
+fn compare_record(
+    text: &[u16],
+    table: &[u16],
+    n: usize,
+    letters: u8,
+    u: &[u8],
+    v: &[u8],
+    wide_u: &mut [u16],
+    wide_v: &mut [u16],
+    allowance: u32,
+) -> Comparison
+    requires { ⌜ Ready (now text) (now table) n ⌝ }
+    ensures { λ r. ⌜ r ≡ comparisonOf letters (wordsIn (now (text .entry)) (now (table .entry)) n) (now (u .entry)) (now (v .entry)) allowance ⌝ }
+{
+    if wide_u.len() < u.len() {
+        return compare_once(text, table, n, letters, u, v, allowance);
+    }
+    if wide_v.len() < v.len() {
+        return compare_once(text, table, n, letters, u, v, allowance);
+    }
+    compare_given(text, table, n, letters, u, v, wide_u, wide_v, allowance)
+}
+
+// Writes the lines of the comparison records from a position on, behind each other from a place of the buffer on, and answers the place behind them.
 pub fn write_lines(
     text: &[u16],
     table: &[u16],
@@ -139,7 +164,7 @@ pub fn write_lines(
         match request {
             Request::Refused(refusal) => return put_refusal(out, end, refusal),
             Request::Compare(allowance, first, second, next) => {
-                let comparison = compare_given(
+                let comparison = compare_record(
                     text,
                     table,
                     n,
