@@ -16,20 +16,20 @@ use Rattle.layout.specs.Layout.{part}
 use Rattle.layout.proofs.Parts.{part-none, part-drop}
 use Rattle.plans.specs.declared.Change.{Change}
 use Rattle.plans.specs.Plans.{applied, Fit, MarkFit}
-use Rattle.comparison.specs.declared.Held.{Held}
+use Rattle.comparison.specs.declared.PlacedWord.{PlacedWord}
 use Rattle.comparison.specs.declared.Mark.{Mark}
-use Rattle.comparison.specs.State.{heldWord, markWord, HeldFit, MarkHeld, advancedOf, advancedMark}
+use Rattle.comparison.specs.State.{heldWord, markWord, WordFits, MarkFits, advancedOf, advancedMark}
 
 -- a held word that stands for w
-pub record Holds (text : List ℕ) (B : List Word) (source w : Word) (h : Held) : Type 0 where
-  pub fit : HeldFit text B source h
+pub record Holds (text : List ℕ) (B : List Word) (source w : Word) (h : PlacedWord) : Type 0 where
+  pub fit : WordFits text B source h
   pub same : heldWord text source h ≡ w
 
 pub record MarkHolds (text : List ℕ) (p : Word) (m : Mark) : Type 0 where
-  pub fit : MarkHeld text m
+  pub fit : MarkFits text m
   pub same : markWord text m ≡ p
 
-module _ (text : List ℕ) (B : List Word) (cut4 : Facts B) (source : Word) (h : Held) (f : HeldFit text B source h) (c : Change) (g : Fit text B (heldWord text source h) c) where
+module _ (text : List ℕ) (B : List Word) (cut4 : Facts B) (source : Word) (h : PlacedWord) (f : WordFits text B source h) (c : Change) (g : Fit text B (heldWord text source h) c) where
   z : Word
   z = part text (h .at) (h .to)
 
@@ -111,7 +111,7 @@ module _ (text : List ℕ) (B : List Word) (cut4 : Facts B) (source : Word) (h :
       go false e true d = rw (e, d) (shortened (ltb-false _ _ e) (ltb-true _ _ d))
       go false e false d = rw (e, d) (emptied (ltb-false _ _ e) (ltb-false _ _ d))
 
-module _ (text : List ℕ) (B : List Word) (m : Mark) (f : MarkHeld text m) (c : Change) (g : MarkFit text B (markWord text m) c) where
+module _ (text : List ℕ) (B : List Word) (m : Mark) (f : MarkFits text m) (c : Change) (g : MarkFit text B (markWord text m) c) where
   mark-length : length (markWord text m) ≡ m .to - m .at
   mark-length = part-length text (m .at) (m .to) (f .inside)
 

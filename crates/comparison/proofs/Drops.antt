@@ -21,16 +21,16 @@ use Rattle.rows.proofs.FirstLetters.{begins-none}
 use Rattle.plans.specs.declared.Plan.the-variants as Plans
 use Rattle.plans.specs.RowPlans.{cutBy, dropOne}
 use Rattle.plans.proofs.Drops.{drop-plan}
-use Rattle.comparison.specs.declared.Held.{Held}
+use Rattle.comparison.specs.declared.PlacedWord.{PlacedWord}
 use Rattle.comparison.specs.declared.Mark.{Mark}
 use Rattle.comparison.specs.declared.State.{State}
 use Rattle.comparison.specs.declared.Move.{Move}
-use Rattle.comparison.specs.State.{heldWord, markWord, HeldFit, MarkHeld, Poised, Applicable, movedOf, Moving}
+use Rattle.comparison.specs.State.{heldWord, markWord, WordFits, MarkFits, StateReady, Applicable, movedOf, Moving}
 use Rattle.comparison.specs.Drops.{heldEmpty, HasLetter, markAllows, markLetters, DropsAtOnce}
 use Rattle.comparison.proofs.Laws.{move-applicable, move-made}
 
 -- whether a held word has a letter
-module _ (long : ℕ) (h : Held) where
+module _ (long : ℕ) (h : PlacedWord) where
   pub empty-part : h .at < h .to → false ≡ heldEmpty long h
   unfolding heldEmpty
   empty-part l = rw (lt-ltb _ _ l)
@@ -42,7 +42,7 @@ module _ (long : ℕ) (h : Held) where
 pub ruleset heldEmpties = (empty-part, empty-rest, needs)
 
 -- its first letter
-module _ (text : List ℕ) (source : Word) (h : Held) (f : HasLetter text source h) where
+module _ (text : List ℕ) (source : Word) (h : PlacedWord) (f : HasLetter text source h) where
   rest-there : h .to ≤ h .at → h .from < length source
   unfolding heldEmpty
   rest-there l = leb-false (length source) (h .from) (rw (le-ltb _ _ l) at (f .some))
@@ -76,7 +76,7 @@ some-of : (w : Word) → 0 < length w → isEmpty w ≡ false
 some-of [] e = absurd (omega arith)
 some-of (x ∷ w) e = refl
 
-module _ (text : List ℕ) (m : Mark) (x : ℕ) (f : MarkHeld text m) where
+module _ (text : List ℕ) (m : Mark) (x : ℕ) (f : MarkFits text m) where
   pub mark-place : m .at < m .to → m .at < length text
   mark-place l = let i = f .inside in omega arith
 
@@ -94,17 +94,17 @@ module _ (text : List ℕ) (m : Mark) (x : ℕ) (f : MarkHeld text m) where
 pub ruleset marksAllow = (mark-place, mark-letter, mark-empty, needs)
 
 -- whether the round drops a letter at once
-module _ (text table : List ℕ) (n : ℕ) (first second : Word) (s : State) (p : Poised text table n first second s) where
+module _ (text table : List ℕ) (n : ℕ) (first second : Word) (s : State) (p : StateReady text table n first second s) where
   pub drops-not : DropsAtOnce text table n first second s false
   drops-not = record { plan = λ e. absurd (true≢false (sym e)) }
 
   pub table-long : length table ≡ tableRoom
   table-long = p .fitting .ready .paired .checked .indexed .room
 
-  pub mark-held : MarkHeld text (s .mark)
+  pub mark-held : MarkFits text (s .mark)
   mark-held = p .standing .mark
 
-  held-some : (source : Word) (h : Held) → HeldFit text (wordsIn text table n) source h → heldEmpty (length source) h ≡ false → isEmpty (heldWord text source h) ≡ false
+  held-some : (source : Word) (h : PlacedWord) → WordFits text (wordsIn text table n) source h → heldEmpty (length source) h ≡ false → isEmpty (heldWord text source h) ≡ false
   unfolding heldEmpty
   held-some source h f e =
       let i = f .inside in
@@ -164,7 +164,7 @@ dropped-none s r l e = rw (le-ltb _ _ l) e
 pub ruleset droppings = (drop-some, drop-none, dropped-some, dropped-none, needs)
 
 -- one round, dropped at once
-module _ (text table : List ℕ) (n : ℕ) (first second : Word) (s : State) (p : Poised text table n first second s) (x : Bool) (d : DropsAtOnce text table n first second s x) (e : x ≡ true) where
+module _ (text table : List ℕ) (n : ℕ) (first second : Word) (s : State) (p : StateReady text table n first second s) (x : Bool) (d : DropsAtOnce text table n first second s x) (e : x ≡ true) where
   pub drop-applicable : Applicable s (dropOne (markLetters (s .mark)))
   drop-applicable = move-applicable text table n first second s p (dropOne (markLetters (s .mark))) (d .plan e)
 

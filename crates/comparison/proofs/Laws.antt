@@ -31,7 +31,7 @@ use Rattle.given.specs.declared.Given.the-variants as Words
 use Rattle.given.specs.Given.{givenOf, pairOf, Widened}
 use Rattle.given.proofs.Laws.{fine-short, fine-both}
 use Rattle.limits.specs.Limits.{comparedMost}
-use Rattle.comparison.specs.declared.Held.{Held}
+use Rattle.comparison.specs.declared.PlacedWord.{PlacedWord}
 use Rattle.comparison.specs.declared.Mark.{Mark}
 use Rattle.comparison.specs.declared.State.{State}
 use Rattle.comparison.specs.declared.Move.{Move}
@@ -40,13 +40,13 @@ use Rattle.comparison.specs.declared.Progress.{Progress}
 use Rattle.comparison.specs.declared.Progress.the-variants.{Ended, Paused}
 use Rattle.comparison.specs.declared.Comparison.{Comparison}
 use Rattle.comparison.specs.declared.Comparison.the-variants.{Same, Different, Refused}
-use Rattle.comparison.specs.State.{heldWord, markWord, HeldFit, MarkHeld, beyondOf, Movable, MarkMovable, advancedOf, advancedMark, movedOf, Applicable, ReadyToWiden, Fitting, Widenable, Poised, MoveStands, Moving}
+use Rattle.comparison.specs.State.{heldWord, markWord, WordFits, MarkFits, beyondOf, Movable, MarkMovable, advancedOf, advancedMark, movedOf, Applicable, ReadyToWiden, Fitting, Widenable, StateReady, MoveFits, Moving}
 use Rattle.comparison.specs.Runs.{Ran, ended, paused, runFrom, answered, ranOf, Progressed}
 use Rattle.comparison.specs.Comparing.{answerOf, comparisonOf}
 use Rattle.comparison.proofs.Advancing.{holds-advanced, mark-advanced}
 
 -- the word after a change
-module _ (h : Held) (c : Change) (r : ℕ) (e : r ≡ beyondOf (c .cut) (h .to - h .at)) where
+module _ (h : PlacedWord) (c : Change) (r : ℕ) (e : r ≡ beyondOf (c .cut) (h .to - h .at)) where
   pub advance-replaced : c .from < c .to → record { at = c .from; to = c .to; from = h .from + r } ≡ advancedOf h c
   unfolding advancedOf
   advance-replaced l = rw (e, lt-ltb _ _ l)
@@ -55,7 +55,7 @@ module _ (h : Held) (c : Change) (r : ℕ) (e : r ≡ beyondOf (c .cut) (h .to -
   unfolding advancedOf
   advance-emptied l k = rw (e, le-ltb _ _ l, le-ltb _ _ k)
 
-pub advance-shortened : (h : Held) (c : Change) → c .to ≤ c .from → c .cut < h .to - h .at
+pub advance-shortened : (h : PlacedWord) (c : Change) → c .to ≤ c .from → c .cut < h .to - h .at
     → record { at = h .at + c .cut; to = h .to; from = h .from } ≡ advancedOf h c
 unfolding advancedOf
 advance-shortened h c l k = rw (le-ltb _ _ l, lt-ltb _ _ k)
@@ -75,7 +75,7 @@ pub plan-held : (text table : List ℕ) (n : ℕ) (first second : Word) (s : Sta
 plan-held text table n first second s r d = rw (rest-lent first (s .u .from), rest-lent second (s .v .from)) at d
 
 -- the lent parts lie in what they are parts of
-module _ (text table : List ℕ) (n : ℕ) (first second : Word) (s : State) (p : Poised text table n first second s) where
+module _ (text table : List ℕ) (n : ℕ) (first second : Word) (s : State) (p : StateReady text table n first second s) where
   pub poised-paired : Paired text table n
   poised-paired = p .fitting .ready .paired
 
@@ -123,14 +123,14 @@ module _ (s : State) (plan : Plan) (a : Applicable s plan) where
     pub movable-mark : MarkMovable (s .mark) cp
     movable-mark = movables .2
 
-    pub carried-next : (hu hv : Held) (m : Mark) → hu ≡ advancedOf (s .u) cu → hv ≡ advancedOf (s .v) cv → m ≡ advancedMark (s .mark) cp
+    pub carried-next : (hu hv : PlacedWord) (m : Mark) → hu ≡ advancedOf (s .u) cu → hv ≡ advancedOf (s .v) cv → m ≡ advancedMark (s .mark) cp
         → Moves.Next (record { u = hu; v = hv; mark = m }) ≡ movedOf s plan
     carried-next hu hv m f g h = rw (e, f, g, h)
 
 pub ruleset carries = (carried-end, movable-u, movable-v, movable-mark, carried-next, needs)
 
 -- one step is one round
-module _ (text table : List ℕ) (n : ℕ) (first second : Word) (s : State) (p : Poised text table n first second s) where
+module _ (text table : List ℕ) (n : ℕ) (first second : Word) (s : State) (p : StateReady text table n first second s) where
   words : List Word
   words = wordsIn text table n
 
@@ -138,7 +138,7 @@ module _ (text table : List ℕ) (n : ℕ) (first second : Word) (s : State) (p 
   unfolding words
   cuts = rigid-of-c4 (wordsIn text table n) (p .fitting .ready .paired .checked .accepted)
 
-  movable-of-fit : (source : Word) → length source ≤ 65536 → (h : Held) → HeldFit text words source h → (c : Change) → Fit text words (heldWord text source h) c → Movable h c
+  movable-of-fit : (source : Word) → length source ≤ 65536 → (h : PlacedWord) → WordFits text words source h → (c : Change) → Fit text words (heldWord text source h) c → Movable h c
   movable-of-fit source k h f c g =
       let l = length-append (part text (h .at) (h .to)) (drop (h .from) source) in
       let m = part-length text (h .at) (h .to) (f .inside) in
@@ -150,7 +150,7 @@ module _ (text table : List ℕ) (n : ℕ) (first second : Word) (s : State) (p 
         small = omega (arith, g .within, f .inside, p .fitting .ready .text-short);
       }
 
-  mark-of-fit : (m : Mark) → MarkHeld text m → (c : Change) → MarkFit text words (markWord text m) c → MarkMovable m c
+  mark-of-fit : (m : Mark) → MarkFits text m → (c : Change) → MarkFit text words (markWord text m) c → MarkMovable m c
   mark-of-fit m f c g =
       let l = part-length text (m .at) (m .to) (f .inside) in
       record { low = omega (arith, f .up, f .inside, p .fitting .ready .text-short); small = omega (arith, g .within, f .inside, p .fitting .ready .text-short) }
@@ -194,11 +194,11 @@ module _ (text table : List ℕ) (n : ℕ) (first second : Word) where
 
 -- `done` rounds are made, and the rest from s gives what the rounds from the start give
 pub record Going (text table : List ℕ) (n : ℕ) (first second : Word) (start : State) (budget : ℕ) (s : State) (done : ℕ) : Type 0 where
-  pub poised : Poised text table n first second s
+  pub poised : StateReady text table n first second s
   pub allowed : done ≤ budget
   pub same : runOf text table n first second budget 0 start ≡ runOf text table n first second (budget - done) done s
 
-pub going-start : (text table : List ℕ) (n : ℕ) (first second : Word) (s : State) (budget : ℕ) → Poised text table n first second s
+pub going-start : (text table : List ℕ) (n : ℕ) (first second : Word) (s : State) (budget : ℕ) → StateReady text table n first second s
     → Going text table n first second s budget s 0
 going-start text table n first second s budget p =
     let e : budget - 0 ≡ budget = omega arith in
@@ -236,7 +236,7 @@ module _ (text table : List ℕ) (n : ℕ) (first second : Word) (start : State)
     going-more h =
         let z : budget - done ≡ suc (budget - (done + 1)) = omega arith in
         record {
-          poised = record { fitting = g .poised .fitting; standing = subst (MoveStands text (wordsIn text table n) first second) e (f .stands) };
+          poised = record { fitting = g .poised .fitting; standing = subst (MoveFits text (wordsIn text table n) first second) e (f .stands) };
           allowed = omega arith;
           same = (rw z at (g .same)) ∙ one-more (budget - (done + 1));
         }
@@ -245,7 +245,7 @@ pub ruleset goings = (going-start, going-end, going-paused, going-more, needs)
 
 -- the rows' answer for two words, from the start
 pub whole-poised : (text table : List ℕ) (n : ℕ) (u v : Word) → Fitting text table n u v
-    → Poised text table n u v (record { u = record { at = 0; to = 0; from = 0 }; v = record { at = 0; to = 0; from = 0 }; mark = record { at = 0; to = 0 } })
+    → StateReady text table n u v (record { u = record { at = 0; to = 0; from = 0 }; v = record { at = 0; to = 0; from = 0 }; mark = record { at = 0; to = 0 } })
 whole-poised text table n u v f =
     let q = quiet-nil (wordsIn text table n) (rigid-of-c4 (wordsIn text table n) (f .ready .paired .checked .accepted)) in
     record {

@@ -8,17 +8,17 @@ use lib.ListN.{length, getD}
 use Rattle.words.specs.Words.{Word, isEmpty}
 use Rattle.plans.specs.Plans.{PlansRound}
 use Rattle.plans.specs.RowPlans.{dropOne}
-use Rattle.comparison.specs.declared.Held.{Held}
+use Rattle.comparison.specs.declared.PlacedWord.{PlacedWord}
 use Rattle.comparison.specs.declared.Mark.{Mark}
 use Rattle.comparison.specs.declared.State.{State}
 use Rattle.comparison.specs.State.{heldWord, markWord}
 
 -- a held word has no letter, where the given word has so many
-unfoldable pub heldEmpty : ℕ → Held → Bool
+unfoldable pub heldEmpty : ℕ → PlacedWord → Bool
 heldEmpty long h = cond (ltb (h .at) (h .to)) false (leb long (h .from))
 
 -- a held word that has a letter; its part of the text lies in the text
-pub record HasLetter (text : List ℕ) (source : Word) (h : Held) : Type 0 where
+pub record HasLetter (text : List ℕ) (source : Word) (h : PlacedWord) : Type 0 where
   pub inside : h .to ≤ length text
   pub some : heldEmpty (length source) h ≡ false
 

@@ -12,7 +12,7 @@ use Rattle.layout.specs.Layout.{wordsIn}
 use Rattle.comparison.specs.declared.State.{State}
 use Rattle.comparison.specs.declared.Progress.{Progress}
 use Rattle.comparison.specs.declared.Progress.the-variants.{Ended, Paused}
-use Rattle.comparison.specs.State.{heldWord, markWord, Standing}
+use Rattle.comparison.specs.State.{heldWord, markWord, StateFits}
 
 -- the end after some rounds, or the words from which another round is due
 pub data Ran : Type 0 where
@@ -39,11 +39,11 @@ ranOf text first second (Ended b n) = ended b n
 ranOf text first second (Paused s n) = paused (heldWord text first (s .u)) (heldWord text second (s .v)) (markWord text (s .mark)) n
 
 -- a state that comes back stands
-abbrev pub ProgressStands : List ℕ → List Word → Word → Word → Progress → Type 0
-ProgressStands text B first second (Ended b n) = Unit {0}
-ProgressStands text B first second (Paused s n) = Standing text B first second s
+abbrev pub ProgressFits : List ℕ → List Word → Word → Word → Progress → Type 0
+ProgressFits text B first second (Ended b n) = Unit {0}
+ProgressFits text B first second (Paused s n) = StateFits text B first second s
 
 -- the rounds made are those of the rows from the words that the state stands for, at most so many
 pub record Progressed (text table : List ℕ) (n : ℕ) (first second : Word) (s : State) (budget : ℕ) (r : Progress) : Type 0 where
   pub same : ranOf text first second r ≡ runFrom (wordsIn text table n) budget 0 (heldWord text first (s .u)) (heldWord text second (s .v)) (markWord text (s .mark))
-  pub stands : ProgressStands text (wordsIn text table n) first second r
+  pub stands : ProgressFits text (wordsIn text table n) first second r

@@ -15,14 +15,14 @@ use Rattle.plans.specs.declared.Plan.{Plan}
 use Rattle.plans.specs.declared.Plan.the-variants as Plans
 use Rattle.rows.specs.Sites.{Paired}
 use Rattle.limits.specs.Limits.{comparedMost}
-use Rattle.comparison.specs.declared.Held.{Held}
+use Rattle.comparison.specs.declared.PlacedWord.{PlacedWord}
 use Rattle.comparison.specs.declared.Mark.{Mark}
 use Rattle.comparison.specs.declared.State.{State}
 use Rattle.comparison.specs.declared.Move.{Move}
 use Rattle.comparison.specs.declared.Move.the-variants as Moves
 
 -- the word that is held
-abbrev pub heldWord : List ℕ → Word → Held → Word
+abbrev pub heldWord : List ℕ → Word → PlacedWord → Word
 heldWord text source h = part text (h .at) (h .to) ++ drop (h .from) source
 
 -- the front mark
@@ -30,37 +30,37 @@ abbrev pub markWord : List ℕ → Mark → Word
 markWord text m = part text (m .at) (m .to)
 
 -- a held word lies in the text and in the given word, and no X and Y stands in its part of the text
-pub record HeldFit (text : List ℕ) (B : List Word) (source : Word) (h : Held) : Type 0 where
+pub record WordFits (text : List ℕ) (B : List Word) (source : Word) (h : PlacedWord) : Type 0 where
   pub up : h .at ≤ h .to
   pub inside : h .to ≤ length text
   pub short : h .to ≤ h .at + 64
   pub within : h .from ≤ length source
   pub quiet : NoRelationPrefix B (part text (h .at) (h .to))
 
-pub record MarkHeld (text : List ℕ) (m : Mark) : Type 0 where
+pub record MarkFits (text : List ℕ) (m : Mark) : Type 0 where
   pub up : m .at ≤ m .to
   pub inside : m .to ≤ length text
   pub short : m .to ≤ m .at + 64
 
 -- a state whose words and mark are held
-pub record Standing (text : List ℕ) (B : List Word) (first second : Word) (s : State) : Type 0 where
-  pub u : HeldFit text B first (s .u)
-  pub v : HeldFit text B second (s .v)
-  pub mark : MarkHeld text (s .mark)
+pub record StateFits (text : List ℕ) (B : List Word) (first second : Word) (s : State) : Type 0 where
+  pub u : WordFits text B first (s .u)
+  pub v : WordFits text B second (s .v)
+  pub mark : MarkFits text (s .mark)
 
 -- how far a cut goes beyond a part of some length
 abbrev pub beyondOf : ℕ → ℕ → ℕ
 beyondOf cut length = cut - length
 
 -- what a change asks of the word that it is made to: no difference and no sum of the code leaves its range
-pub record Movable (h : Held) (c : Change) : Type 0 where
+pub record Movable (h : PlacedWord) (c : Change) : Type 0 where
   pub up : h .at ≤ h .to
   pub low : h .to ≤ 65536
   pub early : h .from ≤ 65536
   pub small : c .cut ≤ 131072
 
 -- the word after a change: a new part of the text takes the place of the old one, or the cut leaves some of the old one, or none
-unfoldable pub advancedOf : Held → Change → Held
+unfoldable pub advancedOf : PlacedWord → Change → PlacedWord
 advancedOf h c =
     cond (ltb (c .from) (c .to)) (record { at = c .from; to = c .to; from = h .from + (c .cut - (h .to - h .at)) })
     (cond (ltb (c .cut) (h .to - h .at)) (record { at = h .at + c .cut; to = h .to; from = h .from })
@@ -111,9 +111,9 @@ pub record ReadyToWiden (text table : List ℕ) (n : ℕ) (first second : Word) 
   pub second-room : length second ≤ comparedMost → length second ≤ length c
 
 -- a state from which a round can be made
-pub record Poised (text table : List ℕ) (n : ℕ) (first second : Word) (s : State) : Type 0 where
+pub record StateReady (text table : List ℕ) (n : ℕ) (first second : Word) (s : State) : Type 0 where
   pub fitting : Fitting text table n first second
-  pub standing : Standing text (wordsIn text table n) first second s
+  pub standing : StateFits text (wordsIn text table n) first second s
 
 -- a step in the words of the rows
 abbrev pub moveNext : List ℕ → Word → Word → Move → Next
@@ -121,11 +121,11 @@ moveNext text first second (Moves.End b) = end b
 moveNext text first second (Moves.Next s) = go (heldWord text first (s .u)) (heldWord text second (s .v)) (markWord text (s .mark))
 
 -- the next state, if there is one, stands
-abbrev pub MoveStands : List ℕ → List Word → Word → Word → Move → Type 0
-MoveStands text B first second (Moves.End b) = Unit {0}
-MoveStands text B first second (Moves.Next s) = Standing text B first second s
+abbrev pub MoveFits : List ℕ → List Word → Word → Word → Move → Type 0
+MoveFits text B first second (Moves.End b) = Unit {0}
+MoveFits text B first second (Moves.Next s) = StateFits text B first second s
 
 -- one step of a state is one round of the rows from the words that it stands for
 pub record Moving (text table : List ℕ) (n : ℕ) (first second : Word) (s : State) (step : Move) : Type 0 where
   pub same : moveNext text first second step ≡ round (wordsIn text table n) (heldWord text first (s .u)) (heldWord text second (s .v)) (markWord text (s .mark))
-  pub stands : MoveStands text (wordsIn text table n) first second step
+  pub stands : MoveFits text (wordsIn text table n) first second step

@@ -6,7 +6,7 @@ ghost use lib.ListN.{length, getD};
 ghost use Rattle.plans.specs.Plans.{PlansRound};
 ghost use Rattle.plans.specs.RowPlans.{dropOne};
 ghost use Rattle.layout.specs.Layout.{wordsIn};
-ghost use Rattle.comparison.specs.State.{MarkHeld, beyondOf, Movable, advancedOf, MarkMovable, advancedMark, heldWord, markWord, Ready, ReadyToWiden, Fitting, Widenable, Poised, Applicable, movedOf, Moving};
+ghost use Rattle.comparison.specs.State.{MarkFits, beyondOf, Movable, advancedOf, MarkMovable, advancedMark, heldWord, markWord, Ready, ReadyToWiden, Fitting, Widenable, StateReady, Applicable, movedOf, Moving};
 ghost use Rattle.comparison.specs.Drops.{heldEmpty, HasLetter, markAllows, markLetters, DropsAtOnce};
 ghost use Rattle.comparison.specs.Runs.{Progressed};
 ghost use Rattle.comparison.specs.Comparing.{comparisonOf, answerOf};
@@ -18,7 +18,7 @@ use plans::Plan;
 use refusals::Refusal;
 
 // A word: text[at..to], then the given word from `from` on.
-pub struct Held {
+pub struct PlacedWord {
     pub at: usize,
     pub to: usize,
     pub from: usize,
@@ -32,8 +32,8 @@ pub struct Mark {
 
 // What a comparison goes on from: u, v and the front mark p.
 pub struct State {
-    pub u: Held,
-    pub v: Held,
+    pub u: PlacedWord,
+    pub v: PlacedWord,
     pub mark: Mark,
 }
 
@@ -67,27 +67,27 @@ fn beyond(cut: usize, length: usize) -> usize
 }
 
 // The word after a change.
-fn advance(h: Held, c: Change) -> Held
+fn advance(h: PlacedWord, c: Change) -> PlacedWord
     requires { ⌜ Movable h c ⌝ }
     ensures { λ r. ⌜ r ≡ advancedOf h c ⌝ }
 {
     let tail = h.to - h.at;
     let next = h.from + beyond(c.cut, tail);
     if c.from < c.to {
-        return Held {
+        return PlacedWord {
             at: c.from,
             to: c.to,
             from: next,
         };
     }
     if c.cut < tail {
-        return Held {
+        return PlacedWord {
             at: h.at + c.cut,
             to: h.to,
             from: h.from,
         };
     }
-    Held {
+    PlacedWord {
         at: h.to,
         to: h.to,
         from: next,
@@ -113,7 +113,7 @@ fn advance_mark(m: Mark, c: Change) -> Mark
 
 // What the round of a state does, over its words as they are held.
 fn plan_of(text: &[u16], table: &[u16], n: usize, first: &[u16], second: &[u16], s: State) -> Plan
-    requires { ⌜ Poised (now text) (now table) n (now first) (now second) s ⌝ }
+    requires { ⌜ StateReady (now text) (now table) n (now first) (now second) s ⌝ }
     ensures { λ r. ⌜ PlansRound (now (text .entry)) (now (table .entry)) n (heldWord (now (text .entry)) (now (first .entry)) (s .u)) (heldWord (now (text .entry)) (now (second .entry)) (s .v)) (markWord (now (text .entry)) (s .mark)) r ⌝ }
 {
     let u = s.u;
@@ -155,7 +155,7 @@ fn carry_out(s: State, plan: Plan) -> Move
 }
 
 // Whether a held word has no letter.
-fn held_empty(given: &[u16], h: Held) -> bool
+fn held_empty(given: &[u16], h: PlacedWord) -> bool
     ensures { λ r. ⌜ r ≡ heldEmpty (length (now (given .entry))) h ⌝ }
 {
     if h.at < h.to {
@@ -165,7 +165,7 @@ fn held_empty(given: &[u16], h: Held) -> bool
 }
 
 // The first letter of a held word.
-fn first_letter(text: &[u16], given: &[u16], h: Held) -> u16
+fn first_letter(text: &[u16], given: &[u16], h: PlacedWord) -> u16
     requires { ⌜ HasLetter (now text) (now given) h ⌝ }
     ensures { λ r. ⌜ r ≡ getD (heldWord (now (text .entry)) (now (given .entry)) h) 0 0 ⌝ }
 {
@@ -179,7 +179,7 @@ fn first_letter(text: &[u16], given: &[u16], h: Held) -> u16
 
 // Whether the front mark is empty or begins with x.
 fn mark_allows(text: &[u16], m: Mark, x: u16) -> bool
-    requires { ⌜ MarkHeld (now text) m ⌝ }
+    requires { ⌜ MarkFits (now text) m ⌝ }
     ensures { λ r. ⌜ r ≡ markAllows (now (text .entry)) m x ⌝ }
 {
     let at = m.at;
@@ -198,7 +198,7 @@ fn drops_at_once(
     second: &[u16],
     s: State,
 ) -> bool
-    requires { ⌜ Poised (now text) (now table) n (now first) (now second) s ⌝ }
+    requires { ⌜ StateReady (now text) (now table) n (now first) (now second) s ⌝ }
     ensures { λ r. ⌜ DropsAtOnce (now (text .entry)) (now (table .entry)) n (now (first .entry)) (now (second .entry)) s r ⌝ }
 {
     if held_empty(first, s.u) {
@@ -255,7 +255,7 @@ pub fn make_move(
     second: &[u16],
     s: State,
 ) -> Move
-    requires { ⌜ Poised (now text) (now table) n (now first) (now second) s ⌝ }
+    requires { ⌜ StateReady (now text) (now table) n (now first) (now second) s ⌝ }
     ensures { λ r. ⌜ Moving (now (text .entry)) (now (table .entry)) n (now (first .entry)) (now (second .entry)) s r ⌝ }
 {
     if drops_at_once(text, table, n, first, second, s) {
@@ -275,7 +275,7 @@ pub fn make_rounds(
     start: State,
     budget: u32,
 ) -> Progress
-    requires { ⌜ Poised (now text) (now table) n (now first) (now second) start ⌝ }
+    requires { ⌜ StateReady (now text) (now table) n (now first) (now second) start ⌝ }
     ensures { λ r. ⌜ Progressed (now (text .entry)) (now (table .entry)) n (now (first .entry)) (now (second .entry)) start budget r ⌝ }
 {
     let mut s = start;
@@ -307,7 +307,7 @@ fn compare_words(
     requires { ⌜ Fitting (now text) (now table) n (now u) (now v) ⌝ }
     ensures { λ r. ⌜ r ≡ answerOf (wordsIn (now (text .entry)) (now (table .entry)) n) (now (u .entry)) (now (v .entry)) allowance ⌝ }
 {
-    let whole = Held {
+    let whole = PlacedWord {
         at: 0,
         to: 0,
         from: 0,

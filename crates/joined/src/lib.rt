@@ -30,7 +30,14 @@ pub fn letter_at(a: &[u16], b: &[u16], q: usize) -> u16
 }
 
 // How many letters of text[from..to) agree with s at place q, where m are known to.
-pub fn common_prefix_in(text: &[u16], from: usize, to: usize, s: &[u16], q: usize, m: usize) -> usize
+pub fn common_prefix_in(
+    text: &[u16],
+    from: usize,
+    to: usize,
+    s: &[u16],
+    q: usize,
+    m: usize,
+) -> usize
     requires { ⌜ Agreed (now text) from to (now s) q m ⌝ }
     ensures { λ r. ⌜ r ≡ commonPrefix (part (now (text .entry)) from to) (drop q (now (s .entry))) ⌝ }
 {
