@@ -1,7 +1,7 @@
 #!/usr/bin/env python3
 """Holds the C header, the Rust wrapper and the book tool to the proved sources: limits, sizes, structs, outcomes, the version, and refusals.
 
-The list of refusals is the definition `numbered` (specs/Refusals.antt) beside the enum `Refusal`: a case that has no number there, or whose number is missing
+The list of refusals is the definition `numberAndPlace` (crates/refusals/specs/Refusals.antt) beside the enum `Refusal`: a case that has no number there, or whose number is missing
 anywhere else (the header's macros and texts, the wrapper's reasons and texts, the tool's explanations), fails. It ends with 1 and a line for each fault.
 """
 
@@ -148,8 +148,8 @@ def functions():
 
 def defined_refusals():
     """The number of each case by the definition, and a line for each case of the enum that it lacks or has twice."""
-    definition = next(ROOT.glob("crates/*/specs/Refusals.antt")).read_text()
-    numbers = {case: int(number) for case, number in re.findall(r"^numbered \(?(\w+).*number = (\d+)", definition, re.M)}
+    definition = (ROOT / "crates/refusals/specs/Refusals.antt").read_text()
+    numbers = {case: int(number) for case, number in re.findall(r"^numberAndPlace \(?(\w+).*number = (\d+)", definition, re.M)}
     enum = next(re.search(r"^pub enum Refusal \{\n(.*?)^\}", text, re.M | re.S) for text in SOURCES.values() if "pub enum Refusal {" in text)[1]
     cases = re.findall(r"^    (\w+)", enum, re.M)
     lines = [f"Refusal::{case} has no number in the definition" for case in cases if case not in numbers]
@@ -185,10 +185,9 @@ def refusals(header):
     for where, known in [("the wrapper's list", len(listed)), ("the wrapper's enum", len(variants)), ("the header's texts", len(texts)), ("the book tool's", len(told))]:
         if known != len(expected):
             yield f"there are {len(expected)} refusals: of {where} there are {known}"
-    if SPECIFICATION.exists():
-        section = re.search(r"^## Refusals by number\n(.*?)^##", SPECIFICATION.read_text(), re.M | re.S)[1]
-        table = {int(number): word for number, word in re.findall(r"^\| (\d+) \| ([a-z ]+) \|", section, re.M)}
-        yield from differ("the table of refusals", expected, {"docs/SPECIFICATION.md": table})
+    section = re.search(r"^## Refusals by number\n(.*?)^##", SPECIFICATION.read_text(), re.M | re.S)[1]
+    table = {int(number): word for number, word in re.findall(r"^\| (\d+) \| ([a-z ]+) \|", section, re.M)}
+    yield from differ("the table of refusals", expected, {"docs/SPECIFICATION.md": table})
 
 
 def main():

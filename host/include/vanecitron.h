@@ -15,8 +15,8 @@
  *
  * Calls
  *   Calls are reentrant: any number of threads may call any functions at the same time, as long as no buffer that one call writes is used by another.
- *   Every call checks its book again, since nothing is kept between calls: under a microsecond for a book of one rule with sides of 4 steps, 5
- *   microseconds for one with sides of 64, and 1.4 milliseconds for a full book, 32 such rules (docs/DECISIONS.md, "Cost grows"). vanecitron_program
+ *   Every call checks its book again, since nothing is kept between calls: under a microsecond for a book of one rule with sides of 4 steps, 3
+ *   microseconds for one with sides of 64, and 0.8 milliseconds for a full book, 32 such rules (docs/DECISIONS.md, "Cost grows"). vanecitron_program
  *   checks its book once for all comparisons of its input: give it many pairs of runs at a time where that matters.
  *   No measured call needs more than VANECITRON_STACK bytes of stack; a call gives them back when it returns. This is measured, not proved:
  *   host/stack calls each function on a painted stack, with the memcpy and memset of the C library there, and host/test fails where a call needs more.

@@ -5,7 +5,7 @@
 //! (docs/SPECIFICATION.md, "Book bytes"), which [`BookWriter`] writes.
 //!
 //! Every call is reentrant, and a refusal leaves every lent byte as it was. Every call checks its book again, since nothing is kept between calls: under
-//! a microsecond for a book of one rule with sides of 4 steps, 5 microseconds for one with sides of 64, and 1.4 milliseconds for a full book, 32 such rules
+//! a microsecond for a book of one rule with sides of 4 steps, 3 microseconds for one with sides of 64, and 0.8 milliseconds for a full book, 32 such rules
 //! (docs/DECISIONS.md, "Cost grows"). [`program_into`] checks its book once for all comparisons of its input.
 //!
 //! The crate needs `core` alone. The functions whose names end in `_into` write to buffers that the caller lends; those that allocate what they give back
