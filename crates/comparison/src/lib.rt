@@ -329,7 +329,7 @@ fn compare_words(
     }
 }
 
-// The same for two words in bytes, which are widened into lent arrays.
+// The rows' answer for two words in bytes that are fine, which are widened into lent arrays.
 fn compare_bytes(
     text: &[u16],
     table: &[u16],
@@ -377,7 +377,7 @@ pub fn compare_given(
     }
 }
 
-// The same with arrays for the longest words.
+// Two given words, widened into arrays that hold the longest ones.
 fn compare_long(
     text: &[u16],
     table: &[u16],
@@ -405,7 +405,7 @@ fn compare_long(
     )
 }
 
-// The same with arrays of its own, short ones where they suffice.
+// Two given words, widened into arrays made for this one comparison: short ones where they suffice.
 pub fn compare_once(
     text: &[u16],
     table: &[u16],

@@ -25,7 +25,7 @@ choose false x y = y tt
 unfoldable pub hasRelationPrefixAt : List Word → Word → ℕ → Bool
 hasRelationPrefixAt B w q = anyBelow (length B) (λ j. isPrefix (xyOf B j) (drop q w))
 
--- they do so at a place from lo on and below hi
+-- X and Y of some relation word stand in w at a place from lo on and below hi
 unfoldable pub hasRelationPrefixBetween : List Word → Word → ℕ → ℕ → Bool
 hasRelationPrefixBetween B w lo hi = anyBelow hi (λ q. leb lo q && hasRelationPrefixAt B w q)
 

@@ -114,7 +114,7 @@ fn seek(
     n
 }
 
-// The same for all the words, where c is the letter at place q.
+// The relation word whose X and Y stand at place q, or n, where c is the letter at that place.
 fn under_letter(
     text: &[u16],
     table: &[u16],

@@ -44,7 +44,7 @@ pub record InTables (longest table : List ℕ) (i : ℕ) : Type 0 where
   pub short : endOf table i ≤ textRoom
   pub within : startOf table i + getD longest (startOf table i) 0 ≤ endOf table i
 
--- the same of n words
+-- the numbers of n words stay in both tables
 pub record AllInTables (longest table : List ℕ) (n : ℕ) : Type 0 where
   pub each : (i : ℕ) → i < n → InTables longest table i
 

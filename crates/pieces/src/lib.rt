@@ -92,7 +92,7 @@ fn lowest_loose(longest: &[u8], table: &[u16], n: usize) -> usize
     i
 }
 
-// The same from the text alone; the table of longest pieces is left for the cuts.
+// The lowest relation word that is a product of three or fewer pieces, or n, from the text; the table of longest pieces is left for the cuts.
 fn first_loose(text: &[u8], table: &[u16], n: usize, longest: &mut [u8]) -> usize
     requires { ⌜ Measurable (now text) (now table) n (now longest) ⌝ }
     ensures { λ r. ⌜ Measured (now (text .entry)) (now (table .entry)) n (now (longest .exit)) r ⌝ }
@@ -174,7 +174,7 @@ fn judge_whole(text: &[u8], table: &mut [u16], n: usize) -> Judged
     Judged::Accepted
 }
 
-// The same of a text that may go on behind its last fence. The loops run on a copy in bytes, of which the compiler takes twice as many in a turn.
+// Refusal 8, or the cuts, of a text that may go on behind its last fence. The loops run on a copy in bytes, of which the compiler takes twice as many in a turn.
 fn judge_pieces(text: &[u16], table: &mut [u16], n: usize) -> Judged
     requires { ⌜ Laid (now text) (now table) n ⌝ }
     ensures { λ r. ⌜ Judging (looseVerdict (wordsIn (now (text .entry)) (now (table .entry)) n)) (now (text .entry)) (now (table .entry)) n (now (table .exit)) r ⌝ }

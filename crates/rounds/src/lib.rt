@@ -104,7 +104,7 @@ fn decide_bytes(
     )
 }
 
-// The same with arrays for the longest words.
+// The plan of a round whose words may be as long as their limit, widened into arrays for the longest.
 fn decide_long(text: &[u16], table: &[u16], n: usize, u: &[u8], v: &[u8], p: &[u8]) -> Plan
     requires { ⌜ GivenShort (now text) (now table) n (now u) (now v) (now p) ⌝ }
     ensures { λ r. ⌜ PlansRound (now (text .entry)) (now (table .entry)) n (now (u .entry)) (now (v .entry)) (now (p .entry)) r ⌝ }
@@ -114,7 +114,7 @@ fn decide_long(text: &[u16], table: &[u16], n: usize, u: &[u8], v: &[u8], p: &[u
     decide_bytes(text, table, n, u, v, p, &mut first, &mut second)
 }
 
-// The same, with shorter arrays where they suffice.
+// The plan of a round whose words are given in bytes, widened into short arrays where these suffice.
 fn decide_given(text: &[u16], table: &[u16], n: usize, u: &[u8], v: &[u8], p: &[u8]) -> Plan
     requires { ⌜ GivenShort (now text) (now table) n (now u) (now v) (now p) ⌝ }
     ensures { λ r. ⌜ PlansRound (now (text .entry)) (now (table .entry)) n (now (u .entry)) (now (v .entry)) (now (p .entry)) r ⌝ }
