@@ -11,8 +11,8 @@ use format::Reading;
 use format::RelationReading;
 use layout::Table;
 use layout::append_word;
-use records::head_at;
-use records::relation_at;
+use relations::head_at;
+use relations::relation_at;
 
 // Lays both words of the relation that lie from `left` to `right` and from there to `to`.
 fn append_relation(

@@ -1,4 +1,4 @@
-use Rattle.records.proofs.Fields.{records}
+use Rattle.records.proofs.Records.{records}
 use Rattle.records.proofs.record_at.Statement.{statement}
 use Rattle.records.proofs.record_at.Tie as tie
 

@@ -1,6 +1,6 @@
-use Rattle.records.proofs.Fields.{relations}
-use Rattle.records.proofs.relation_at.Statement.{statement}
-use Rattle.records.proofs.relation_at.Tie as tie
+use Rattle.relations.proofs.Fields.{relations}
+use Rattle.relations.proofs.relation_at.Statement.{statement}
+use Rattle.relations.proofs.relation_at.Tie as tie
 
 pub relation-at-spec : {M : Type 1} → statement M
 relation-at-spec =

@@ -1,6 +1,6 @@
-use Rattle.records.proofs.Fields.{heads}
-use Rattle.records.proofs.head_at.Statement.{statement}
-use Rattle.records.proofs.head_at.Tie as tie
+use Rattle.relations.proofs.Fields.{heads}
+use Rattle.relations.proofs.head_at.Statement.{statement}
+use Rattle.relations.proofs.head_at.Tie as tie
 
 pub head-at-spec : {M : Type 1} → statement M
 head-at-spec =

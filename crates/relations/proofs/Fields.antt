@@ -1,11 +1,11 @@
--- The definition of reading a record, by the tests that the code makes.
+-- The definitions of reading a head and a relation, by the tests that the code makes.
 use Prim.Native.Nat.{ℕ, _+_, _-_, _≤_, _<_}
 use mathlib.Core.Bool.{Bool, true, false, _||_, cond}
 use mathlib.Core.List.{List}
 use mathlib.Core.Path.{_≡_, refl, sym, _∙_}
 use native.Mathlib.Omega.{arith}
 use borrow.Author.Needs.{needs}
-use borrow.Author.Tests.{eq-eqb, ne-eqb, lt-ltb, le-ltb, le-leb, lt-leb}
+use borrow.Author.Tests.{eq-eqb, ne-eqb, le-leb, lt-leb}
 use lib.Dec.{ltb}
 use lib.ListN.{length}
 use Rattle.words.proofs.Lists.{part-length}
@@ -24,31 +24,9 @@ use Rattle.letters.specs.Letters.{firstUnknown, unknownIn}
 use Rattle.format.specs.declared.HeadReading.the-variants as Heads
 use Rattle.format.specs.declared.RelationReading.{RelationReading}
 use Rattle.format.specs.declared.RelationReading.the-variants as Relations
-use Rattle.format.specs.Book.{byte, field, between, recordAt, headAt, fieldsAt, relationAt}
+use Rattle.format.specs.Book.{byte, between, recordAt, headAt, fieldsAt, relationAt}
 use Rattle.format.proofs.Readings.{whole-at}
 use Rattle.records.specs.Reads.{Payload}
-
--- a record: too few bytes for its first four, for its payload, or whole
-module _ (book : List ℕ) (at : ℕ) where
-  pub record-none : length book < 4 → CutOff ≡ recordAt book at
-  unfolding recordAt
-  record-none h = rw (lt-ltb (length book) (at + 4) (omega arith))
-
-  pub record-stray : length book - 4 < at → CutOff ≡ recordAt book at
-  unfolding recordAt
-  record-stray h = rw (lt-ltb (length book) (at + 4) (omega arith))
-
-  pub record-cut : (l : ℕ) → l ≡ field book at → 4 ≤ length book → at ≤ length book - 4 → length book - 4 - at < l → CutOff ≡ recordAt book at
-  unfolding recordAt
-  record-cut l e h k s = rw (le-ltb (length book) (at + 4) (omega arith), ← e, lt-ltb (length book) (at + 4 + l) (omega arith))
-
-  pub record-whole : (l kind : ℕ) → l ≡ field book at → kind ≡ field book (at + 2) → 4 ≤ length book → at ≤ length book - 4 → l ≤ length book - 4 - at
-      → Whole kind (at + 4) (at + 4 + l) ≡ recordAt book at
-  unfolding recordAt
-  record-whole l kind e f h k s =
-      rw (le-ltb (length book) (at + 4) (omega arith), ← e, ← f, le-ltb (length book) (at + 4 + l) (omega arith))
-
-pub ruleset records = (record-none, record-stray, record-cut, record-whole, needs)
 
 -- a whole record's payload lies in the book
 pub payload-of : (book : List ℕ) (at kind from to : ℕ) (o : Record) → o ≡ recordAt book at → o ≡ Whole kind from to → Payload book from to

@@ -1,6 +1,6 @@
-use Rattle.records.proofs.Fields.{unknowns}
-use Rattle.records.proofs.unknown_in.Statement.{statement}
-use Rattle.records.proofs.unknown_in.Tie as tie
+use Rattle.relations.proofs.Fields.{unknowns}
+use Rattle.relations.proofs.unknown_in.Statement.{statement}
+use Rattle.relations.proofs.unknown_in.Tie as tie
 
 pub unknown-in-spec : {M : Type 1} → statement M
 unknown-in-spec =

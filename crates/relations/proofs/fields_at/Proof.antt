@@ -1,6 +1,6 @@
-use Rattle.records.proofs.Fields.{fieldsets, fields-good}
-use Rattle.records.proofs.fields_at.Statement.{statement}
-use Rattle.records.proofs.fields_at.Tie as tie
+use Rattle.relations.proofs.Fields.{fieldsets, fields-good}
+use Rattle.relations.proofs.fields_at.Statement.{statement}
+use Rattle.relations.proofs.fields_at.Tie as tie
 
 -- too much stands before the last return for a search: the law is applied to what the callees ensure and the tests give
 returns-5 : tie.Need-returns-5
