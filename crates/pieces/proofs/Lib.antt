@@ -1,5 +1,1 @@
-pub mod Fences
-pub mod Loose
-pub mod Lowest
-pub mod Cutting
 pub mod Verdicts

@@ -18,12 +18,13 @@ use Rattle.layout.proofs.Placed.{words-length, start-bound}
 use Rattle.layout.proofs.Whole.{words-take, whole-inside, whole-long, whole-laid, whole-ends, whole-words, whole-bytes}
 use Rattle.writing.specs.Writing.{written, Narrowing}
 use Rattle.writing.proofs.Writing.{written-length, written-taken}
+use Rattle.loose.specs.Pieces.{Fenced, AllInTables, Measurable, Measured}
+use Rattle.loose.proofs.Lowest.{all-in-tables}
+use Rattle.cuts.specs.Cutting.{CutBy}
+use Rattle.cuts.proofs.Cutting.{cut-true, words-kept, laid-kept}
 use Rattle.pieces.specs.declared.Judged.{Judged}
 use Rattle.pieces.specs.declared.Judged.the-variants.{Accepted, Repeated, Loose}
-use Rattle.pieces.specs.Pieces.{Fenced, AllInTables, Measurable, Measured}
-use Rattle.pieces.specs.Judging.{CutBy, Recut, Judging, verdictOf, looseVerdict}
-use Rattle.pieces.proofs.Lowest.{all-in-tables}
-use Rattle.pieces.proofs.Cutting.{cut-true, words-kept, laid-kept}
+use Rattle.pieces.specs.Judging.{Recut, Judging, verdictOf, looseVerdict}
 
 -- the answers have different names
 said : Judged → ℕ
