@@ -34,7 +34,7 @@ use Rattle.rounds.specs.declared.RoundLengths.{RoundLengths}
 use Rattle.rounds.specs.declared.RoundLengths.the-variants as Lengths
 use Rattle.comparison.specs.declared.Comparison.{Comparison}
 use Rattle.comparison.specs.declared.Comparison.the-variants as Comparisons
-use Rattle.comparison.specs.State.{Ready}
+use Rattle.moves.specs.State.{Ready}
 use Rattle.comparison.specs.Comparing.{comparisonOf}
 use Rattle.sheet.specs.Sheet.{cutSheet, sheetBytes, SheetRoom}
 use Rattle.sheet.proofs.Laws.{cuts-in, sheet-cut, length-sheet}

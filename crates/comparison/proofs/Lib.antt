@@ -1,3 +1,1 @@
-pub mod Advancing
 pub mod Laws
-pub mod Drops

@@ -1,4 +1,3 @@
-pub mod State
-pub mod Drops
 pub mod Runs
+pub mod Widening
 pub mod Comparing

@@ -9,10 +9,10 @@ use Rattle.congruence.specs.Rows.Next.{end, go}
 use Rattle.congruence.specs.Rounds.{CompareAnswer, ending}
 use Rattle.congruence.specs.Rounds.CompareAnswer.{spent}
 use Rattle.layout.specs.Layout.{wordsIn}
-use Rattle.comparison.specs.declared.State.{State}
+use Rattle.moves.specs.declared.State.{State}
+use Rattle.moves.specs.State.{heldWord, markWord, StateFits}
 use Rattle.comparison.specs.declared.Progress.{Progress}
 use Rattle.comparison.specs.declared.Progress.the-variants.{Ended, Paused}
-use Rattle.comparison.specs.State.{heldWord, markWord, StateFits}
 
 -- the end after some rounds, or the words from which another round is due
 pub data Ran : Type 0 where

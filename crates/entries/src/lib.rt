@@ -5,7 +5,7 @@ ghost use mathlib.Core.Path.{_≡_};
 ghost use Prim.Native.Nat.{_*_};
 ghost use lib.ListN.{length};
 ghost use Rattle.layout.specs.Layout.{wordsIn};
-ghost use Rattle.comparison.specs.State.{Ready};
+ghost use Rattle.moves.specs.State.{Ready};
 ghost use Rattle.answers.specs.Answers.{ofVerdict, ofRound, ofComparison, ofPrinted};
 ghost use Rattle.answers.specs.Entries.{checkOf, SheetOutcome as Sheets, sheetOf, RoundOutcome as Rounds, loadedRound, roundOf, roomOf, askedOf, OutputOutcome as Outputs, outputOf};
 ghost use Rattle.answers.specs.Parts.{SheetReady, acceptedSheet, answeredRound};

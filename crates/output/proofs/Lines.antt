@@ -13,7 +13,7 @@ use Rattle.layout.specs.Layout.{wordsIn}
 use Rattle.refusals.specs.declared.Refusal.{Refusal}
 use Rattle.format.specs.Book.{between}
 use Rattle.comparison.specs.declared.Comparison.{Comparison}
-use Rattle.comparison.specs.State.{Ready}
+use Rattle.moves.specs.State.{Ready}
 use Rattle.comparison.specs.Comparing.{comparisonOf}
 use Rattle.writing.specs.Writing.{written}
 use Rattle.lines.specs.Lines.{WrittenTo, lineOf}

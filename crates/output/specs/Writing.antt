@@ -3,7 +3,7 @@ use Prim.Native.Nat.{ℕ, _+_, _*_, _≤_}
 use mathlib.Core.List.{List, _++_}
 use lib.ListN.{length}
 use Rattle.layout.specs.Layout.{wordsIn}
-use Rattle.comparison.specs.State.{Ready}
+use Rattle.moves.specs.State.{Ready}
 use Rattle.lines.specs.Lines.{lineOf}
 use Rattle.limits.specs.Limits.{relationsMost}
 use Rattle.output.specs.Program.{bookText, linesFrom, loadedOutput}

@@ -8,7 +8,7 @@ ghost use Rattle.output.specs.Program.{bookEnd, refusedLine, comparisonLine, lo
 ghost use Rattle.output.specs.Requests.{longField, fieldsOf, requestAt};
 ghost use Rattle.output.specs.Writing.{linesUnder, Lined, linesOfAccepted, Accepted, Roomy};
 ghost use Rattle.comparison.specs.Comparing.{comparisonOf};
-ghost use Rattle.comparison.specs.State.{Ready};
+ghost use Rattle.moves.specs.State.{Ready};
 ghost use Rattle.layout.specs.Layout.{wordsIn};
 use comparison::Comparison;
 use comparison::compare_given;

@@ -1,6 +1,6 @@
-use Rattle.comparison.proofs.Drops.{quickMoves}
-use Rattle.comparison.proofs.make_move.Statement.{statement}
-use Rattle.comparison.proofs.make_move.Tie as tie
+use Rattle.moves.proofs.Drops.{quickMoves}
+use Rattle.moves.proofs.make_move.Statement.{statement}
+use Rattle.moves.proofs.make_move.Tie as tie
 
 pub make-move-spec : {M : Type 1} → statement M
 make-move-spec =

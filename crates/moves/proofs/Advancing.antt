@@ -16,9 +16,9 @@ use Rattle.layout.specs.Layout.{part}
 use Rattle.layout.proofs.Parts.{part-none, part-drop}
 use Rattle.plans.specs.declared.Change.{Change}
 use Rattle.plans.specs.Plans.{applied, Fit, MarkFit}
-use Rattle.comparison.specs.declared.PlacedWord.{PlacedWord}
-use Rattle.comparison.specs.declared.Mark.{Mark}
-use Rattle.comparison.specs.State.{heldWord, markWord, WordFits, MarkFits, advancedOf, advancedMark}
+use Rattle.moves.specs.declared.PlacedWord.{PlacedWord}
+use Rattle.moves.specs.declared.Mark.{Mark}
+use Rattle.moves.specs.State.{heldWord, markWord, WordFits, MarkFits, advancedOf, advancedMark}
 
 -- a held word that stands for w
 pub record Holds (text : List ℕ) (B : List Word) (source w : Word) (h : PlacedWord) : Type 0 where

@@ -1,6 +1,6 @@
-use Rattle.comparison.proofs.Laws.{advances}
-use Rattle.comparison.proofs.advance.Statement.{statement}
-use Rattle.comparison.proofs.advance.Tie as tie
+use Rattle.moves.proofs.Laws.{advances}
+use Rattle.moves.proofs.advance.Statement.{statement}
+use Rattle.moves.proofs.advance.Tie as tie
 
 pub advance-spec : {M : Type 1} → statement M
 advance-spec =

@@ -8,10 +8,10 @@ use lib.ListN.{length, getD}
 use Rattle.words.specs.Words.{Word, isEmpty}
 use Rattle.plans.specs.Plans.{PlansRound}
 use Rattle.plans.specs.RowPlans.{dropOne}
-use Rattle.comparison.specs.declared.PlacedWord.{PlacedWord}
-use Rattle.comparison.specs.declared.Mark.{Mark}
-use Rattle.comparison.specs.declared.State.{State}
-use Rattle.comparison.specs.State.{heldWord, markWord}
+use Rattle.moves.specs.declared.PlacedWord.{PlacedWord}
+use Rattle.moves.specs.declared.Mark.{Mark}
+use Rattle.moves.specs.declared.State.{State}
+use Rattle.moves.specs.State.{heldWord, markWord}
 
 -- a held word has no letter, where the given word has so many
 unfoldable pub heldEmpty : ℕ → PlacedWord → Bool

@@ -1,6 +1,6 @@
-use Rattle.comparison.proofs.Drops.{firstLetters}
-use Rattle.comparison.proofs.first_letter.Statement.{statement}
-use Rattle.comparison.proofs.first_letter.Tie as tie
+use Rattle.moves.proofs.Drops.{firstLetters}
+use Rattle.moves.proofs.first_letter.Statement.{statement}
+use Rattle.moves.proofs.first_letter.Tie as tie
 
 pub first-letter-spec : {M : Type 1} → statement M
 first-letter-spec =

@@ -1,6 +1,6 @@
-use Rattle.comparison.proofs.Drops.{droppings}
-use Rattle.comparison.proofs.drop_letters.Statement.{statement}
-use Rattle.comparison.proofs.drop_letters.Tie as tie
+use Rattle.moves.proofs.Drops.{droppings}
+use Rattle.moves.proofs.drop_letters.Statement.{statement}
+use Rattle.moves.proofs.drop_letters.Tie as tie
 
 pub drop-letters-spec : {M : Type 1} → statement M
 drop-letters-spec =

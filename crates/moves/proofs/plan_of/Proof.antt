@@ -1,6 +1,6 @@
-use Rattle.comparison.proofs.Laws.{plans}
-use Rattle.comparison.proofs.plan_of.Statement.{statement}
-use Rattle.comparison.proofs.plan_of.Tie as tie
+use Rattle.moves.proofs.Laws.{plans}
+use Rattle.moves.proofs.plan_of.Statement.{statement}
+use Rattle.moves.proofs.plan_of.Tie as tie
 
 pub plan-of-spec : {M : Type 1} → statement M
 plan-of-spec =

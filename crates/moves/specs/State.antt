@@ -15,11 +15,11 @@ use Rattle.plans.specs.declared.Plan.{Plan}
 use Rattle.plans.specs.declared.Plan.the-variants as Plans
 use Rattle.rows.specs.Sites.{Paired}
 use Rattle.limits.specs.Limits.{comparedMost}
-use Rattle.comparison.specs.declared.PlacedWord.{PlacedWord}
-use Rattle.comparison.specs.declared.Mark.{Mark}
-use Rattle.comparison.specs.declared.State.{State}
-use Rattle.comparison.specs.declared.Move.{Move}
-use Rattle.comparison.specs.declared.Move.the-variants as Moves
+use Rattle.moves.specs.declared.PlacedWord.{PlacedWord}
+use Rattle.moves.specs.declared.Mark.{Mark}
+use Rattle.moves.specs.declared.State.{State}
+use Rattle.moves.specs.declared.Move.{Move}
+use Rattle.moves.specs.declared.Move.the-variants as Moves
 
 -- the word that is held
 abbrev pub heldWord : List ℕ → Word → PlacedWord → Word
@@ -97,18 +97,6 @@ pub record Fitting (text table : List ℕ) (n : ℕ) (first second : Word) : Typ
   pub ready : Ready text table n
   pub first-short : length first ≤ comparedMost
   pub second-short : length second ≤ comparedMost
-
--- two arrays have room for them
-pub record Widenable (text table : List ℕ) (n : ℕ) (first second : Word) (a c : List ℕ) : Type 0 where
-  pub fitting : Fitting text table n first second
-  pub first-room : length first ≤ length a
-  pub second-room : length second ≤ length c
-
--- a checked presentation, and two arrays that have room for two words if these are within the limit
-pub record ReadyToWiden (text table : List ℕ) (n : ℕ) (first second : Word) (a c : List ℕ) : Type 0 where
-  pub ready : Ready text table n
-  pub first-room : length first ≤ comparedMost → length first ≤ length a
-  pub second-room : length second ≤ comparedMost → length second ≤ length c
 
 -- a state from which a round can be made
 pub record StateReady (text table : List ℕ) (n : ℕ) (first second : Word) (s : State) : Type 0 where

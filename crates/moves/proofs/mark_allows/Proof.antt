@@ -1,6 +1,6 @@
-use Rattle.comparison.proofs.Drops.{marksAllow}
-use Rattle.comparison.proofs.mark_allows.Statement.{statement}
-use Rattle.comparison.proofs.mark_allows.Tie as tie
+use Rattle.moves.proofs.Drops.{marksAllow}
+use Rattle.moves.proofs.mark_allows.Statement.{statement}
+use Rattle.moves.proofs.mark_allows.Tie as tie
 
 pub mark-allows-spec : {M : Type 1} → statement M
 mark-allows-spec =

@@ -1,6 +1,6 @@
-use Rattle.comparison.proofs.Drops.{dropsAtOnce}
-use Rattle.comparison.proofs.drops_at_once.Statement.{statement}
-use Rattle.comparison.proofs.drops_at_once.Tie as tie
+use Rattle.moves.proofs.Drops.{dropsAtOnce}
+use Rattle.moves.proofs.drops_at_once.Statement.{statement}
+use Rattle.moves.proofs.drops_at_once.Tie as tie
 
 pub drops-at-once-spec : {M : Type 1} → statement M
 drops-at-once-spec =

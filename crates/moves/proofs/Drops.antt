@@ -21,13 +21,13 @@ use Rattle.rows.proofs.FirstLetters.{begins-none}
 use Rattle.plans.specs.declared.Plan.the-variants as Plans
 use Rattle.plans.specs.RowPlans.{cutBy, dropOne}
 use Rattle.plans.proofs.Drops.{drop-plan}
-use Rattle.comparison.specs.declared.PlacedWord.{PlacedWord}
-use Rattle.comparison.specs.declared.Mark.{Mark}
-use Rattle.comparison.specs.declared.State.{State}
-use Rattle.comparison.specs.declared.Move.{Move}
-use Rattle.comparison.specs.State.{heldWord, markWord, WordFits, MarkFits, StateReady, Applicable, movedOf, Moving}
-use Rattle.comparison.specs.Drops.{heldEmpty, HasLetter, markAllows, markLetters, DropsAtOnce}
-use Rattle.comparison.proofs.Laws.{move-applicable, move-made}
+use Rattle.moves.specs.declared.PlacedWord.{PlacedWord}
+use Rattle.moves.specs.declared.Mark.{Mark}
+use Rattle.moves.specs.declared.State.{State}
+use Rattle.moves.specs.declared.Move.{Move}
+use Rattle.moves.specs.State.{heldWord, markWord, WordFits, MarkFits, StateReady, Applicable, movedOf, Moving}
+use Rattle.moves.specs.Drops.{heldEmpty, HasLetter, markAllows, markLetters, DropsAtOnce}
+use Rattle.moves.proofs.Laws.{move-applicable, move-made}
 
 -- whether a held word has a letter
 module _ (long : ℕ) (h : PlacedWord) where

@@ -1,6 +1,6 @@
-use Rattle.comparison.proofs.Laws.{carries}
-use Rattle.comparison.proofs.carry_out.Statement.{statement}
-use Rattle.comparison.proofs.carry_out.Tie as tie
+use Rattle.moves.proofs.Laws.{carries}
+use Rattle.moves.proofs.carry_out.Statement.{statement}
+use Rattle.moves.proofs.carry_out.Tie as tie
 
 pub carry-out-spec : {M : Type 1} → statement M
 carry-out-spec =

@@ -1,7 +1,7 @@
-use Rattle.comparison.specs.State.{advancedMark}
+use Rattle.moves.specs.State.{advancedMark}
 use Rattle.words.proofs.Picks.{picks}
-use Rattle.comparison.proofs.advance_mark.Statement.{statement}
-use Rattle.comparison.proofs.advance_mark.Tie as tie
+use Rattle.moves.proofs.advance_mark.Statement.{statement}
+use Rattle.moves.proofs.advance_mark.Tie as tie
 
 pub advance-mark-spec : {M : Type 1} → statement M
 unfolding advancedMark
