@@ -23,26 +23,26 @@ use Rattle.limits.specs.Limits.{comparedMost}
 use Rattle.moves.specs.declared.State.{State}
 use Rattle.moves.specs.declared.Move.{Move}
 use Rattle.moves.specs.declared.Move.the-variants as Moves
-use Rattle.moves.specs.State.{heldWord, markWord, Fitting, StateReady, MoveFits, Moving}
+use Rattle.moves.specs.State.{wordOf, markOf, Fitting, StateReady, MoveFits, RoundMade}
 use Rattle.comparison.specs.declared.Progress.{Progress}
 use Rattle.comparison.specs.declared.Progress.the-variants.{Ended, Paused}
 use Rattle.comparison.specs.declared.Comparison.{Comparison}
 use Rattle.comparison.specs.declared.Comparison.the-variants.{Same, Different, Refused}
-use Rattle.comparison.specs.Runs.{Ran, ended, paused, runFrom, answered, ranOf, Progressed}
+use Rattle.comparison.specs.Rounds.{MadeRounds, ended, paused, roundsFrom, answered, roundsOf, Progressed}
 use Rattle.comparison.specs.Widening.{ReadyToWiden, Widenable}
 use Rattle.comparison.specs.Comparing.{answerOf, comparisonOf}
 
 -- some rounds from a state
 module _ (text table : List ℕ) (n : ℕ) (first second : Word) where
-  -- the run from the words of a state, where some rounds are done
-  abbrev pub runOf : ℕ → ℕ → State → Ran
-  runOf left done s = runFrom (wordsIn text table n) left done (heldWord text first (s .u)) (heldWord text second (s .v)) (markWord text (s .mark))
+  -- the rounds from the words of a state, where some are done
+  abbrev pub stateRounds : ℕ → ℕ → State → MadeRounds
+  stateRounds left done s = roundsFrom (wordsIn text table n) left done (wordOf text first (s .u)) (wordOf text second (s .v)) (markOf text (s .mark))
 
 -- `done` rounds are made, and the rest from s gives what the rounds from the start give
 pub record Going (text table : List ℕ) (n : ℕ) (first second : Word) (start : State) (budget : ℕ) (s : State) (done : ℕ) : Type 0 where
   pub poised : StateReady text table n first second s
   pub allowed : done ≤ budget
-  pub same : runOf text table n first second budget 0 start ≡ runOf text table n first second (budget - done) done s
+  pub same : stateRounds text table n first second budget 0 start ≡ stateRounds text table n first second (budget - done) done s
 
 pub going-start : (text table : List ℕ) (n : ℕ) (first second : Word) (s : State) (budget : ℕ) → StateReady text table n first second s
     → Going text table n first second s budget s 0
@@ -51,10 +51,10 @@ going-start text table n first second s budget p =
     record { poised = p; allowed = omega arith; same = rw e }
 
 module _ (text table : List ℕ) (n : ℕ) (first second : Word) (start : State) (budget : ℕ) (s : State) (done : ℕ) (g : Going text table n first second start budget s done)
-    (r : Move) (f : Moving text table n first second s r) where
+    (r : Move) (f : RoundMade text table n first second s r) where
   -- whatever is left, an end ends it
-  end-of : (left : ℕ) (b : Bool) → r ≡ Moves.End b → ended b done ≡ runOf text table n first second left done s
-  unfolding runFrom
+  end-of : (left : ℕ) (b : Bool) → r ≡ Moves.End b → ended b done ≡ stateRounds text table n first second left done s
+  unfolding roundsFrom
   end-of zero b e = let q = rw e at (f .same) in rw (← q)
   end-of (suc left) b e = let q = rw e at (f .same) in rw (← q)
 
@@ -62,15 +62,15 @@ module _ (text table : List ℕ) (n : ℕ) (first second : Word) (start : State)
   going-end b e = record { same = end-of (budget - done) b e ∙ sym (g .same); stands = tt }
 
   module _ (t : State) (e : r ≡ Moves.Next t) where
-    due : go (heldWord text first (t .u)) (heldWord text second (t .v)) (markWord text (t .mark)) ≡ round (wordsIn text table n) (heldWord text first (s .u)) (heldWord text second (s .v)) (markWord text (s .mark))
+    due : go (wordOf text first (t .u)) (wordOf text second (t .v)) (markOf text (t .mark)) ≡ round (wordsIn text table n) (wordOf text first (s .u)) (wordOf text second (s .v)) (markOf text (s .mark))
     due = rw e at (f .same)
 
-    paused-here : paused (heldWord text first (s .u)) (heldWord text second (s .v)) (markWord text (s .mark)) done ≡ runOf text table n first second 0 done s
-    unfolding runFrom
+    paused-here : paused (wordOf text first (s .u)) (wordOf text second (s .v)) (markOf text (s .mark)) done ≡ stateRounds text table n first second 0 done s
+    unfolding roundsFrom
     paused-here = rw (← due)
 
-    one-more : (left : ℕ) → runOf text table n first second (suc left) done s ≡ runOf text table n first second left (done + 1) t
-    unfolding runFrom
+    one-more : (left : ℕ) → stateRounds text table n first second (suc left) done s ≡ stateRounds text table n first second left (done + 1) t
+    unfolding roundsFrom
     one-more left = rw (← due)
 
     pub going-paused : budget ≤ done → Progressed text table n first second start budget (Paused s done)
@@ -104,24 +104,24 @@ whole-poised text table n u v f =
     }
 
 -- rounds that are not at their end are spent
-pub answered-run : (B : List Word) (left done : ℕ) (u v p : Word) → answered (runFrom B left done u v p) ≡ answerFrom B left done u v p
-unfolding runFrom answerFrom
-answered-run B zero done u v p = go (round B u v p) refl
+pub answered-rounds : (B : List Word) (left done : ℕ) (u v p : Word) → answered (roundsFrom B left done u v p) ≡ answerFrom B left done u v p
+unfolding roundsFrom answerFrom
+answered-rounds B zero done u v p = go (round B u v p) refl
   where
-    go : (x : Next) → round B u v p ≡ x → answered (runFrom B zero done u v p) ≡ answerFrom B zero done u v p
+    go : (x : Next) → round B u v p ≡ x → answered (roundsFrom B zero done u v p) ≡ answerFrom B zero done u v p
     go (end b) e = rw e
     go (Next.go a b c) e = rw e
-answered-run B (suc left) done u v p = go (λ a b c. answered-run B left (done + 1) a b c) (round B u v p) refl
+answered-rounds B (suc left) done u v p = go (λ a b c. answered-rounds B left (done + 1) a b c) (round B u v p) refl
   where
-    go : ((a b c : Word) → answered (runFrom B left (done + 1) a b c) ≡ answerFrom B left (done + 1) a b c) → (x : Next) → round B u v p ≡ x
-        → answered (runFrom B (suc left) done u v p) ≡ answerFrom B (suc left) done u v p
+    go : ((a b c : Word) → answered (roundsFrom B left (done + 1) a b c) ≡ answerFrom B left (done + 1) a b c) → (x : Next) → round B u v p ≡ x
+        → answered (roundsFrom B (suc left) done u v p) ≡ answerFrom B (suc left) done u v p
     go ih (end b) e = rw e
     go ih (Next.go a b c) e = rw e (ih a b c)
 
 module _ (text table : List ℕ) (n : ℕ) (u v : Word) (allowance : ℕ) (r : Progress)
     (d : Progressed text table n u v (record { u = record { at = 0; to = 0; from = 0 }; v = record { at = 0; to = 0; from = 0 }; mark = record { at = 0; to = 0 } }) allowance r) where
-  told : compareUnder (wordsIn text table n) allowance u v ≡ answered (ranOf text u v r)
-  told = sym (ap answered (d .same) ∙ answered-run (wordsIn text table n) allowance 0 u v [])
+  told : compareUnder (wordsIn text table n) allowance u v ≡ answered (roundsOf text u v r)
+  told = sym (ap answered (d .same) ∙ answered-rounds (wordsIn text table n) allowance 0 u v [])
 
   pub compared-same : (b : Bool) (k : ℕ) → r ≡ Ended b k → b ≡ true → Same k ≡ answerOf (wordsIn text table n) u v allowance
   unfolding answerOf

@@ -1,3 +1,3 @@
-pub mod Runs
+pub mod Rounds
 pub mod Widening
 pub mod Comparing

@@ -2,7 +2,7 @@
 ghost use mathlib.Core.Path.{_≡_};
 ghost use Rattle.layout.specs.Layout.{wordsIn};
 ghost use Rattle.moves.specs.State.{Ready, Fitting, StateReady};
-ghost use Rattle.comparison.specs.Runs.{Progressed};
+ghost use Rattle.comparison.specs.Rounds.{Progressed};
 ghost use Rattle.comparison.specs.Widening.{ReadyToWiden, Widenable};
 ghost use Rattle.comparison.specs.Comparing.{comparisonOf, answerOf};
 use given::Given;

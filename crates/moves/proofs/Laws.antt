@@ -25,7 +25,7 @@ use Rattle.moves.specs.declared.Mark.{Mark}
 use Rattle.moves.specs.declared.State.{State}
 use Rattle.moves.specs.declared.Move.{Move}
 use Rattle.moves.specs.declared.Move.the-variants as Moves
-use Rattle.moves.specs.State.{heldWord, markWord, WordFits, MarkFits, beyondOf, Movable, MarkMovable, advancedOf, advancedMark, movedOf, Applicable, StateReady, Moving}
+use Rattle.moves.specs.State.{wordOf, markOf, WordFits, MarkFits, beyondOf, Movable, MarkMovable, advancedOf, advancedMark, moveOf, Applicable, StateReady, RoundMade}
 use Rattle.moves.proofs.Advancing.{holds-advanced, mark-advanced}
 
 -- the word after a change
@@ -54,7 +54,7 @@ pub plan-held : (text table : List ℕ) (n : ℕ) (first second : Word) (s : Sta
     (part text (s .u .at) (s .u .to) ++ take (length first - s .u .from) (drop (s .u .from) first))
     (part text (s .v .at) (s .v .to) ++ take (length second - s .v .from) (drop (s .v .from) second))
     (part text (s .mark .at) (s .mark .to)) r
-    → PlansRound text table n (heldWord text first (s .u)) (heldWord text second (s .v)) (markWord text (s .mark)) r
+    → PlansRound text table n (wordOf text first (s .u)) (wordOf text second (s .v)) (markOf text (s .mark)) r
 plan-held text table n first second s r d = rw (rest-lent first (s .u .from), rest-lent second (s .v .from)) at d
 
 -- the lent parts lie in what they are parts of
@@ -90,7 +90,7 @@ pub ruleset plans = (plan-held, poised-paired, u-up, u-inside, u-within, v-up, v
 
 -- carrying a plan out
 module _ (s : State) (plan : Plan) (a : Applicable s plan) where
-  pub carried-end : (b : Bool) → plan ≡ Plans.End b → Moves.End b ≡ movedOf s plan
+  pub carried-end : (b : Bool) → plan ≡ Plans.End b → Moves.End b ≡ moveOf s plan
   carried-end b e = rw e
 
   module _ (cu cv cp : Change) (e : plan ≡ Plans.Go cu cv cp) where
@@ -107,7 +107,7 @@ module _ (s : State) (plan : Plan) (a : Applicable s plan) where
     movable-mark = movables .2
 
     pub carried-next : (hu hv : PlacedWord) (m : Mark) → hu ≡ advancedOf (s .u) cu → hv ≡ advancedOf (s .v) cv → m ≡ advancedMark (s .mark) cp
-        → Moves.Next (record { u = hu; v = hv; mark = m }) ≡ movedOf s plan
+        → Moves.Next (record { u = hu; v = hv; mark = m }) ≡ moveOf s plan
     carried-next hu hv m f g h = rw (e, f, g, h)
 
 pub ruleset carries = (carried-end, movable-u, movable-v, movable-mark, carried-next, needs)
@@ -121,7 +121,7 @@ module _ (text table : List ℕ) (n : ℕ) (first second : Word) (s : State) (p 
   unfolding words
   cuts = rigid-of-c4 (wordsIn text table n) (p .fitting .ready .paired .checked .accepted)
 
-  movable-of-fit : (source : Word) → length source ≤ 65536 → (h : PlacedWord) → WordFits text words source h → (c : Change) → Fit text words (heldWord text source h) c → Movable h c
+  movable-of-fit : (source : Word) → length source ≤ 65536 → (h : PlacedWord) → WordFits text words source h → (c : Change) → Fit text words (wordOf text source h) c → Movable h c
   movable-of-fit source k h f c g =
       let l = length-append (part text (h .at) (h .to)) (drop (h .from) source) in
       let m = part-length text (h .at) (h .to) (f .inside) in
@@ -133,12 +133,12 @@ module _ (text table : List ℕ) (n : ℕ) (first second : Word) (s : State) (p 
         small = omega (arith, g .within, f .inside, p .fitting .ready .text-short);
       }
 
-  mark-of-fit : (m : Mark) → MarkFits text m → (c : Change) → MarkFit text words (markWord text m) c → MarkMovable m c
+  mark-of-fit : (m : Mark) → MarkFits text m → (c : Change) → MarkFit text words (markOf text m) c → MarkMovable m c
   mark-of-fit m f c g =
       let l = part-length text (m .at) (m .to) (f .inside) in
       record { low = omega (arith, f .up, f .inside, p .fitting .ready .text-short); small = omega (arith, g .within, f .inside, p .fitting .ready .text-short) }
 
-  applicable : (plan : Plan) → PlanFit text words (heldWord text first (s .u)) (heldWord text second (s .v)) (markWord text (s .mark)) plan → Applicable s plan
+  applicable : (plan : Plan) → PlanFit text words (wordOf text first (s .u)) (wordOf text second (s .v)) (markOf text (s .mark)) plan → Applicable s plan
   unfolding words
   applicable (Plans.End b) f = tt
   applicable (Plans.Go cu cv cp) (goes a b c) = (
@@ -147,22 +147,22 @@ module _ (text table : List ℕ) (n : ℕ) (first second : Word) (s : State) (p 
     mark-of-fit (s .mark) (p .standing .mark) cp c,
   )
 
-  moving : (plan : Plan) → PlanFit text words (heldWord text first (s .u)) (heldWord text second (s .v)) (markWord text (s .mark)) plan
-      → planned text (heldWord text first (s .u)) (heldWord text second (s .v)) (markWord text (s .mark)) plan ≡ round words (heldWord text first (s .u)) (heldWord text second (s .v)) (markWord text (s .mark))
-      → Moving text table n first second s (movedOf s plan)
+  round-made : (plan : Plan) → PlanFit text words (wordOf text first (s .u)) (wordOf text second (s .v)) (markOf text (s .mark)) plan
+      → planned text (wordOf text first (s .u)) (wordOf text second (s .v)) (markOf text (s .mark)) plan ≡ round words (wordOf text first (s .u)) (wordOf text second (s .v)) (markOf text (s .mark))
+      → RoundMade text table n first second s (moveOf s plan)
   unfolding words planned
-  moving (Plans.End b) f e = record { same = e; stands = tt }
-  moving (Plans.Go cu cv cp) (goes a b c) e =
+  round-made (Plans.End b) f e = record { same = e; stands = tt }
+  round-made (Plans.Go cu cv cp) (goes a b c) e =
       let hu = holds-advanced text (wordsIn text table n) cuts first (s .u) (p .standing .u) cu a in
       let hv = holds-advanced text (wordsIn text table n) cuts second (s .v) (p .standing .v) cv b in
       let hm = mark-advanced text (wordsIn text table n) (s .mark) (p .standing .mark) cp c in
       record { same = rw (hu .same, hv .same, hm .same) e; stands = record { u = hu .fit; v = hv .fit; mark = hm .fit } }
 
-  module _ (plan : Plan) (d : PlansRound text table n (heldWord text first (s .u)) (heldWord text second (s .v)) (markWord text (s .mark)) plan) where
+  module _ (plan : Plan) (d : PlansRound text table n (wordOf text first (s .u)) (wordOf text second (s .v)) (markOf text (s .mark)) plan) where
     pub move-applicable : Applicable s plan
     unfolding words
     move-applicable = applicable plan (d .fits)
 
-    pub move-made : (r : Move) → r ≡ movedOf s plan → Moving text table n first second s r
+    pub move-made : (r : Move) → r ≡ moveOf s plan → RoundMade text table n first second s r
     unfolding words
-    move-made r e = rw e (moving plan (d .fits) (d .same))
+    move-made r e = rw e (round-made plan (d .fits) (d .same))

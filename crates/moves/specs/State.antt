@@ -22,12 +22,12 @@ use Rattle.moves.specs.declared.Move.{Move}
 use Rattle.moves.specs.declared.Move.the-variants as Moves
 
 -- the word that is held
-abbrev pub heldWord : List ℕ → Word → PlacedWord → Word
-heldWord text source h = part text (h .at) (h .to) ++ drop (h .from) source
+abbrev pub wordOf : List ℕ → Word → PlacedWord → Word
+wordOf text source h = part text (h .at) (h .to) ++ drop (h .from) source
 
 -- the front mark
-abbrev pub markWord : List ℕ → Mark → Word
-markWord text m = part text (m .at) (m .to)
+abbrev pub markOf : List ℕ → Mark → Word
+markOf text m = part text (m .at) (m .to)
 
 -- a held word lies in the text and in the given word, and no X and Y stands in its part of the text
 pub record WordFits (text : List ℕ) (B : List Word) (source : Word) (h : PlacedWord) : Type 0 where
@@ -78,9 +78,9 @@ abbrev pub advancedState : State → Change → Change → Change → State
 advancedState s cu cv cp = record { u = advancedOf (s .u) cu; v = advancedOf (s .v) cv; mark = advancedMark (s .mark) cp }
 
 -- what carrying a plan out gives
-abbrev pub movedOf : State → Plan → Move
-movedOf s (Plans.End b) = Moves.End b
-movedOf s (Plans.Go cu cv cp) = Moves.Next (advancedState s cu cv cp)
+abbrev pub moveOf : State → Plan → Move
+moveOf s (Plans.End b) = Moves.End b
+moveOf s (Plans.Go cu cv cp) = Moves.Next (advancedState s cu cv cp)
 
 -- a plan whose changes can be made
 abbrev pub Applicable : State → Plan → Type 0
@@ -106,7 +106,7 @@ pub record StateReady (text table : List ℕ) (n : ℕ) (first second : Word) (s
 -- a step in the words of the rows
 abbrev pub moveNext : List ℕ → Word → Word → Move → Next
 moveNext text first second (Moves.End b) = end b
-moveNext text first second (Moves.Next s) = go (heldWord text first (s .u)) (heldWord text second (s .v)) (markWord text (s .mark))
+moveNext text first second (Moves.Next s) = go (wordOf text first (s .u)) (wordOf text second (s .v)) (markOf text (s .mark))
 
 -- the next state, if there is one, stands
 abbrev pub MoveFits : List ℕ → List Word → Word → Word → Move → Type 0
@@ -114,6 +114,6 @@ MoveFits text B first second (Moves.End b) = Unit {0}
 MoveFits text B first second (Moves.Next s) = StateFits text B first second s
 
 -- one step of a state is one round of the rows from the words that it stands for
-pub record Moving (text table : List ℕ) (n : ℕ) (first second : Word) (s : State) (step : Move) : Type 0 where
-  pub same : moveNext text first second step ≡ round (wordsIn text table n) (heldWord text first (s .u)) (heldWord text second (s .v)) (markWord text (s .mark))
+pub record RoundMade (text table : List ℕ) (n : ℕ) (first second : Word) (s : State) (step : Move) : Type 0 where
+  pub same : moveNext text first second step ≡ round (wordsIn text table n) (wordOf text first (s .u)) (wordOf text second (s .v)) (markOf text (s .mark))
   pub stands : MoveFits text (wordsIn text table n) first second step

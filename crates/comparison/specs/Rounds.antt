@@ -10,33 +10,33 @@ use Rattle.congruence.specs.Rounds.{CompareAnswer, ending}
 use Rattle.congruence.specs.Rounds.CompareAnswer.{spent}
 use Rattle.layout.specs.Layout.{wordsIn}
 use Rattle.moves.specs.declared.State.{State}
-use Rattle.moves.specs.State.{heldWord, markWord, StateFits}
+use Rattle.moves.specs.State.{wordOf, markOf, StateFits}
 use Rattle.comparison.specs.declared.Progress.{Progress}
 use Rattle.comparison.specs.declared.Progress.the-variants.{Ended, Paused}
 
 -- the end after some rounds, or the words from which another round is due
-pub data Ran : Type 0 where
-  ended : Bool → ℕ → Ran
-  paused : Word → Word → Word → ℕ → Ran
+pub data MadeRounds : Type 0 where
+  ended : Bool → ℕ → MadeRounds
+  paused : Word → Word → Word → ℕ → MadeRounds
 
-abbrev pub onRound : Next → ℕ → (Word → Word → Word → Ran) → Ran
+abbrev pub onRound : Next → ℕ → (Word → Word → Word → MadeRounds) → MadeRounds
 onRound (end b) n next = ended b n
 onRound (go u v p) n next = next u v p
 
 -- from u, v and p, where n rounds are done and `left` more are to be made
-unfoldable pub runFrom : List Word → ℕ → ℕ → Word → Word → Word → Ran
-runFrom B zero n u v p = onRound (round B u v p) n (λ _ _ _. paused u v p n)
-runFrom B (suc left) n u v p = onRound (round B u v p) n (runFrom B left (n + 1))
+unfoldable pub roundsFrom : List Word → ℕ → ℕ → Word → Word → Word → MadeRounds
+roundsFrom B zero n u v p = onRound (round B u v p) n (λ _ _ _. paused u v p n)
+roundsFrom B (suc left) n u v p = onRound (round B u v p) n (roundsFrom B left (n + 1))
 
 -- a comparison that is paused for want of rounds is spent
-abbrev pub answered : Ran → CompareAnswer
+abbrev pub answered : MadeRounds → CompareAnswer
 answered (ended b n) = ending b n
 answered (paused u v p n) = spent n
 
 -- rounds made by the code, in the words of the rows
-abbrev pub ranOf : List ℕ → Word → Word → Progress → Ran
-ranOf text first second (Ended b n) = ended b n
-ranOf text first second (Paused s n) = paused (heldWord text first (s .u)) (heldWord text second (s .v)) (markWord text (s .mark)) n
+abbrev pub roundsOf : List ℕ → Word → Word → Progress → MadeRounds
+roundsOf text first second (Ended b n) = ended b n
+roundsOf text first second (Paused s n) = paused (wordOf text first (s .u)) (wordOf text second (s .v)) (markOf text (s .mark)) n
 
 -- a state that comes back stands
 abbrev pub ProgressFits : List ℕ → List Word → Word → Word → Progress → Type 0
@@ -45,5 +45,5 @@ ProgressFits text B first second (Paused s n) = StateFits text B first second s
 
 -- the rounds made are those of the rows from the words that the state stands for, at most so many
 pub record Progressed (text table : List ℕ) (n : ℕ) (first second : Word) (s : State) (budget : ℕ) (r : Progress) : Type 0 where
-  pub same : ranOf text first second r ≡ runFrom (wordsIn text table n) budget 0 (heldWord text first (s .u)) (heldWord text second (s .v)) (markWord text (s .mark))
+  pub same : roundsOf text first second r ≡ roundsFrom (wordsIn text table n) budget 0 (wordOf text first (s .u)) (wordOf text second (s .v)) (markOf text (s .mark))
   pub stands : ProgressFits text (wordsIn text table n) first second r
