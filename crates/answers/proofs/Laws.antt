@@ -28,7 +28,7 @@ use Rattle.presentation.specs.Loading.{Holding, Memory, BookLoaded}
 use Rattle.presentation.proofs.Laws.{load-refused}
 use Rattle.given.specs.declared.Given.{Given}
 use Rattle.given.specs.declared.Given.the-variants as Words
-use Rattle.given.specs.Given.{givenOf, andThen, tripleOf}
+use Rattle.given.specs.Given.{givenOf, onGiven, tripleOf}
 use Rattle.given.proofs.Laws.{fine-short, fine-both}
 use Rattle.rounds.specs.declared.RoundLengths.{RoundLengths}
 use Rattle.rounds.specs.declared.RoundLengths.the-variants as Lengths
@@ -193,8 +193,8 @@ fine-asked : (letters : ℕ) (u v p : Word) (roomU roomV roomP : ℕ) → askedO
     → (length u ≤ 4160) × (length v ≤ 4160) × (length p ≤ 64) × (4224 ≤ roomU) × (4224 ≤ roomV) × (64 ≤ roomP)
 unfolding askedOf tripleOf
 fine-asked letters u v p roomU roomV roomP e =
-    let t = fine-both (andThen (givenOf 0 roundMost letters u) (andThen (givenOf 1 roundMost letters v) (givenOf 2 markMost letters p))) (roomOf roomU roomV roomP) e in
-    let x = fine-both (givenOf 0 roundMost letters u) (andThen (givenOf 1 roundMost letters v) (givenOf 2 markMost letters p)) (t .0) in
+    let t = fine-both (tripleOf letters u v p) (roomOf roomU roomV roomP) e in
+    let x = fine-both (givenOf 0 roundMost letters u) (onGiven (givenOf 1 roundMost letters v) Words.Refused (givenOf 2 markMost letters p)) (t .0) in
     let y = fine-both (givenOf 1 roundMost letters v) (givenOf 2 markMost letters p) (x .1) in
     let r = fine-room roomU roomV roomP (t .1) in
     (fine-short 0 roundMost letters u (x .0), fine-short 1 roundMost letters v (y .0), fine-short 2 markMost letters p (y .1), r .0, r .1, r .2)

@@ -16,7 +16,7 @@ use Rattle.format.specs.Book.{Presentation, BookReading}
 use Rattle.presentation.specs.Loading.{loadBook}
 use Rattle.given.specs.declared.Given.{Given}
 use Rattle.given.specs.declared.Given.the-variants as Words
-use Rattle.given.specs.Given.{andThen, tripleOf}
+use Rattle.given.specs.Given.{onGiven, tripleOf}
 use Rattle.sheet.specs.Sheet.{cutSheet}
 use Rattle.comparison.specs.Comparing.{comparisonOf}
 use Rattle.output.specs.Program.{programOf}
@@ -56,11 +56,7 @@ roomOf roomU roomV roomP =
 
 -- what is given to a round: 9 and 10 of u, v and p in turn, then 12
 unfoldable pub askedOf : ℕ → Word → Word → Word → ℕ → ℕ → ℕ → Given
-askedOf letters u v p roomU roomV roomP = andThen (tripleOf letters u v p) (roomOf roomU roomV roomP)
-
-abbrev pub onGiven : {A : Type 0} → Given → (Refusal → A) → A → A
-onGiven Words.Fine stop proceed = proceed
-onGiven (Words.Refused r) stop proceed = stop r
+askedOf letters u v p roomU roomV roomP = onGiven (tripleOf letters u v p) Words.Refused (roomOf roomU roomV roomP)
 
 -- an end writes nothing; else the next u, v and p stand at the starts of the buffers
 abbrev pub writing : Next → List ℕ → List ℕ → List ℕ → RoundOutcome

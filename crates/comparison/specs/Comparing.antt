@@ -6,9 +6,7 @@ use Rattle.words.specs.Words.{Word}
 use Rattle.congruence.specs.Rounds.{CompareAnswer, compareUnder}
 use Rattle.congruence.specs.Rounds.CompareAnswer.{same, different, spent}
 use Rattle.refusals.specs.declared.Refusal.the-variants.{Spent}
-use Rattle.given.specs.declared.Given.{Given}
-use Rattle.given.specs.declared.Given.the-variants as Words
-use Rattle.given.specs.Given.{pairOf}
+use Rattle.given.specs.Given.{onGiven, pairOf}
 use Rattle.comparison.specs.declared.Comparison.{Comparison}
 use Rattle.comparison.specs.declared.Comparison.the-variants.{Same, Different, Refused}
 
@@ -18,15 +16,10 @@ byAnswer (same n) = Same n
 byAnswer (different n) = Different n
 byAnswer (spent n) = Refused (Spent n)
 
--- where both words are fine, their answer
-abbrev pub byGiven : Given → Comparison → Comparison
-byGiven Words.Fine next = next
-byGiven (Words.Refused r) next = Refused r
-
 -- the rows' answer for two words under relation words B
 unfoldable pub answerOf : List Word → Word → Word → ℕ → Comparison
 answerOf B u v allowance = byAnswer (compareUnder B allowance u v)
 
 -- two given words under relation words B of so many letters, with an allowance of rounds
 unfoldable pub comparisonOf : ℕ → List Word → Word → Word → ℕ → Comparison
-comparisonOf letters B u v allowance = byGiven (pairOf letters u v) (answerOf B u v allowance)
+comparisonOf letters B u v allowance = onGiven (pairOf letters u v) Refused (answerOf B u v allowance)

@@ -22,7 +22,7 @@ use Rattle.limits.specs.Limits.{comparedMost, roundMost, markMost, wordOf}
 use Rattle.letters.specs.Letters.{firstUnknown}
 use Rattle.given.specs.declared.Given.{Given}
 use Rattle.given.specs.declared.Given.the-variants.{Fine, Refused}
-use Rattle.given.specs.Given.{givenOf, andThen, pairOf, tripleOf, Widened}
+use Rattle.given.specs.Given.{givenOf, onGiven, pairOf, tripleOf, Widened}
 
 -- what the word's constructor answers
 module _ (most n : ℕ) where
@@ -112,7 +112,7 @@ fine-short number most letters w e = go (ltb most (length w)) refl
     go false q = ltb-false most (length w) q
 
 -- where both are fine, each is
-pub fine-both : (g h : Given) → andThen g h ≡ Fine → (g ≡ Fine) × (h ≡ Fine)
+pub fine-both : (g h : Given) → onGiven g Refused h ≡ Fine → (g ≡ Fine) × (h ≡ Fine)
 fine-both Fine h e = (refl, e)
 fine-both (Refused r) h e = let z : _≡_ {A = ℕ} 0 1 = cc in absurd (omega arith)
 

@@ -6,6 +6,7 @@ use mathlib.Core.Path.{_≡_}
 use lib.Dec.{ltb}
 use lib.ListN.{length, take}
 use Rattle.words.specs.Words.{Word}
+use Rattle.refusals.specs.declared.Refusal.{Refusal}
 use Rattle.refusals.specs.declared.Refusal.the-variants.{Long, Stranger}
 use Rattle.limits.specs.Limits.{comparedMost, roundMost, markMost}
 use Rattle.letters.specs.Letters.{firstUnknown}
@@ -19,18 +20,18 @@ givenOf number most letters w =
     (cond (ltb (firstUnknown letters w) (length w)) (Refused (Stranger number (firstUnknown letters w)))
     Fine)
 
--- where a word is fine, the next one
-abbrev pub andThen : Given → Given → Given
-andThen Fine next = next
-andThen (Refused r) next = Refused r
+-- where what is given is fine, go on with `next`; its refusal goes to `stop`
+abbrev pub onGiven : {A : Type 0} → Given → (Refusal → A) → A → A
+onGiven Fine stop next = next
+onGiven (Refused r) stop next = stop r
 
 -- the two words of a comparison
 unfoldable pub pairOf : ℕ → Word → Word → Given
-pairOf letters u v = andThen (givenOf 0 comparedMost letters u) (givenOf 1 comparedMost letters v)
+pairOf letters u v = onGiven (givenOf 0 comparedMost letters u) Refused (givenOf 1 comparedMost letters v)
 
 -- the two words of a round and its front mark
 unfoldable pub tripleOf : ℕ → Word → Word → Word → Given
-tripleOf letters u v p = andThen (givenOf 0 roundMost letters u) (andThen (givenOf 1 roundMost letters v) (givenOf 2 markMost letters p))
+tripleOf letters u v p = onGiven (givenOf 0 roundMost letters u) Refused (onGiven (givenOf 1 roundMost letters v) Refused (givenOf 2 markMost letters p))
 
 -- the word stands at the start of an array
 pub record Widened (w a : List ℕ) : Type 0 where

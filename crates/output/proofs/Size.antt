@@ -32,10 +32,10 @@ use Rattle.presentation.specs.Loading.{byVerdict, byReading, loadBook}
 use Rattle.presentation.proofs.Laws.{length-words}
 use Rattle.given.specs.declared.Given.{Given}
 use Rattle.given.specs.declared.Given.the-variants as Givens
-use Rattle.given.specs.Given.{givenOf, andThen, pairOf}
+use Rattle.given.specs.Given.{givenOf, onGiven, pairOf}
 use Rattle.comparison.specs.declared.Comparison.{Comparison}
 use Rattle.comparison.specs.declared.Comparison.the-variants.{Same, Different, Refused}
-use Rattle.comparison.specs.Comparing.{byAnswer, byGiven, answerOf, comparisonOf}
+use Rattle.comparison.specs.Comparing.{byAnswer, answerOf, comparisonOf}
 use Rattle.lines.specs.Decimal.{digitCount}
 use Rattle.lines.specs.Lines.{numbered, lineOf, pairLineOf}
 use Rattle.lines.proofs.Laws.{count-small, count-below, length-decimal}
@@ -152,11 +152,11 @@ small-word number letters w h = first (ltb comparedMost (length w)) refl
     first true e = omega arith
     first false e = second (ltb-false comparedMost (length w) e) (ltb (firstUnknown letters w) (length w)) refl
 
-small-then : (g h : Given) → SmallGiven g → SmallGiven h → SmallGiven (andThen g h)
+small-then : (g h : Given) → SmallGiven g → SmallGiven h → SmallGiven (onGiven g Givens.Refused h)
 small-then Givens.Fine h a b = b
 small-then (Givens.Refused r) h a b = a
 
-small-given : (g : Given) (c : Comparison) → SmallGiven g → Small c → Small (byGiven g c)
+small-given : (g : Given) (c : Comparison) → SmallGiven g → Small c → Small (onGiven g Refused c)
 small-given Givens.Fine c a b = b
 small-given (Givens.Refused r) c a b = a
 
