@@ -1,6 +1,6 @@
 use Rattle.answers.proofs.Laws.{answereds}
-use Rattle.entries.proofs.answered_round.Statement.{statement}
-use Rattle.entries.proofs.answered_round.Tie as tie
+use Rattle.loaded.proofs.answered_round.Statement.{statement}
+use Rattle.loaded.proofs.answered_round.Tie as tie
 
 pub answered-round-spec : {M : Type 1} → statement M
 answered-round-spec =

@@ -1,6 +1,6 @@
 use Rattle.answers.proofs.Rooms.{rooms}
-use Rattle.entries.proofs.check_room.Statement.{statement}
-use Rattle.entries.proofs.check_room.Tie as tie
+use Rattle.loaded.proofs.check_room.Statement.{statement}
+use Rattle.loaded.proofs.check_room.Tie as tie
 
 pub check-room-spec : {M : Type 1} → statement M
 check-room-spec =

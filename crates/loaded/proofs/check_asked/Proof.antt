@@ -1,6 +1,6 @@
 use Rattle.answers.proofs.Laws.{askeds}
-use Rattle.entries.proofs.check_asked.Statement.{statement}
-use Rattle.entries.proofs.check_asked.Tie as tie
+use Rattle.loaded.proofs.check_asked.Statement.{statement}
+use Rattle.loaded.proofs.check_asked.Tie as tie
 
 pub check-asked-spec : {M : Type 1} → statement M
 check-asked-spec =

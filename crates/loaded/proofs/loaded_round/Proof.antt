@@ -1,6 +1,6 @@
 use Rattle.answers.proofs.Laws.{loadeds, loaded-lent, loaded-made}
-use Rattle.entries.proofs.loaded_round.Statement.{statement}
-use Rattle.entries.proofs.loaded_round.Tie as tie
+use Rattle.loaded.proofs.loaded_round.Statement.{statement}
+use Rattle.loaded.proofs.loaded_round.Tie as tie
 
 -- eight slices stand before these two needs, too much for a search: the laws are applied to what the checks and the round ensure
 write-round-requires : tie.Need-write-round-requires
