@@ -1,11 +1,9 @@
 // The program of document 01, from its input bytes to its output bytes.
 ghost use mathlib.Core.Path.{_≡_};
-ghost use Prim.Native.Nat.{_+_, _≤_, _<_};
+ghost use Prim.Native.Nat.{_+_, _≤_};
 ghost use lib.ListN.{length};
-ghost use Rattle.records.specs.Reads.{Payload};
 ghost use Rattle.lines.specs.Lines.{WrittenTo};
-ghost use Rattle.output.specs.Program.{bookEnd, refusedLine, comparisonLine, loadedOutput, programOf};
-ghost use Rattle.output.specs.Requests.{longField, fieldsOf, requestAt};
+ghost use Rattle.output.specs.Program.{refusedLine, comparisonLine, loadedOutput, programOf};
 ghost use Rattle.output.specs.Writing.{linesUnder, Lined, linesOfAccepted, Accepted, Roomy};
 ghost use Rattle.comparison.specs.Comparing.{comparisonOf};
 ghost use Rattle.moves.specs.State.{Ready};
@@ -18,77 +16,15 @@ use layout::Table;
 use layout::Text;
 use limits::Input;
 use limits::MadeInput;
-use limits::Record;
-use limits::Word;
 use lines::put_line;
 use lines::put_pair_line;
 pub use output::Output;
 use output::Request;
 use presentation::load;
-use records::field_at;
-use records::record_at;
 use refusals::Refusal;
 use refusals::number_and_place;
-
-// A four-byte field, little-endian.
-fn long_field_at(input: &[u8], at: usize) -> u32
-    requires { ⌜ at + 3 < length (now input) ⌝ }
-    ensures { λ r. ⌜ r ≡ longField (now (input .entry)) at ⌝ }
-{
-    let low = field_at(input, at);
-    let high = field_at(input, at + 2);
-    low as u32 + 65536 * high as u32
-}
-
-// Where the book ends: at the first record of kind 3, its payload there or not, else with the input.
-pub fn book_end(input: &[u8]) -> usize
-    ensures { λ r. ⌜ r ≡ bookEnd (now (input .entry)) ⌝ }
-{
-    let mut at = 0;
-    while Record::PREFIX <= input.len() - at {
-        if field_at(input, at + 2) == Word::KIND {
-            return at;
-        }
-        let record = record_at(input, at);
-        let Record::Whole(_, _, to) = record else {
-            return input.len();
-        };
-        at = to;
-    }
-    input.len()
-}
-
-// The fields of a comparison, from one position to another: refusal 3, reported at `place`.
-fn fields_at(input: &[u8], from: usize, to: usize, place: usize) -> Request
-    requires { ⌜ Payload (now input) from to ⌝ }
-    ensures { λ r. ⌜ r ≡ fieldsOf (now (input .entry)) place from to ⌝ }
-{
-    if to - from < Word::LENGTH {
-        return Request::Refused(Refusal::Length(place));
-    }
-    let m = field_at(input, from + 4);
-    let n = field_at(input, from + 6);
-    if to - from != Word::LENGTH + m + n {
-        return Request::Refused(Refusal::Length(place));
-    }
-    let allowance = long_field_at(input, from);
-    let first = from + Word::LENGTH;
-    Request::Compare(allowance, first, first + m, to)
-}
-
-// What the record at a position of the kind 3 part asks for: refusals 1, 2, then those of its fields.
-pub fn request_at(input: &[u8], at: usize) -> Request
-    ensures { λ r. ⌜ r ≡ requestAt (now (input .entry)) at ⌝ }
-{
-    let record = record_at(input, at);
-    let Record::Whole(kind, from, to) = record else {
-        return Request::Refused(Refusal::Short(at));
-    };
-    match kind {
-        Word::KIND => fields_at(input, from, to, at),
-        _ => Request::Refused(Refusal::Kind(at)),
-    }
-}
+use requests::book_end;
+use requests::request_at;
 
 // Writes the line of a refusal at a place of the buffer and answers the place behind it.
 pub fn put_refusal(out: &mut [u8], at: usize, refusal: Refusal) -> usize

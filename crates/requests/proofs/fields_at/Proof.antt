@@ -1,6 +1,6 @@
 use Rattle.output.proofs.Reading.{fieldsets}
-use Rattle.program.proofs.fields_at.Statement.{statement}
-use Rattle.program.proofs.fields_at.Tie as tie
+use Rattle.requests.proofs.fields_at.Statement.{statement}
+use Rattle.requests.proofs.fields_at.Tie as tie
 
 pub fields-at-spec : {M : Type 1} → statement M
 fields-at-spec =

@@ -1,8 +1,8 @@
 use Prim.Native.Nat.{_-_}
 use lib.ListN.{length}
 use Rattle.output.proofs.Reading.{Ending, endings, ending-cut}
-use Rattle.program.proofs.book_end.Statement.{statement}
-use Rattle.program.proofs.book_end.Tie as tie
+use Rattle.requests.proofs.book_end.Statement.{statement}
+use Rattle.requests.proofs.book_end.Tie as tie
 
 abbrev Inv-loop : tie.InvT-loop
 Inv-loop input at₀ at = Ending input at

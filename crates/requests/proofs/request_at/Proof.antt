@@ -1,6 +1,6 @@
 use Rattle.output.proofs.Reading.{requests}
-use Rattle.program.proofs.request_at.Statement.{statement}
-use Rattle.program.proofs.request_at.Tie as tie
+use Rattle.requests.proofs.request_at.Statement.{statement}
+use Rattle.requests.proofs.request_at.Tie as tie
 
 pub request-at-spec : {M : Type 1} → statement M
 request-at-spec =
