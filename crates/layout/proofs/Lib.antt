@@ -1,5 +1,4 @@
 pub mod Parts
 pub mod Placed
 pub mod CutPlaces
-pub mod Appending
 pub mod Whole

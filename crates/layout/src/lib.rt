@@ -1,12 +1,9 @@
-// How relation words lie in arrays: where each part of the text and of the table begins, the readers of the table, and the laying of one relation word more.
-ghost use mathlib.Core.List.{[], _∷_, _++_};
+// How relation words lie in arrays: where each part of the text and of the table begins, and the readers of the table.
 ghost use mathlib.Core.Path.{_≡_};
-ghost use Prim.Native.Nat.{_+_, _<_};
+ghost use Prim.Native.Nat.{_<_};
 ghost use lib.ListN.{length};
 ghost use Rattle.layout.specs.Places.{startCell, xEndCell, zStartCell, endCell, firstCell, orderCell, sharedCell, fixedPlaces};
 ghost use Rattle.layout.specs.Layout.{startOf, xEndOf, zStartOf, endOf, firstOf, orderOf, sharedOf};
-ghost use Rattle.writing.specs.Writing.{written};
-ghost use Rattle.layout.specs.Appending.{WordRoom, Appended};
 use limits::Head;
 use limits::Relation;
 use numbers::wide16;
@@ -132,26 +129,4 @@ pub fn shared_of(table: &[u16], j: usize) -> usize
     ensures { λ r. ⌜ r ≡ sharedOf (now (table .entry)) j ⌝ }
 {
     wide16(table[Table::SHARED + j])
-}
-
-// Writes a word, and its fence behind it, at a position of the text.
-fn write_word(word: &[u8], text: &mut [u16], at: usize, fence: u16)
-    requires { ⌜ at + length (now word) < length (now text) ⌝ }
-    ensures { λ _. ⌜ now (text .exit) ≡ written at (now (word .entry) ++ (fence ∷ [])) (now (text .entry)) ⌝ }
-{
-    writing::widen(word, text, at);
-    text[at + word.len()] = fence;
-}
-
-// Lays a relation word behind the i that are laid.
-pub fn append_word(word: &[u8], text: &mut [u16], table: &mut [u16], i: usize)
-    requires { ⌜ WordRoom (now word) (now text) (now table) i ⌝ }
-    ensures { λ _. ⌜ Appended (now (word .entry)) (now (text .entry)) (now (table .entry)) i (now (text .exit)) (now (table .exit)) ⌝ }
-{
-    let start = start_of(table, i);
-    let fence = Text::LETTERS + i;
-    write_word(word, text, start, fence as u16);
-    let end = start + word.len();
-    table[Table::COLUMNS * i + Table::END] = end as u16;
-    table[Table::COLUMNS * (i + 1) + Table::START] = (end + 1) as u16;
 }

@@ -1,6 +1,6 @@
 -- The reader's loop: what it knows at its head, and a law for each way on.
 use Prim.Native.Nat.{ℕ, zero, suc, _+_, _*_, _-_, _≤_, _<_}
-use mathlib.Core.List.{List, [], _∷_, _++_, append-assoc}
+use mathlib.Core.List.{List, [], _∷_, _++_}
 use mathlib.Core.Path.{_≡_, refl, sym, ap, _∙_, subst}
 use native.Mathlib.Omega.{arith}
 use borrow.Author.Needs.{needs}
@@ -15,51 +15,13 @@ use Rattle.format.specs.declared.RelationReading.{RelationReading}
 use Rattle.format.specs.declared.RelationReading.the-variants as Relations
 use Rattle.format.specs.declared.Reading.{Reading}
 use Rattle.format.specs.declared.Reading.the-variants as Readings
-use Rattle.format.specs.Book.{Presentation, adding, read, refused, between, headAt, relationAt, relationIn, relationsFrom, readBook}
+use Rattle.format.specs.Book.{Presentation, adding, read, refused, headAt, relationAt, relationIn, relationsFrom, readBook}
 use Rattle.format.specs.Bytes.{Within}
 use Rattle.format.proofs.Readings.{RelationRead, relation-read, relation-within, within-more, head-read, within-head}
-use Rattle.layout.specs.Appending.{Arrays, WordRoom, Appended}
-use Rattle.layout.proofs.Appending.{nothing-laid}
-use Rattle.reader.specs.Laying.{RelationRoom, RelationAppended, ofHead, ofRelation, Stored, BookRead}
-
--- both words of a relation
-module _ (book : List ℕ) (left right to : ℕ) (text table : List ℕ) (count : ℕ) (r : RelationRoom book left right to text table count) where
-  pub left-room : WordRoom (between book left right) text table (2 * count)
-  left-room =
-      record {
-        laid = r .laid;
-        more = omega (arith, r .more);
-        some = r .within .left .some;
-        short = r .within .left .short;
-        known = λ k h. omega (arith, r .within .left .known k h, r .few);
-        arrays = r .arrays;
-      }
-
-  module _ (text₁ table₁ : List ℕ) (a : Appended (between book left right) text table (2 * count) text₁ table₁) where
-    pub right-room : WordRoom (between book right to) text₁ table₁ (2 * count + 1)
-    right-room =
-        record {
-          laid = a .laid;
-          more = omega (arith, r .more);
-          some = r .within .right .some;
-          short = r .within .right .short;
-          known = λ k h. omega (arith, r .within .right .known k h, r .few);
-          arrays = record { textLong = omega (arith, a .textLong, r .arrays .textLong); tableLong = a .tableLong ∙ r .arrays .tableLong };
-        }
-
-    pub both-appended : (text₂ table₂ : List ℕ) → Appended (between book right to) text₁ table₁ (2 * count + 1) text₂ table₂
-        → RelationAppended book left right to text table count text₂ table₂
-    unfolding relationWords
-    both-appended text₂ table₂ b =
-        let z : 2 * (count + 1) ≡ 2 * count + 1 + 1 = omega arith in
-        record {
-          laid = rw z (b .laid);
-          words = rw (z, b .words, a .words) (append-assoc (wordsIn text table (2 * count)) (between book left right ∷ []) (between book right to ∷ []));
-          textLong = b .textLong ∙ a .textLong;
-          tableLong = b .tableLong ∙ a .tableLong;
-        }
-
-pub ruleset relationRooms = (left-room, right-room, both-appended, needs)
+use Rattle.laying.specs.Appending.{Arrays}
+use Rattle.laying.specs.Relations.{RelationRoom, RelationAppended}
+use Rattle.laying.proofs.Appending.{nothing-laid}
+use Rattle.reader.specs.Laying.{ofHead, ofRelation, Stored, BookRead}
 
 -- the answer for a book that ends here, by what was read last
 module _ (head : HeadReading) where

@@ -1,39 +1,18 @@
--- Relation words laid in the text and the table as they are read, and what the reader of a book promises.
-use Prim.Native.Nat.{ℕ, _+_, _*_, _≤_, _<_}
-use mathlib.Core.List.{List, [], _∷_, _++_}
+-- What the reader of a book promises: its answer, and the relation words laid in the text and the table.
+use Prim.Native.Nat.{ℕ, _*_}
+use mathlib.Core.List.{List}
 use mathlib.Core.Path.{_≡_}
 use lib.ListN.{length}
 use Rattle.words.specs.Relations.{relationWords}
 use Rattle.layout.specs.Layout.{Laid, wordsIn}
-use Rattle.layout.specs.Appending.{Arrays}
 use Rattle.format.specs.declared.HeadReading.{HeadReading}
 use Rattle.format.specs.declared.HeadReading.the-variants as Heads
 use Rattle.format.specs.declared.RelationReading.{RelationReading}
 use Rattle.format.specs.declared.RelationReading.the-variants as Relations
 use Rattle.format.specs.declared.Reading.{Reading}
 use Rattle.format.specs.declared.Reading.the-variants as Readings
-use Rattle.format.specs.Book.{Presentation, read, relationIn, readBook, readingOf}
-use Rattle.format.specs.Bytes.{RelationWithin, Within}
-use Rattle.limits.specs.Limits.{lettersMost, relationsMost}
-
--- count relations are laid, and the one whose words lie from `left` to `right` and from there to `to` can be
-pub record RelationRoom (book : List ℕ) (left right to : ℕ) (text table : List ℕ) (count : ℕ) : Type 0 where
-  pub letters : ℕ
-  pub few : letters ≤ lettersMost
-  pub within : RelationWithin letters (relationIn book left right to)
-  pub first : left ≤ right
-  pub second : right ≤ to
-  pub inside : to ≤ length book
-  pub more : count < relationsMost
-  pub laid : Laid text table (2 * count)
-  pub arrays : Arrays text table
-
--- both its words are laid behind those before them
-pub record RelationAppended (book : List ℕ) (left right to : ℕ) (text table : List ℕ) (count : ℕ) (text′ table′ : List ℕ) : Type 0 where
-  pub laid : Laid text′ table′ (2 * (count + 1))
-  pub words : wordsIn text′ table′ (2 * (count + 1)) ≡ wordsIn text table (2 * count) ++ relationWords (relationIn book left right to ∷ [])
-  pub textLong : length text′ ≡ length text
-  pub tableLong : length table′ ≡ length table
+use Rattle.format.specs.Book.{Presentation, read, readBook, readingOf}
+use Rattle.format.specs.Bytes.{Within}
 
 -- the answer for a book that ends with its head
 abbrev pub ofHead : HeadReading → Reading

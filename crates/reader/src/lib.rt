@@ -1,35 +1,15 @@
 // The book reader: bytes to relation words (document 01, "Book bytes"). Its answer is what the definition of reading a book gives, for every byte slice.
 // It is a part for the entries above it: a book that it reads may still have a relation word twice, or fail C(4).
 ghost use mathlib.Core.Path.{_≡_};
-ghost use mathlib.Core.List.{[], _∷_, _++_};
-ghost use Prim.Native.Nat.{_+_, _<_};
-ghost use lib.ListN.{length};
-ghost use Rattle.layout.specs.Appending.{Arrays};
-ghost use Rattle.reader.specs.Laying.{RelationRoom, RelationAppended, ofHead, ofRelation, BookRead};
+ghost use Rattle.laying.specs.Appending.{Arrays};
+ghost use Rattle.reader.specs.Laying.{ofHead, ofRelation, BookRead};
 use format::HeadReading;
 use format::Reading;
 use format::RelationReading;
+use laying::append_relation;
 use layout::Table;
-use layout::append_word;
 use relations::head_at;
 use relations::relation_at;
-
-// Lays both words of the relation that lie from `left` to `right` and from there to `to`.
-fn append_relation(
-    book: &[u8],
-    left: usize,
-    right: usize,
-    to: usize,
-    text: &mut [u16],
-    table: &mut [u16],
-    count: usize,
-)
-    requires { ⌜ RelationRoom (now book) left right to (now text) (now table) count ⌝ }
-    ensures { λ _. ⌜ RelationAppended (now (book .entry)) left right to (now (text .entry)) (now (table .entry)) count (now (text .exit)) (now (table .exit)) ⌝ }
-{
-    append_word(&book[left..right], text, table, 2 * count);
-    append_word(&book[right..to], text, table, 2 * count + 1);
-}
 
 // The answer for a book that ends with its head: the head's refusal, or no relations.
 fn of_head(head: HeadReading) -> Reading

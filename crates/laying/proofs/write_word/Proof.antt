@@ -1,6 +1,6 @@
-use Rattle.layout.proofs.Appending.{fences}
-use Rattle.layout.proofs.write_word.Statement.{statement}
-use Rattle.layout.proofs.write_word.Tie as tie
+use Rattle.laying.proofs.Appending.{fences}
+use Rattle.laying.proofs.write_word.Statement.{statement}
+use Rattle.laying.proofs.write_word.Tie as tie
 
 pub write-word-spec : {M : Type 1} → statement M
 write-word-spec =

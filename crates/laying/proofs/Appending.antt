@@ -14,10 +14,10 @@ use mir.Val.{Fits}
 use Rattle.words.specs.Words.{Word}
 use Rattle.writing.specs.Writing.{written}
 use Rattle.writing.proofs.Writing.{written-length, written-before, written-in, written-there, written-behind, written-one}
 use Rattle.layout.specs.Places.{wordMost, textRoom, tableRoom, lettersBound, fenceOf, startCell, endCell}
 use Rattle.layout.specs.Layout.{startOf, endOf, part, wordsIn, Laid}
-use Rattle.layout.specs.Appending.{WordRoom, Appended}
+use Rattle.laying.specs.Appending.{WordRoom, Appended}
 use Rattle.layout.proofs.Placed.{start-bound, end-before, same-words}
 
 -- a word and its fence
 abbrev pub fenced : Word → ℕ → List ℕ

@@ -1,6 +1,6 @@
-use Rattle.reader.proofs.Books.{relationRooms}
-use Rattle.reader.proofs.append_relation.Statement.{statement}
-use Rattle.reader.proofs.append_relation.Tie as tie
+use Rattle.laying.proofs.Relations.{relationRooms}
+use Rattle.laying.proofs.append_relation.Statement.{statement}
+use Rattle.laying.proofs.append_relation.Tie as tie
 
 pub append-relation-spec : {M : Type 1} → statement M
 append-relation-spec =

@@ -1,7 +1,7 @@
 use borrow.Author.Needs.{needs}
-use Rattle.layout.proofs.Appending.{rooms, room-appended}
-use Rattle.layout.proofs.append_word.Statement.{statement}
-use Rattle.layout.proofs.append_word.Tie as tie
+use Rattle.laying.proofs.Appending.{rooms, room-appended}
+use Rattle.laying.proofs.append_word.Statement.{statement}
+use Rattle.laying.proofs.append_word.Tie as tie
 
 pub append-word-spec : {M : Type 1} → statement M
 append-word-spec =
