@@ -1,5 +1,5 @@
 use Prim.Native.Nat.{_-_}
-use Rattle.listing.specs.Listing.{Gathered}
+use Rattle.insertion.specs.Inserting.{Gathered}
 use Rattle.listing.proofs.Making.{gathers}
 use Rattle.listing.proofs.list_letter.Statement.{statement}
 use Rattle.listing.proofs.list_letter.Tie as tie

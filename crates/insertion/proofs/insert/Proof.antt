@@ -1,6 +1,6 @@
-use Rattle.listing.proofs.Making.{Shifting, shifts}
-use Rattle.listing.proofs.insert.Statement.{statement}
-use Rattle.listing.proofs.insert.Tie as tie
+use Rattle.insertion.proofs.Inserting.{Shifting, shifts}
+use Rattle.insertion.proofs.insert.Statement.{statement}
+use Rattle.insertion.proofs.insert.Tie as tie
 
 abbrev Inv-loop : tie.InvT-loop
 Inv-loop text table₀ n c from j k i₀ table i = Shifting text table₀ table n c from j k i

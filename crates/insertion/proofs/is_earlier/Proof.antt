@@ -1,6 +1,6 @@
-use Rattle.listing.proofs.Making.{pairs}
-use Rattle.listing.proofs.is_earlier.Statement.{statement}
-use Rattle.listing.proofs.is_earlier.Tie as tie
+use Rattle.insertion.proofs.Inserting.{pairs}
+use Rattle.insertion.proofs.is_earlier.Statement.{statement}
+use Rattle.insertion.proofs.is_earlier.Tie as tie
 
 pub is-earlier-spec : {M : Type 1} → statement M
 is-earlier-spec =

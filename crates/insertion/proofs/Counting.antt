@@ -8,7 +8,7 @@ use native.Mathlib.Numerals.{add-one}
 use native.Mathlib.Decide.{decLt, ℕ-discrete}
 use lib.Dec.{eqb, ltb}
 use borrow.Author.Tests.{lt-ltb, le-ltb, eq-eqb, ne-eqb}
-use Rattle.listing.specs.Listing.{count}
+use Rattle.insertion.specs.Inserting.{count}
 
 pub count-bound : (p : ℕ → Bool) (n : ℕ) → count p n ≤ n
 unfolding count

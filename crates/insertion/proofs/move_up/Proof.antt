@@ -1,6 +1,6 @@
-use Rattle.listing.proofs.Making.{moves}
-use Rattle.listing.proofs.move_up.Statement.{statement}
-use Rattle.listing.proofs.move_up.Tie as tie
+use Rattle.insertion.proofs.Inserting.{moves}
+use Rattle.insertion.proofs.move_up.Statement.{statement}
+use Rattle.insertion.proofs.move_up.Tie as tie
 
 pub move-up-spec : {M : Type 1} → statement M
 move-up-spec =

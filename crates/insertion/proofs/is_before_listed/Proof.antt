@@ -1,6 +1,6 @@
-use Rattle.listing.proofs.Making.{insertings}
-use Rattle.listing.proofs.is_before_listed.Statement.{statement}
-use Rattle.listing.proofs.is_before_listed.Tie as tie
+use Rattle.insertion.proofs.Inserting.{insertings}
+use Rattle.insertion.proofs.is_before_listed.Statement.{statement}
+use Rattle.insertion.proofs.is_before_listed.Tie as tie
 
 pub is-before-listed-spec : {M : Type 1} → statement M
 is-before-listed-spec =

@@ -1,6 +1,6 @@
-use Rattle.listing.proofs.Making.{pairs}
-use Rattle.listing.proofs.shared_letters.Statement.{statement}
-use Rattle.listing.proofs.shared_letters.Tie as tie
+use Rattle.insertion.proofs.Inserting.{pairs}
+use Rattle.insertion.proofs.shared_letters.Statement.{statement}
+use Rattle.insertion.proofs.shared_letters.Tie as tie
 
 pub shared-letters-spec : {M : Type 1} → statement M
 shared-letters-spec =
