@@ -14,7 +14,7 @@ use Rattle.congruence.proofs.Heads.{Facts}
 use Rattle.congruence.proofs.ShapeNoPrefix.{quiet-nil, quiet-drop, quiet-z, prefix-past-quiet}
 use Rattle.layout.specs.Layout.{part}
 use Rattle.layout.proofs.Parts.{part-none, part-drop}
-use Rattle.plans.specs.declared.Change.{Change}
+use Rattle.changes.specs.declared.Change.{Change}
 use Rattle.plans.specs.Plans.{applied, Fit, MarkFit}
 use Rattle.moves.specs.declared.PlacedWord.{PlacedWord}
 use Rattle.moves.specs.declared.Mark.{Mark}

@@ -18,8 +18,9 @@ use Rattle.layout.specs.Places.{tableRoom}
 use Rattle.layout.specs.Layout.{part, wordsIn}
 use Rattle.rows.specs.FirstLetters.{emptyList}
 use Rattle.rows.proofs.FirstLetters.{begins-none}
-use Rattle.plans.specs.declared.Plan.the-variants as Plans
-use Rattle.plans.specs.RowPlans.{cutBy, dropOne}
+use Rattle.changes.specs.declared.Plan.the-variants as Plans
+use Rattle.changes.specs.Changes.{cutBy}
+use Rattle.plans.specs.RowPlans.{dropOne}
 use Rattle.plans.proofs.Drops.{drop-plan}
 use Rattle.moves.specs.declared.PlacedWord.{PlacedWord}
 use Rattle.moves.specs.declared.Mark.{Mark}

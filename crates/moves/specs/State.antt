@@ -10,9 +10,9 @@ use Rattle.congruence.specs.Rows.{Next, round}
 use Rattle.congruence.specs.Rows.Next.{end, go}
 use Rattle.congruence.specs.NoRelationPrefix.{NoRelationPrefix}
 use Rattle.layout.specs.Layout.{part, wordsIn}
-use Rattle.plans.specs.declared.Change.{Change}
-use Rattle.plans.specs.declared.Plan.{Plan}
-use Rattle.plans.specs.declared.Plan.the-variants as Plans
+use Rattle.changes.specs.declared.Change.{Change}
+use Rattle.changes.specs.declared.Plan.{Plan}
+use Rattle.changes.specs.declared.Plan.the-variants as Plans
 use Rattle.rows.specs.Sites.{Paired}
 use Rattle.limits.specs.Limits.{comparedMost}
 use Rattle.moves.specs.declared.PlacedWord.{PlacedWord}

@@ -21,12 +21,14 @@ use Rattle.rows.specs.Sites.{SiteInText, SitesInText, Paired, PairedWord}
 use Rattle.rows.specs.Shapes.{FoundRow}
 use Rattle.rows.proofs.Sites.{Lies}
 use Rattle.rows.proofs.Laws.{tail-after, stop-after, own-lies, other-lies, sites-in-text}
-use Rattle.plans.specs.declared.Plan.{Plan}
-use Rattle.plans.specs.declared.Plan.the-variants.{End}
+use Rattle.changes.specs.declared.Plan.{Plan}
+use Rattle.changes.specs.declared.Plan.the-variants.{End}
 use Rattle.plans.specs.Plans.{planned, Carries, PlansRound}
 use Rattle.plans.specs.Plans.PlanFit.{ends}
-use Rattle.plans.specs.Asked.{BothNonEmpty, CheckedSites, SitesUpwards, TailsHave}
-use Rattle.plans.specs.RowPlans.{sharedSuffix, plan1, plan2, keptTail, wholeCut, plan4, plan5, plan6, plan7, plan8Of}
+use Rattle.changes.specs.Asked.{CheckedSites, SitesUpwards}
+use Rattle.plans.specs.Asked.{BothNonEmpty, TailsHave}
+use Rattle.changes.specs.Changes.{keptTail, wholeCut, plan6, plan7, sharedSuffix}
+use Rattle.plans.specs.RowPlans.{plan1, plan2, plan4, plan5, plan8Of}
 use Rattle.plans.proofs.Carried.{carried2, carried4, carried5, carried6, carried7, carried8}
 
 -- row 8

@@ -1,5 +1,4 @@
 pub mod Carried
-pub mod CommonSuffixes
 pub mod Laws
 pub mod Decisions
 pub mod Drops

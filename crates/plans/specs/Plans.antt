@@ -9,9 +9,9 @@ use Rattle.overlap.specs.Cuts.{xylen, xyOf, zOf}
 use Rattle.congruence.specs.Rows.{Next, round}
 use Rattle.congruence.specs.Rows.Next.{end, go}
 use Rattle.layout.specs.Layout.{part, wordsIn}
-use Rattle.plans.specs.declared.Change.{Change}
-use Rattle.plans.specs.declared.Plan.{Plan}
-use Rattle.plans.specs.declared.Plan.the-variants.{End, Go}
+use Rattle.changes.specs.declared.Change.{Change}
+use Rattle.changes.specs.declared.Plan.{Plan}
+use Rattle.changes.specs.declared.Plan.the-variants.{End, Go}
 
 -- the word that a change makes of w
 abbrev pub applied : List ℕ → Change → Word → Word

@@ -18,9 +18,9 @@ use Rattle.layout.proofs.Whole.{whole-inside, whole-long, whole-words, whole-by
 use Rattle.given.specs.Given.{Widened}
 use Rattle.writing.specs.Writing.{written, Bytes, Narrowing}
 use Rattle.writing.proofs.Writing.{written-zero, written-length, written-behind, bytes-drop, bytes-take}
-use Rattle.plans.specs.declared.Change.{Change}
-use Rattle.plans.specs.declared.Plan.{Plan}
-use Rattle.plans.specs.declared.Plan.the-variants.{End, Go}
+use Rattle.changes.specs.declared.Change.{Change}
+use Rattle.changes.specs.declared.Plan.{Plan}
+use Rattle.changes.specs.declared.Plan.the-variants.{End, Go}
 use Rattle.rounds.specs.declared.RoundLengths.{RoundLengths}
 use Rattle.rounds.specs.declared.RoundLengths.the-variants as S
 use Rattle.rows.specs.Sites.{Paired}

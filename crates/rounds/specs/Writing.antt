@@ -7,9 +7,9 @@ use Rattle.words.specs.Words.{Word}
 use Rattle.writing.specs.Writing.{over, Bytes}
 use Rattle.congruence.specs.Rows.{Next}
 use Rattle.congruence.specs.Rows.Next.{end, go}
-use Rattle.plans.specs.declared.Change.{Change}
-use Rattle.plans.specs.declared.Plan.{Plan}
-use Rattle.plans.specs.declared.Plan.the-variants.{Go}
+use Rattle.changes.specs.declared.Change.{Change}
+use Rattle.changes.specs.declared.Plan.{Plan}
+use Rattle.changes.specs.declared.Plan.the-variants.{Go}
 use Rattle.rounds.specs.declared.RoundLengths.{RoundLengths}
 use Rattle.rounds.specs.declared.RoundLengths.the-variants as S
 use Rattle.rows.specs.Sites.{Paired}

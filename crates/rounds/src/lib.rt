@@ -4,7 +4,7 @@ ghost use mathlib.Core.Path.{_≡_};
 ghost use Rattle.congruence.specs.Rows.{round};
 ghost use Rattle.layout.specs.Layout.{wordsIn};
 ghost use Rattle.plans.specs.Plans.{planned, PlansRound};
-ghost use Rattle.plans.specs.declared.Plan.the-variants.{Go};
+ghost use Rattle.changes.specs.declared.Plan.the-variants.{Go};
 ghost use Rattle.rounds.specs.Writing.{Writable, Written, writtenBy, Changes, Planned, GivenShort, GivenRoom, LentInBytes, Lent};
 ghost use Rattle.rounds.specs.Writing.Outcome.{after};
 use given::widen_word;

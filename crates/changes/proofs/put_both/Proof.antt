@@ -1,6 +1,6 @@
-use Rattle.plans.proofs.Laws.{mades}
-use Rattle.plans.proofs.put_both.Statement.{statement}
-use Rattle.plans.proofs.put_both.Tie as tie
+use Rattle.changes.proofs.Laws.{mades}
+use Rattle.changes.proofs.put_both.Statement.{statement}
+use Rattle.changes.proofs.put_both.Tie as tie
 
 pub put-both-spec : {M : Type 1} → statement M
 put-both-spec =

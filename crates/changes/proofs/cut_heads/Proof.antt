@@ -1,6 +1,6 @@
-use Rattle.plans.proofs.Laws.{mades}
-use Rattle.plans.proofs.cut_heads.Statement.{statement}
-use Rattle.plans.proofs.cut_heads.Tie as tie
+use Rattle.changes.proofs.Laws.{mades}
+use Rattle.changes.proofs.cut_heads.Statement.{statement}
+use Rattle.changes.proofs.cut_heads.Tie as tie
 
 pub cut-heads-spec : {M : Type 1} → statement M
 cut-heads-spec =

@@ -1,7 +1,7 @@
 use Prim.Native.Nat.{_-_}
-use Rattle.plans.proofs.CommonSuffixes.{Agreeing, agreeings}
-use Rattle.plans.proofs.agree_back.Statement.{statement}
-use Rattle.plans.proofs.agree_back.Tie as tie
+use Rattle.changes.proofs.CommonSuffixes.{Agreeing, agreeings}
+use Rattle.changes.proofs.agree_back.Statement.{statement}
+use Rattle.changes.proofs.agree_back.Tie as tie
 
 abbrev Inv-loop : tie.InvT-loop
 Inv-loop text x y room l₀ l = Agreeing text x y room l

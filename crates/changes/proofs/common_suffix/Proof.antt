@@ -1,6 +1,6 @@
-use Rattle.plans.proofs.CommonSuffixes.{sharedSuffixes}
-use Rattle.plans.proofs.common_suffix.Statement.{statement}
-use Rattle.plans.proofs.common_suffix.Tie as tie
+use Rattle.changes.proofs.CommonSuffixes.{sharedSuffixes}
+use Rattle.changes.proofs.common_suffix.Statement.{statement}
+use Rattle.changes.proofs.common_suffix.Tie as tie
 
 pub common-suffix-spec : {M : Type 1} → statement M
 common-suffix-spec =

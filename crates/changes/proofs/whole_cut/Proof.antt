@@ -1,6 +1,6 @@
-use Rattle.plans.proofs.Laws.{wholes}
-use Rattle.plans.proofs.whole_cut.Statement.{statement}
-use Rattle.plans.proofs.whole_cut.Tie as tie
+use Rattle.changes.proofs.Laws.{wholes}
+use Rattle.changes.proofs.whole_cut.Statement.{statement}
+use Rattle.changes.proofs.whole_cut.Tie as tie
 
 pub whole-cut-spec : {M : Type 1} → statement M
 whole-cut-spec =

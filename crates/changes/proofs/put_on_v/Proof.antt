@@ -1,6 +1,6 @@
-use Rattle.plans.proofs.Laws.{mades}
-use Rattle.plans.proofs.put_on_v.Statement.{statement}
-use Rattle.plans.proofs.put_on_v.Tie as tie
+use Rattle.changes.proofs.Laws.{mades}
+use Rattle.changes.proofs.put_on_v.Statement.{statement}
+use Rattle.changes.proofs.put_on_v.Tie as tie
 
 pub put-on-v-spec : {M : Type 1} → statement M
 put-on-v-spec =

@@ -1,6 +1,6 @@
-use Rattle.plans.proofs.Laws.{keptTails}
-use Rattle.plans.proofs.kept_tail.Statement.{statement}
-use Rattle.plans.proofs.kept_tail.Tie as tie
+use Rattle.changes.proofs.Laws.{keptTails}
+use Rattle.changes.proofs.kept_tail.Statement.{statement}
+use Rattle.changes.proofs.kept_tail.Tie as tie
 
 pub kept-tail-spec : {M : Type 1} → statement M
 kept-tail-spec =

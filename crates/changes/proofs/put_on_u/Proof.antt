@@ -1,6 +1,6 @@
-use Rattle.plans.proofs.Laws.{mades}
-use Rattle.plans.proofs.put_on_u.Statement.{statement}
-use Rattle.plans.proofs.put_on_u.Tie as tie
+use Rattle.changes.proofs.Laws.{mades}
+use Rattle.changes.proofs.put_on_u.Statement.{statement}
+use Rattle.changes.proofs.put_on_u.Tie as tie
 
 pub put-on-u-spec : {M : Type 1} → statement M
 put-on-u-spec =

@@ -1,6 +1,6 @@
-use Rattle.plans.proofs.Laws.{afters}
-use Rattle.plans.proofs.mark_after.Statement.{statement}
-use Rattle.plans.proofs.mark_after.Tie as tie
+use Rattle.changes.proofs.Laws.{afters}
+use Rattle.changes.proofs.mark_after.Statement.{statement}
+use Rattle.changes.proofs.mark_after.Tie as tie
 
 pub mark-after-spec : {M : Type 1} → statement M
 mark-after-spec =

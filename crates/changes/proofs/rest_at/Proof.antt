@@ -1,6 +1,6 @@
-use Rattle.plans.proofs.Laws.{rests}
-use Rattle.plans.proofs.rest_at.Statement.{statement}
-use Rattle.plans.proofs.rest_at.Tie as tie
+use Rattle.changes.proofs.Laws.{rests}
+use Rattle.changes.proofs.rest_at.Statement.{statement}
+use Rattle.changes.proofs.rest_at.Tie as tie
 
 pub rest-at-spec : {M : Type 1} → statement M
 rest-at-spec =

@@ -17,8 +17,8 @@ use Rattle.layout.specs.Layout.{part}
 use Rattle.layout.proofs.Parts.{part-drop}
 use Rattle.rows.specs.declared.Site.{Site}
 use Rattle.rows.specs.Sites.{SitesInText}
-use Rattle.plans.specs.Asked.{BackRoom, AgreeBack}
-use Rattle.plans.specs.RowPlans.{sharedSuffix}
+use Rattle.changes.specs.Asked.{BackRoom, AgreeBack}
+use Rattle.changes.specs.Changes.{sharedSuffix}
 
 -- the last m letters of a part are a part
 last-part : (text : List ℕ) (from to m : ℕ) → from ≤ to → to ≤ length text → m ≤ to - from → lastLetters m (part text from to) ≡ part text (to - m) to

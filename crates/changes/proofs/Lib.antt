@@ -1,0 +1,2 @@
+pub mod CommonSuffixes
+pub mod Laws
