@@ -15,8 +15,8 @@ use Rattle.words.proofs.Lists.{part-length, part-at}
 use Rattle.words.proofs.Prefixes.{prefix-at, at-prefix}
 use Rattle.layout.specs.Layout.{part}
 use Rattle.layout.proofs.Parts.{part-drop}
-use Rattle.rows.specs.declared.Site.{Site}
-use Rattle.rows.specs.Sites.{SitesInText}
+use Rattle.sites.specs.declared.Site.{Site}
+use Rattle.sites.specs.Sites.{SitesInText}
 use Rattle.changes.specs.Asked.{BackRoom, AgreeBack}
 use Rattle.changes.specs.Changes.{sharedSuffix}
 

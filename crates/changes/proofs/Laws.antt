@@ -11,11 +11,11 @@ use Rattle.congruence.specs.Rows.{hasRelationPrefixBetween}
 use Rattle.layout.specs.Layout.{part, Span, Checked}
 use Rattle.changes.specs.declared.Change.{Change}
 use Rattle.changes.specs.declared.Plan.the-variants.{Go}
-use Rattle.rows.specs.declared.Site.{Site}
-use Rattle.rows.specs.Sites.{SitesInText}
+use Rattle.sites.specs.declared.Site.{Site}
+use Rattle.sites.specs.Sites.{SitesInText}
 use Rattle.changes.specs.Asked.{CheckedSites, TailHas}
 use Rattle.changes.specs.Changes.{cutBy, tailBy, keptTail, wholeCut, putBoth, markAfter, plan6, plan7, restAt, plan8}
-use Rattle.rows.proofs.Laws.{tail-after, stop-after}
+use Rattle.sites.proofs.Laws.{tail-after, stop-after}
 
 -- changes by their numbers
 pub cut-made : (m : ℕ) → record { from = 0; to = 0; cut = m } ≡ cutBy m

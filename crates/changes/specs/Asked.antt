@@ -4,8 +4,8 @@ use mathlib.Core.List.{List}
 use mathlib.Core.Path.{_≡_}
 use lib.ListN.{length, getD}
 use Rattle.layout.specs.Layout.{Checked}
-use Rattle.rows.specs.declared.Site.{Site}
-use Rattle.rows.specs.Sites.{SiteInText, SitesInText}
+use Rattle.sites.specs.declared.Site.{Site}
+use Rattle.sites.specs.Sites.{SiteInText, SitesInText}
 
 -- `room` letters lie before x and before y
 pub record BackRoom (text : List ℕ) (x y room : ℕ) : Type 0 where

@@ -6,7 +6,7 @@ use lib.ListN.{length, drop}
 use Rattle.words.specs.Words.{Word, isPrefix, commonSuffix}
 use Rattle.congruence.specs.Rows.{hasRelationPrefixBetween}
 use Rattle.layout.specs.Layout.{part}
-use Rattle.rows.specs.declared.Site.{Site}
+use Rattle.sites.specs.declared.Site.{Site}
 use Rattle.changes.specs.declared.Change.{Change}
 use Rattle.changes.specs.declared.Plan.{Plan}
 use Rattle.changes.specs.declared.Plan.the-variants.{Go}

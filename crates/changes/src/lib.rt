@@ -4,11 +4,11 @@
 ghost use mathlib.Core.Path.{_≡_};
 ghost use mathlib.Core.List.{_++_};
 ghost use Rattle.layout.specs.Layout.{wordsIn};
-ghost use Rattle.rows.specs.Sites.{SiteInText, SitesInText};
+ghost use Rattle.sites.specs.Sites.{SiteInText, SitesInText};
 ghost use Rattle.changes.specs.Asked.{BackRoom, AgreeBack, CheckedSites, SitesUpwards, TailHas, SitesHave};
 ghost use Rattle.changes.specs.Changes.{cutBy, tailBy, keptTail, wholeCut, putBoth, markAfter, plan6, plan7, sharedSuffix, restAt, plan8};
 use numbers::smaller;
-use rows::Site;
+use sites::Site;
 
 // The next word is text[from..to], and then the old word without its first `cut` letters.
 pub struct Change {
@@ -58,7 +58,7 @@ pub fn kept_tail(
     requires { ⌜ CheckedSites (now text) (now table) n s t ⌝ }
     ensures { λ r. ⌜ r ≡ keptTail (wordsIn (now (text .entry)) (now (table .entry)) n) s t (now (a .entry) ++ now (b .entry)) ⌝ }
 {
-    if rows::has_prefix_between(text, table, n, a, b, s.tail - s.start, s.stop - s.start) {
+    if sites::has_prefix_between(text, table, n, a, b, s.tail - s.start, s.stop - s.start) {
         return s;
     }
     t
@@ -87,7 +87,7 @@ pub fn mark_after(text: &[u16], s: Site, p: &[u16]) -> Change
     requires { ⌜ SiteInText (now text) s ⌝ }
     ensures { λ r. ⌜ r ≡ markAfter (now (text .entry)) s (now (p .entry)) ⌝ }
 {
-    if rows::mark_in_x(text, s, p) {
+    if sites::mark_in_x(text, s, p) {
         return cut_by(p.len());
     }
     put_tail(s, p.len())

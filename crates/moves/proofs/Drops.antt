@@ -16,8 +16,8 @@ use Rattle.words.proofs.Lists.{part-length, part-at}
 use Rattle.congruence.specs.Rows.{alike}
 use Rattle.layout.specs.Places.{tableRoom}
 use Rattle.layout.specs.Layout.{part, wordsIn}
-use Rattle.rows.specs.FirstLetters.{emptyList}
-use Rattle.rows.proofs.FirstLetters.{begins-none}
+use Rattle.sites.specs.FirstLetters.{emptyList}
+use Rattle.sites.proofs.FirstLetters.{begins-none}
 use Rattle.changes.specs.declared.Plan.the-variants as Plans
 use Rattle.changes.specs.Changes.{cutBy}
 use Rattle.plans.specs.RowPlans.{dropOne}

@@ -13,7 +13,7 @@ use Rattle.layout.specs.Layout.{part, wordsIn}
 use Rattle.changes.specs.declared.Change.{Change}
 use Rattle.changes.specs.declared.Plan.{Plan}
 use Rattle.changes.specs.declared.Plan.the-variants as Plans
-use Rattle.rows.specs.Sites.{Paired}
+use Rattle.rows.specs.Pairs.{Paired}
 use Rattle.limits.specs.Limits.{comparedMost}
 use Rattle.moves.specs.declared.PlacedWord.{PlacedWord}
 use Rattle.moves.specs.declared.Mark.{Mark}

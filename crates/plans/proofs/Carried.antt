@@ -22,13 +22,13 @@ use Rattle.congruence.proofs.FirstRow.Fits.{fits2, fits4, fits5, fits6, fits7, 
 use Rattle.layout.specs.Layout.{part}
 use Rattle.layout.proofs.Parts.{part-take, part-drop}
 use Rattle.changes.specs.declared.Plan.the-variants.{End}
-use Rattle.rows.specs.declared.Site.{Site}
+use Rattle.sites.specs.declared.Site.{Site}
 use Rattle.plans.specs.Plans.{applied, planned, Fit, MarkFit, Carries}
 use Rattle.plans.specs.Plans.PlanFit.{ends, goes}
 use Rattle.changes.specs.Changes.{cutBy, tailBy, keptTail, wholeCut, putBoth, markAfter, plan6, plan7, plan8, restAt, sharedSuffix}
 use Rattle.plans.specs.RowPlans.{dropOne, markDrop, plan2, plan4, plan5, plan8Of}
-use Rattle.rows.proofs.Sites.{Lies}
-use Rattle.rows.proofs.CleanPrefixes.{between-drop}
+use Rattle.sites.proofs.Sites.{Lies}
+use Rattle.sites.proofs.CleanPrefixes.{between-drop}
 
 -- changes that fit
 pub cut-fits : (text : List ℕ) (B : List Word) (w : Word) (m : ℕ) → m ≤ length w → Fit text B w (cutBy m)

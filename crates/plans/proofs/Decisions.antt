@@ -16,11 +16,13 @@ use Rattle.congruence.proofs.FirstRow.Fits.{fits2}
 use Rattle.layout.specs.Layout.{part, wordsIn}
 use Rattle.layout.proofs.Placed.{words-length}
 use Rattle.rows.specs.declared.Found.{Found}
-use Rattle.rows.specs.declared.Site.{Site}
-use Rattle.rows.specs.Sites.{SiteInText, SitesInText, Paired, PairedWord}
+use Rattle.sites.specs.declared.Site.{Site}
+use Rattle.sites.specs.Sites.{SiteInText, SitesInText}
+use Rattle.rows.specs.Pairs.{Paired, PairedWord}
 use Rattle.rows.specs.Shapes.{FoundRow}
-use Rattle.rows.proofs.Sites.{Lies}
-use Rattle.rows.proofs.Laws.{tail-after, stop-after, own-lies, other-lies, sites-in-text}
+use Rattle.sites.proofs.Sites.{Lies}
+use Rattle.sites.proofs.Laws.{tail-after, stop-after}
+use Rattle.rows.proofs.Laws.{own-lies, other-lies, sites-in-text}
 use Rattle.changes.specs.declared.Plan.{Plan}
 use Rattle.changes.specs.declared.Plan.the-variants.{End}
 use Rattle.plans.specs.Plans.{planned, Carries, PlansRound}

@@ -9,7 +9,7 @@ use borrow.Author.Tests.{eq-eqb, ne-eqb}
 use lib.Dec.{eqb}
 use lib.ListN.{length, getD, length-append}
 use Rattle.words.specs.Words.{Word, isEmpty}
-use Rattle.rows.specs.declared.Site.{Site}
+use Rattle.sites.specs.declared.Site.{Site}
 use Rattle.changes.specs.declared.Change.{Change}
 use Rattle.changes.specs.declared.Plan.{Plan}
 use Rattle.changes.specs.declared.Plan.the-variants.{End, Go}
@@ -17,7 +17,8 @@ use Rattle.changes.specs.Asked.{TailHas, SitesHave}
 use Rattle.changes.specs.Changes.{cutBy, keptTail, wholeCut, putBoth, markAfter, restAt, plan8}
 use Rattle.plans.specs.Asked.{BothNonEmpty, TailsHave}
 use Rattle.plans.specs.RowPlans.{plan1, dropOne, markDrop, plan2, plan4, plan5, plan8Of}
-use Rattle.rows.proofs.Laws.{empty-right, tail-after}
+use Rattle.sites.proofs.Laws.{tail-after}
+use Rattle.rows.proofs.Laws.{empty-right}
 use Rattle.changes.proofs.Laws.{sites-of-checked, stop-of-sites}
 
 -- plans by their changes

@@ -3,7 +3,7 @@ use Prim.Native.Nat.{ℕ, _<_}
 use mathlib.Core.List.{List}
 use lib.ListN.{length}
 use Rattle.words.specs.Words.{Word}
-use Rattle.rows.specs.declared.Site.{Site}
+use Rattle.sites.specs.declared.Site.{Site}
 use Rattle.changes.specs.Asked.{TailHas}
 
 -- u and v are not empty

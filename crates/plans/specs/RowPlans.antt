@@ -6,7 +6,7 @@ use lib.Dec.{eqb}
 use lib.ListN.{length, getD}
 use Rattle.words.specs.Words.{Word, isEmpty}
 use Rattle.congruence.specs.Rows.{alike}
-use Rattle.rows.specs.declared.Site.{Site}
+use Rattle.sites.specs.declared.Site.{Site}
 use Rattle.changes.specs.declared.Plan.{Plan}
 use Rattle.changes.specs.declared.Plan.the-variants.{End, Go}
 use Rattle.changes.specs.Changes.{cutBy, putBoth, markAfter, restAt, plan8}

@@ -4,7 +4,8 @@
 ghost use mathlib.Core.Path.{_≡_};
 ghost use mathlib.Core.List.{_++_};
 ghost use Rattle.layout.specs.Layout.{wordsIn};
-ghost use Rattle.rows.specs.Sites.{SiteInText, SitesInText, Paired};
+ghost use Rattle.sites.specs.Sites.{SiteInText, SitesInText};
+ghost use Rattle.rows.specs.Pairs.{Paired};
 ghost use Rattle.changes.specs.Asked.{CheckedSites};
 ghost use Rattle.changes.specs.Changes.{keptTail, wholeCut, sharedSuffix};
 ghost use Rattle.plans.specs.Plans.{PlansRound};
@@ -12,7 +13,7 @@ ghost use Rattle.plans.specs.Asked.{BothNonEmpty, TailsHave};
 ghost use Rattle.plans.specs.RowPlans.{plan1, dropOne, markDrop, plan2, plan4, plan5, plan8Of};
 pub use changes::Change;
 pub use changes::Plan;
-use rows::Site;
+use sites::Site;
 
 // Row 1.
 fn finish(ua: &[u16], ub: &[u16], va: &[u16], vb: &[u16], p: &[u16]) -> Plan

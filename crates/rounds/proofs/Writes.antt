@@ -23,7 +23,7 @@ use Rattle.changes.specs.declared.Plan.{Plan}
 use Rattle.changes.specs.declared.Plan.the-variants.{End, Go}
 use Rattle.rounds.specs.declared.RoundLengths.{RoundLengths}
 use Rattle.rounds.specs.declared.RoundLengths.the-variants as S
-use Rattle.rows.specs.Sites.{Paired}
+use Rattle.rows.specs.Pairs.{Paired}
 use Rattle.plans.specs.Plans.{planned, Fit, MarkFit, PlanFit, PlansRound}
 use Rattle.plans.specs.Plans.PlanFit.{goes}
 use Rattle.rounds.specs.Writing.{writtenBy, Writable, Written, Changes, Planned, GivenShort, GivenRoom, LentInBytes, Lent}

@@ -12,7 +12,7 @@ use Rattle.changes.specs.declared.Plan.{Plan}
 use Rattle.changes.specs.declared.Plan.the-variants.{Go}
 use Rattle.rounds.specs.declared.RoundLengths.{RoundLengths}
 use Rattle.rounds.specs.declared.RoundLengths.the-variants as S
-use Rattle.rows.specs.Sites.{Paired}
+use Rattle.rows.specs.Pairs.{Paired}
 use Rattle.plans.specs.Plans.{applied}
 
 -- an outcome, and the buffers for u, v and p after it

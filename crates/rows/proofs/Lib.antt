@@ -1,5 +1,2 @@
-pub mod Sites
-pub mod CleanPrefixes
 pub mod Shapes
 pub mod Laws
-pub mod FirstLetters

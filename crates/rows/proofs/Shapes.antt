@@ -11,9 +11,10 @@ use Rattle.overlap.specs.Cuts.{xylen, xOf, xyOf, zOf}
 use Rattle.congruence.proofs.RowTests.{prefix-of-clean}
 use Rattle.congruence.proofs.FirstRow.{CleanPrefix, Fits, prefix-whole}
 use Rattle.congruence.proofs.FirstRow.Fits.{fits1, fits2, fits3, fits4, fits5, fits6, fits7, fits8}
-use Rattle.rows.specs.declared.Site.{Site}
-use Rattle.rows.specs.Shapes.{shapeOf, rowBy, shapedRow, markInEitherX, rowAtSites}
-use Rattle.rows.proofs.Sites.{Lies}
+use Rattle.sites.specs.declared.Site.{Site}
+use Rattle.sites.specs.Prefixes.{markInEitherX}
+use Rattle.sites.proofs.Sites.{Lies}
+use Rattle.rows.specs.Shapes.{shapeOf, rowBy, shapedRow, rowAtSites}
 
 -- the shape by two tests: X and Y in front, and Z behind them
 abbrev shapeBy : Bool → Bool → ℕ

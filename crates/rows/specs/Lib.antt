@@ -1,3 +1,2 @@
-pub mod Sites
+pub mod Pairs
 pub mod Shapes
-pub mod FirstLetters

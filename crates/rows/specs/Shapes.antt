@@ -1,23 +1,19 @@
 -- The first row that fits, by how u, v and p begin with the parts of the text in which relation words lie.
 -- That this is `firstRow` of the rows' definition is shown in proofs/Shapes.antt.
-use Prim.Native.Nat.{ℕ, _+_, _-_, _<_}
-use mathlib.Core.Bool.{Bool, cond, _||_}
+use Prim.Native.Nat.{ℕ, _-_, _<_}
+use mathlib.Core.Bool.{Bool, cond}
 use mathlib.Core.List.{List}
 use mathlib.Core.Path.{_≡_}
 use lib.Dec.{eqb, ltb}
 use lib.ListN.{drop}
 use Rattle.words.specs.Words.{Word, isPrefix}
 use Rattle.words.specs.Relations.{other}
-use Rattle.overlap.specs.Cuts.{xlen, xylen}
-use Rattle.congruence.specs.Rows.{hasRelationPrefixBetween, cleanRelationPrefix, otherWord, firstRow}
+use Rattle.congruence.specs.Rows.{cleanRelationPrefix, otherWord, firstRow}
 use Rattle.layout.specs.Layout.{part, wordsIn}
+use Rattle.sites.specs.declared.Site.{Site}
+use Rattle.sites.specs.Sites.{siteOf}
+use Rattle.sites.specs.Prefixes.{markInEitherX}
 use Rattle.rows.specs.declared.Found.{Found}
-use Rattle.rows.specs.declared.Site.{Site}
-use Rattle.rows.specs.Sites.{siteOf}
-
--- where X and Y of relation word i begin w, this says that they are no clean relation prefix
-unfoldable pub uncleanPrefix : List Word → ℕ → Word → Bool
-uncleanPrefix B i w = hasRelationPrefixBetween B w (xlen B i + 1) (xylen B i)
 
 -- how a word begins: with all of the relation word (2), with its X and Y but not all of it (1), or not so (0)
 unfoldable pub shapeOf : List ℕ → Site → Word → ℕ
@@ -36,10 +32,6 @@ rowBy whole own by =
 -- the row by the words, where u begins with X and Y of the relation word at s and the other word of the relation lies at t
 unfoldable pub shapedRow : List ℕ → Site → Site → Word → Word → ℕ
 shapedRow text s t u v = rowBy (isPrefix (part text (s .tail) (s .stop)) (drop (s .tail - s .start) u)) (shapeOf text s v) (shapeOf text t v)
-
--- p is a prefix of the X of one of two relation words
-unfoldable pub markInEitherX : List ℕ → Site → Site → Word → Bool
-markInEitherX text s t p = isPrefix p (part text (s .start) (s .middle)) || isPrefix p (part text (t .start) (t .middle))
 
 -- the first row from row 3 on that fits
 unfoldable pub rowAtSites : List ℕ → Site → Site → Word → Word → Word → ℕ

@@ -1,6 +1,6 @@
-use Rattle.rows.proofs.Laws.{siteReads}
-use Rattle.rows.proofs.read_site.Statement.{statement}
-use Rattle.rows.proofs.read_site.Tie as tie
+use Rattle.sites.proofs.Laws.{siteReads}
+use Rattle.sites.proofs.read_site.Statement.{statement}
+use Rattle.sites.proofs.read_site.Tie as tie
 
 pub read-site-spec : {M : Type 1} → statement M
 read-site-spec =

@@ -1,6 +1,6 @@
-use Rattle.rows.proofs.Laws.{marks}
-use Rattle.rows.proofs.mark_in_x.Statement.{statement}
-use Rattle.rows.proofs.mark_in_x.Tie as tie
+use Rattle.sites.proofs.Laws.{marks}
+use Rattle.sites.proofs.mark_in_x.Statement.{statement}
+use Rattle.sites.proofs.mark_in_x.Tie as tie
 
 pub mark-in-x-spec : {M : Type 1} → statement M
 mark-in-x-spec =

@@ -18,7 +18,7 @@ use Rattle.numbers.specs.Widths.{Widened}
 use Rattle.layout.specs.Places.{lettersBound, tableRoom, firstCell}
 use Rattle.layout.specs.Layout.{startOf, endOf, firstOf, wordsIn, Checked}
 use Rattle.layout.proofs.Placed.{words-length, word-part}
-use Rattle.rows.specs.FirstLetters.{emptyList}
+use Rattle.sites.specs.FirstLetters.{emptyList}
 
 module _ (table : List ℕ) (letter c : ℕ) (w : Widened 65536 letter c) where
   pub list-high : lettersBound ≤ c → true ≡ emptyList table letter

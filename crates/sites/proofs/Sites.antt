@@ -11,8 +11,8 @@ use Rattle.overlap.proofs.Facts.{rigid-of-c4}
 use Rattle.layout.specs.Layout.{part, wordsIn, Checked}
 use Rattle.layout.proofs.Placed.{words-length, word-part, end-inside, word-length}
 use Rattle.layout.proofs.CutPlaces.{cuts-inside, x-long, xy-long, x-part, xy-part, z-part}
-use Rattle.rows.specs.declared.Site.{Site}
-use Rattle.rows.specs.Sites.{siteOf, SiteInText}
+use Rattle.sites.specs.declared.Site.{Site}
+use Rattle.sites.specs.Sites.{siteOf, SiteInText}
 
 -- relation word i lies in the text at the site s
 pub record Lies (text : List ℕ) (B : List Word) (i : ℕ) (s : Site) : Type 0 where

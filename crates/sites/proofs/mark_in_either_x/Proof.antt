@@ -1,6 +1,6 @@
-use Rattle.rows.proofs.Laws.{eitherMarks}
-use Rattle.rows.proofs.mark_in_either_x.Statement.{statement}
-use Rattle.rows.proofs.mark_in_either_x.Tie as tie
+use Rattle.sites.proofs.Laws.{eitherMarks}
+use Rattle.sites.proofs.mark_in_either_x.Statement.{statement}
+use Rattle.sites.proofs.mark_in_either_x.Tie as tie
 
 pub mark-in-either-x-spec : {M : Type 1} → statement M
 mark-in-either-x-spec =

@@ -1,6 +1,6 @@
-use Rattle.rows.proofs.Laws.{cleans}
-use Rattle.rows.proofs.clean_prefix.Statement.{statement}
-use Rattle.rows.proofs.clean_prefix.Tie as tie
+use Rattle.sites.proofs.Laws.{cleans}
+use Rattle.sites.proofs.clean_prefix.Statement.{statement}
+use Rattle.sites.proofs.clean_prefix.Tie as tie
 
 pub clean-prefix-spec : {M : Type 1} → statement M
 clean-prefix-spec =

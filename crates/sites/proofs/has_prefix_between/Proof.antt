@@ -1,9 +1,9 @@
 use Prim.Native.Nat.{_-_, _+_}
 use mathlib.Core.List.{_++_}
 use Rattle.layout.specs.Layout.{wordsIn}
-use Rattle.rows.proofs.Laws.{Vacant, vacants}
-use Rattle.rows.proofs.has_prefix_between.Statement.{statement}
-use Rattle.rows.proofs.has_prefix_between.Tie as tie
+use Rattle.sites.proofs.Laws.{Vacant, vacants}
+use Rattle.sites.proofs.has_prefix_between.Statement.{statement}
+use Rattle.sites.proofs.has_prefix_between.Tie as tie
 
 abbrev Inv-loop : tie.InvT-loop
 Inv-loop text table n a b lo hi q₀ q = Vacant (wordsIn text table n) (a ++ b) lo q

@@ -1,6 +1,6 @@
-use Rattle.rows.proofs.FirstLetters.{emptyLists}
-use Rattle.rows.proofs.begins_none.Statement.{statement}
-use Rattle.rows.proofs.begins_none.Tie as tie
+use Rattle.sites.proofs.FirstLetters.{emptyLists}
+use Rattle.sites.proofs.begins_none.Statement.{statement}
+use Rattle.sites.proofs.begins_none.Tie as tie
 
 pub begins-none-spec : {M : Type 1} → statement M
 begins-none-spec =

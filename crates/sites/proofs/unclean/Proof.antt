@@ -1,6 +1,6 @@
-use Rattle.rows.proofs.Laws.{uncleans}
-use Rattle.rows.proofs.unclean.Statement.{statement}
-use Rattle.rows.proofs.unclean.Tie as tie
+use Rattle.sites.proofs.Laws.{uncleans}
+use Rattle.sites.proofs.unclean.Statement.{statement}
+use Rattle.sites.proofs.unclean.Tie as tie
 
 pub unclean-spec : {M : Type 1} → statement M
 unclean-spec =

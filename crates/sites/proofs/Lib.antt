@@ -1,0 +1,4 @@
+pub mod Sites
+pub mod CleanPrefixes
+pub mod Laws
+pub mod FirstLetters
