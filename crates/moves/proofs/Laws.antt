@@ -14,10 +14,10 @@ use Rattle.overlap.proofs.Facts.{rigid-of-c4}
 use Rattle.congruence.specs.Rows.{round}
 use Rattle.congruence.proofs.Heads.{Facts}
 use Rattle.layout.specs.Layout.{part, wordsIn}
-use Rattle.rows.specs.Sites.{Paired}
-use Rattle.plans.specs.declared.Change.{Change}
-use Rattle.plans.specs.declared.Plan.{Plan}
-use Rattle.plans.specs.declared.Plan.the-variants as Plans
+use Rattle.rows.specs.Pairs.{Paired}
+use Rattle.changes.specs.declared.Change.{Change}
+use Rattle.changes.specs.declared.Plan.{Plan}
+use Rattle.changes.specs.declared.Plan.the-variants as Plans
 use Rattle.plans.specs.Plans.{planned, Fit, MarkFit, PlanFit, PlansRound}
 use Rattle.plans.specs.Plans.PlanFit.{goes}
 use Rattle.moves.specs.declared.PlacedWord.{PlacedWord}

@@ -187,7 +187,7 @@ fn drops_at_once(
     let y = first_letter(text, second, s.v);
     if x == y {
         if mark_allows(text, s.mark, x) {
-            return rows::begins_none(table, x);
+            return sites::begins_none(table, x);
         }
         return false;
     }
