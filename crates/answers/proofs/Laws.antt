@@ -37,7 +37,7 @@ use Rattle.comparison.specs.declared.Comparison.the-variants as Comparisons
 use Rattle.moves.specs.State.{Ready}
 use Rattle.comparison.specs.Comparing.{comparisonOf}
 use Rattle.sheet.specs.Sheet.{cutSheet, sheetBytes, SheetRoom}
-use Rattle.sheet.proofs.Laws.{cuts-in, sheet-cut, length-sheet}
+use Rattle.sheet.proofs.Laws.{cuts-in, sheet-cut}
 use Rattle.answers.specs.declared.Verdict.the-variants as Verdicts
 use Rattle.answers.specs.declared.Round.{Round}
 use Rattle.answers.specs.declared.Printed.the-variants as Prints

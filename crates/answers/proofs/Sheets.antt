@@ -1,13 +1,13 @@
 -- The demands on the cut sheet: the bytes of the definition are the lengths of the cuts, each at its place, and what is behind them is kept.
-use Prim.Native.Nat.{ℕ, zero, suc, _+_, _*_, _-_, _<_, _≤_}
+use Prim.Native.Nat.{ℕ, zero, suc, _+_, _*_, _-_, _<_}
 use mathlib.Core.List.{List, [], _∷_, _++_}
 use mathlib.Core.Logic.{by-cases}
 use mathlib.Core.Path.{_≡_, refl, sym, ap, _∙_}
 use native.Mathlib.Omega.{arith}
 use native.Mathlib.Decide.{decLt}
 use borrow.Author.Tests.{lt-ltb, le-ltb}
-use lib.ListN.{length, drop, getD, length-append, length-drop, List·getD-append}
-use lib.Seq.{length-take-le, getD-append-add, getD-drop}
+use lib.ListN.{length, getD, length-append, length-drop, List·getD-append}
+use lib.Seq.{length-take-le, getD-append-add}
 use Rattle.words.specs.Words.{Word}
 use Rattle.words.specs.Relations.{relationWords}
 use Rattle.overlap.specs.Pieces.{word, C4}
@@ -16,8 +16,9 @@ use Rattle.overlap.specs.Maximal.{yOf}
 use Rattle.overlap.proofs.Facts.{x-bound, z-bound}
 use Rattle.overlap.proofs.Maximal.{x-maximal, z-maximal, cut-whole, length-y, y-has-letters, y-is-no-piece}
 use Rattle.sheet.specs.Sheet.{cutBytes, cutSheet}
-use Rattle.presentation.proofs.Laws.{length-words}
+use Rattle.words.proofs.Relations.{length-words}
 use Rattle.writing.specs.Writing.{over}
+use Rattle.writing.proofs.Writing.{over-prefix, over-behind, over-kept}
 use Rattle.answers.specs.Entries.{sheetOf}
 use Rattle.answers.specs.Demands.{Reports, CutsReported}
 use Rattle.answers.proofs.Theorems.{loaded-c4}
@@ -39,21 +40,6 @@ cut-byte B (suc n) i k h b =
     let e : i ≡ n = omega arith in
     let p : 3 * i + k ≡ length (cutBytes B n) + k = omega arith in
     ap (λ (m : ℕ). getD (cutBytes B n ++ three n) m 0) p ∙ getD-append-add (cutBytes B n) (three n) k 0 ∙ ap (λ (j : ℕ). getD (three j) k 0) (sym e))
-
--- a list written over a buffer that has room for it
-over-prefix : (out buffer : List ℕ) (j : ℕ) → j < length out → getD (over out buffer) j 0 ≡ getD out j 0
-over-prefix out buffer j h = List·getD-append out (drop (length out) buffer) 0 j h
-
-over-behind : (out buffer : List ℕ) (j : ℕ) → length out ≤ j → getD (over out buffer) j 0 ≡ getD buffer j 0
-over-behind out buffer j h =
-    let e : j ≡ length out + (j - length out) = omega arith in
-    ap (λ (m : ℕ). getD (over out buffer) m 0) e ∙ getD-append-add out (drop (length out) buffer) (j - length out) 0 ∙ getD-drop (length out) buffer (j - length out) 0
-    ∙ ap (λ (m : ℕ). getD buffer m 0) (sym e)
-
-over-kept : (out buffer : List ℕ) → length out ≤ length buffer → length (over out buffer) ≡ length buffer
-over-kept out buffer h =
-    let d = length-drop (length out) buffer in
-    simp length-append (omega arith)
 
 -- the lengths of X, Y and Z
 length-x : (B : List Word) (i : ℕ) → length (xOf B i) ≡ xlen B i

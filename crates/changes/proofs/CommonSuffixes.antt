@@ -8,12 +8,11 @@ use native.Mathlib.Omega.{arith}
 use native.Mathlib.Decide.{decLt}
 use borrow.Author.Needs.{needs}
 use lib.ListN.{length, getD, drop}
-use Rattle.words.specs.Words.{isPrefix, lastLetters, commonSuffix}
+use Rattle.words.specs.Words.{isPrefix, lastLetters, commonSuffix, part}
 use Rattle.words.proofs.Searching.{greatest-is}
 use Rattle.words.proofs.Tests.{false-of}
 use Rattle.words.proofs.Lists.{part-length, part-at}
 use Rattle.words.proofs.Prefixes.{prefix-at, at-prefix}
-use Rattle.layout.specs.Layout.{part}
 use Rattle.layout.proofs.Parts.{part-drop}
 use Rattle.sites.specs.declared.Site.{Site}
 use Rattle.sites.specs.Sites.{SitesInText}

@@ -6,9 +6,9 @@ use mathlib.Core.Path.{_≡_, refl}
 use native.Mathlib.Omega.{arith}
 use borrow.Author.Needs.{needs}
 use lib.ListN.{length, drop}
-use Rattle.words.specs.Words.{Word, isPrefix}
+use Rattle.words.specs.Words.{Word, isPrefix, part}
 use Rattle.congruence.specs.Rows.{hasRelationPrefixBetween}
-use Rattle.layout.specs.Layout.{part, Span, Checked}
+use Rattle.layout.specs.Layout.{Span, Checked}
 use Rattle.changes.specs.declared.Change.{Change}
 use Rattle.changes.specs.declared.Plan.the-variants.{Go}
 use Rattle.sites.specs.declared.Site.{Site}

@@ -3,9 +3,8 @@ use Prim.Native.Nat.{ℕ, _-_}
 use mathlib.Core.Bool.{Bool, cond}
 use mathlib.Core.List.{List}
 use lib.ListN.{length, drop}
-use Rattle.words.specs.Words.{Word, isPrefix, commonSuffix}
+use Rattle.words.specs.Words.{Word, isPrefix, commonSuffix, part}
 use Rattle.congruence.specs.Rows.{hasRelationPrefixBetween}
-use Rattle.layout.specs.Layout.{part}
 use Rattle.sites.specs.declared.Site.{Site}
 use Rattle.changes.specs.declared.Change.{Change}
 use Rattle.changes.specs.declared.Plan.{Plan}

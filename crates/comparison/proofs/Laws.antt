@@ -11,7 +11,7 @@ use Rattle.overlap.proofs.Facts.{rigid-of-c4}
 use Rattle.congruence.specs.Rows.{Next, round}
 use Rattle.congruence.specs.Rows.Next.{end, go}
 use Rattle.congruence.specs.Rounds.{answerFrom, compareUnder}
-use Rattle.congruence.proofs.ShapeNoPrefix.{quiet-nil}
+use Rattle.congruence.proofs.ShapeNoPrefix.{no-prefix-nil}
 use Rattle.layout.specs.Layout.{wordsIn}
 use Rattle.refusals.specs.declared.Refusal.{Refusal}
 use Rattle.refusals.specs.declared.Refusal.the-variants.{Spent}
@@ -23,7 +23,7 @@ use Rattle.limits.specs.Limits.{comparedMost}
 use Rattle.moves.specs.declared.State.{State}
 use Rattle.moves.specs.declared.Move.{Move}
 use Rattle.moves.specs.declared.Move.the-variants as Moves
-use Rattle.moves.specs.State.{wordOf, markOf, Fitting, StateReady, MoveFits, RoundMade}
+use Rattle.moves.specs.State.{placedWord, placedMark, Fitting, StateReady, MoveFits, RoundMade}
 use Rattle.comparison.specs.declared.Progress.{Progress}
 use Rattle.comparison.specs.declared.Progress.the-variants.{Ended, Paused}
 use Rattle.comparison.specs.declared.Comparison.{Comparison}
@@ -36,7 +36,7 @@ use Rattle.comparison.specs.Comparing.{answerOf, comparisonOf}
 module _ (text table : List ℕ) (n : ℕ) (first second : Word) where
   -- the rounds from the words of a state, where some are done
   abbrev pub stateRounds : ℕ → ℕ → State → MadeRounds
-  stateRounds left done s = roundsFrom (wordsIn text table n) left done (wordOf text first (s .u)) (wordOf text second (s .v)) (markOf text (s .mark))
+  stateRounds left done s = roundsFrom (wordsIn text table n) left done (placedWord text first (s .u)) (placedWord text second (s .v)) (placedMark text (s .mark))
 
 -- `done` rounds are made, and the rest from s gives what the rounds from the start give
 pub record Going (text table : List ℕ) (n : ℕ) (first second : Word) (start : State) (budget : ℕ) (s : State) (done : ℕ) : Type 0 where
@@ -62,10 +62,10 @@ module _ (text table : List ℕ) (n : ℕ) (first second : Word) (start : State)
   going-end b e = record { same = end-of (budget - done) b e ∙ sym (g .same); stands = tt }
 
   module _ (t : State) (e : r ≡ Moves.Next t) where
-    due : go (wordOf text first (t .u)) (wordOf text second (t .v)) (markOf text (t .mark)) ≡ round (wordsIn text table n) (wordOf text first (s .u)) (wordOf text second (s .v)) (markOf text (s .mark))
+    due : go (placedWord text first (t .u)) (placedWord text second (t .v)) (placedMark text (t .mark)) ≡ round (wordsIn text table n) (placedWord text first (s .u)) (placedWord text second (s .v)) (placedMark text (s .mark))
     due = rw e at (f .same)
 
-    paused-here : paused (wordOf text first (s .u)) (wordOf text second (s .v)) (markOf text (s .mark)) done ≡ stateRounds text table n first second 0 done s
+    paused-here : paused (placedWord text first (s .u)) (placedWord text second (s .v)) (placedMark text (s .mark)) done ≡ stateRounds text table n first second 0 done s
     unfolding roundsFrom
     paused-here = rw (← due)
 
@@ -93,12 +93,12 @@ pub ruleset goings = (going-start, going-end, going-paused, going-more, needs)
 pub whole-poised : (text table : List ℕ) (n : ℕ) (u v : Word) → Fitting text table n u v
     → StateReady text table n u v (record { u = record { at = 0; to = 0; from = 0 }; v = record { at = 0; to = 0; from = 0 }; mark = record { at = 0; to = 0 } })
 whole-poised text table n u v f =
-    let q = quiet-nil (wordsIn text table n) (rigid-of-c4 (wordsIn text table n) (f .ready .paired .checked .accepted)) in
+    let q = no-prefix-nil (wordsIn text table n) (rigid-of-c4 (wordsIn text table n) (f .ready .paired .checked .accepted)) in
     record {
       fitting = f;
       standing = record {
-        u = record { up = omega arith; inside = omega arith; short = omega arith; within = omega arith; quiet = q };
-        v = record { up = omega arith; inside = omega arith; short = omega arith; within = omega arith; quiet = q };
+        u = record { up = omega arith; inside = omega arith; short = omega arith; within = omega arith; noPrefix = q };
+        v = record { up = omega arith; inside = omega arith; short = omega arith; within = omega arith; noPrefix = q };
         mark = record { up = omega arith; inside = omega arith; short = omega arith };
       };
     }

@@ -10,7 +10,7 @@ use Rattle.congruence.specs.Rounds.{CompareAnswer, ending}
 use Rattle.congruence.specs.Rounds.CompareAnswer.{spent}
 use Rattle.layout.specs.Layout.{wordsIn}
 use Rattle.moves.specs.declared.State.{State}
-use Rattle.moves.specs.State.{wordOf, markOf, StateFits}
+use Rattle.moves.specs.State.{placedWord, placedMark, StateFits}
 use Rattle.comparison.specs.declared.Progress.{Progress}
 use Rattle.comparison.specs.declared.Progress.the-variants.{Ended, Paused}
 
@@ -36,7 +36,7 @@ answered (paused u v p n) = spent n
 -- rounds made by the code, in the words of the rows
 abbrev pub roundsOf : List ℕ → Word → Word → Progress → MadeRounds
 roundsOf text first second (Ended b n) = ended b n
-roundsOf text first second (Paused s n) = paused (wordOf text first (s .u)) (wordOf text second (s .v)) (markOf text (s .mark)) n
+roundsOf text first second (Paused s n) = paused (placedWord text first (s .u)) (placedWord text second (s .v)) (placedMark text (s .mark)) n
 
 -- a state that comes back stands
 abbrev pub ProgressFits : List ℕ → List Word → Word → Word → Progress → Type 0
@@ -45,5 +45,5 @@ ProgressFits text B first second (Paused s n) = StateFits text B first second s
 
 -- the rounds made are those of the rows from the words that the state stands for, at most so many
 pub record Progressed (text table : List ℕ) (n : ℕ) (first second : Word) (s : State) (budget : ℕ) (r : Progress) : Type 0 where
-  pub same : roundsOf text first second r ≡ roundsFrom (wordsIn text table n) budget 0 (wordOf text first (s .u)) (wordOf text second (s .v)) (markOf text (s .mark))
+  pub same : roundsOf text first second r ≡ roundsFrom (wordsIn text table n) budget 0 (placedWord text first (s .u)) (placedWord text second (s .v)) (placedMark text (s .mark))
   pub stands : ProgressFits text (wordsIn text table n) first second r

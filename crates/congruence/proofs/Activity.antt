@@ -18,7 +18,7 @@ use Rattle.congruence.proofs.Heads.{Facts, Prefix}
 use Rattle.congruence.proofs.RowTests.{same-take, active-found, active-none}
 use Rattle.congruence.proofs.Places.{same-left, same-right}
 use Rattle.congruence.proofs.Chains.{Chain, chain-behind, chain-from, chain-to}
-use Rattle.congruence.proofs.Strips.{Stripped, strip-quiet}
+use Rattle.congruence.proofs.Strips.{Stripped, strip-no-prefix}
 
 -- z is empty, or stands in a relation word, not at its start
 pub data InnerFactor (B : List Word) (z : Word) : Type 0 where
@@ -110,8 +110,8 @@ module _ {B : List Word} where
             (r .0, omega (arith, r .1))
 
     -- t is z-active or not
-    pub hangs-or-quiet : {z : Word} → InnerFactor B z → (t : Word) → ((j : ℕ) × (k : ℕ) × Hangs B z t j k) ⊎ ((d j : ℕ) → d < length z → Prefix B (z ++ t) d j → ⊥)
-    hangs-or-quiet {z} n t = go (active B z t) refl
+    pub hangs-or-no-prefix : {z : Word} → InnerFactor B z → (t : Word) → ((j : ℕ) × (k : ℕ) × Hangs B z t j k) ⊎ ((d j : ℕ) → d < length z → Prefix B (z ++ t) d j → ⊥)
+    hangs-or-no-prefix {z} n t = go (active B z t) refl
       where
         go : (b : Bool) → active B z t ≡ b → ((j : ℕ) × (k : ℕ) × Hangs B z t j k) ⊎ ((d j : ℕ) → d < length z → Prefix B (z ++ t) d j → ⊥)
         go true e = let f = active-found R z t e in inl (f .1, length z - f .0, hangs-of-prefix n (f .3) (f .2))
@@ -123,7 +123,7 @@ module _ {B : List Word} where
       strip-hanging {z} {t} b e {j} {k} {v} n h q l c =
           let same : z ++ t ≡ b ++ (e ++ t) = ap (_++ t) q ∙ append-assoc b e t in
           let long = simp length-append at (ap length q) in
-          strip-quiet R b (e ++ t)
+          strip-no-prefix R b (e ++ t)
           (λ d i y f.
           let o = hangs-one (hangs-of-prefix n (subst (λ (w : Word). Prefix B w d i) (sym same) f) (omega arith)) h in
           absurd (omega (arith, o .1)))
@@ -133,8 +133,8 @@ module _ {B : List Word} where
       pub swap-prefixes : {z z′ t : Word} {j k : ℕ} (t′ : Word) → InnerFactor B z → InnerFactor B z′ → Hangs B z′ t j k → Chain B fam (z ++ t) (z ++ t′) → Chain B fam (z′ ++ t) (z′ ++ t′)
       swap-prefixes {z} {z′} {t} {j} {k} t′ n n′ h c = ⊎-elim
           (λ g. hanging (let o = hangs-one (g .2) h in subst₂ (Hangs B z t) (o .0) (o .1) (g .2)))
-          (λ q. let s = strip-quiet R z t q c in chain-behind z′ (chain-to (s .chain) (append-cancel-left z (s .rest) t′ (sym (s .product)))))
-          (hangs-or-quiet n t)
+          (λ q. let s = strip-no-prefix R z t q c in chain-behind z′ (chain-to (s .chain) (append-cancel-left z (s .rest) t′ (sym (s .product)))))
+          (hangs-or-no-prefix n t)
         where
           hanging : Hangs B z t j k → Chain B fam (z′ ++ t) (z′ ++ t′)
           hanging g = go (hanging-end g) (hanging-end h)
@@ -151,4 +151,4 @@ module _ {B : List Word} where
 
       -- a word that loses its prefix z under a chain has a z-active rest (Proposition 4)
       pub hangs-of-unlike : {z t s : Word} → InnerFactor B z → Chain B fam (z ++ t) s → ((r : Word) → s ≡ z ++ r → ⊥) → (j : ℕ) × (k : ℕ) × Hangs B z t j k
-      hangs-of-unlike {z} {t} {s} n c unlike = ⊎-elim (λ h. h) (λ q. let r = strip-quiet R z t q c in absurd (unlike (r .rest) (r .product))) (hangs-or-quiet n t)
+      hangs-of-unlike {z} {t} {s} n c unlike = ⊎-elim (λ h. h) (λ q. let r = strip-no-prefix R z t q c in absurd (unlike (r .rest) (r .product))) (hangs-or-no-prefix n t)

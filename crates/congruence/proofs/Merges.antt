@@ -15,8 +15,8 @@ use Rattle.congruence.proofs.Chains.Chain.{stop}
 use Rattle.congruence.proofs.Guards.{Guard}
 use Rattle.congruence.proofs.Tracks.{Track, kept}
 use Rattle.congruence.proofs.Tracks.Track.{quit, turn}
-use Rattle.congruence.proofs.Strips.{strip-quiet}
-use Rattle.congruence.proofs.Activity.{Hangs, inner-z, hangs-or-quiet, swap-prefixes, hangs-of-unlike}
+use Rattle.congruence.proofs.Strips.{strip-no-prefix}
+use Rattle.congruence.proofs.Activity.{Hangs, inner-z, hangs-or-no-prefix, swap-prefixes, hangs-of-unlike}
 
 -- behind Z of some member of i's family t and t′ are congruent
 pub record Meets (B : List Word) (fam : ℕ → ℕ) (i : ℕ) (t t′ : Word) : Type 0 where
@@ -80,9 +80,9 @@ module _ {B : List Word} (R : Facts B) {fam : ℕ → ℕ} where
   chain-of-active {i} {c} {t} {t′} m k h = swap-prefixes R t′ (inner-z R (m .by) (m .kin .there)) (inner-z R c (k .there)) h (m .chain)
 
   -- where t is active for no member, t and t′ are congruent themselves
-  pub chain-of-quiet : {i : ℕ} {t t′ : Word} → Meets B fam i t t′ → ((c : ℕ) → Kin B fam i c → (d j : ℕ) → d < length (zOf B c) → Prefix B (zOf B c ++ t) d j → ⊥) → Chain B fam t t′
-  chain-of-quiet {i} {t} {t′} m q =
-      let s = strip-quiet R (zOf B (m .by)) t (q (m .by) (m .kin)) (m .chain) in
+  pub chain-of-inactive : {i : ℕ} {t t′ : Word} → Meets B fam i t t′ → ((c : ℕ) → Kin B fam i c → (d j : ℕ) → d < length (zOf B c) → Prefix B (zOf B c ++ t) d j → ⊥) → Chain B fam t t′
+  chain-of-inactive {i} {t} {t′} m q =
+      let s = strip-no-prefix R (zOf B (m .by)) t (q (m .by) (m .kin)) (m .chain) in
       chain-to (s .chain) (append-cancel-left (zOf B (m .by)) (s .rest) t′ (sym (s .product)))
 
   -- Corollary 4
@@ -95,10 +95,10 @@ module _ {B : List Word} (R : Facts B) {fam : ℕ → ℕ} where
         chain = chain-join (chain-sym (chain-of-active (meets-sym m) (n .kin) (h .2))) (n .chain);
       })
       (λ q.
-      let s = strip-quiet R (zOf B (n .by)) t′ q (n .chain) in
+      let s = strip-no-prefix R (zOf B (n .by)) t′ q (n .chain) in
       let c = chain-to (s .chain) (append-cancel-left (zOf B (n .by)) (s .rest) t″ (sym (s .product))) in
       record { by = m .by; kin = m .kin; chain = chain-join (m .chain) (chain-behind (zOf B (m .by)) c) })
-      (hangs-or-quiet R (inner-z R (n .by) (n .kin .there)) t′)
+      (hangs-or-no-prefix R (inner-z R (n .by) (n .kin .there)) t′)
 
   -- every track is plain or turned
   pub plain-or-turned : {j : ℕ} {t : Word} {i : ℕ} {s : Word} → Track B fam j t i s → Plain B fam i s j t ⊎ Turned B fam i s j t

@@ -28,9 +28,9 @@ use Rattle.congruence.proofs.FirstRow.{CleanPrefix, Fits, xy-of-whole, 
 use Rattle.congruence.proofs.FirstRow.Fits.{fits1, fits2, fits3, fits4, fits5, fits6, fits7, fits8}
 use Rattle.congruence.proofs.Chains.{Kin, Chain, kin-refl, chain-sym, chain-behind}
 use Rattle.congruence.proofs.Chains.Chain.{stop}
-use Rattle.congruence.proofs.Activity.{InnerFactor, inner-z, inner-rest, hangs-of-prefix, hangs-or-quiet}
+use Rattle.congruence.proofs.Activity.{InnerFactor, inner-z, inner-rest, hangs-of-prefix, hangs-or-no-prefix}
 use Rattle.congruence.proofs.Activity.InnerFactor.{nothing}
-use Rattle.congruence.proofs.Merges.{Meets, Unlike, chain-of-active, chain-of-quiet}
+use Rattle.congruence.proofs.Merges.{Meets, Unlike, chain-of-active, chain-of-inactive}
 use Rattle.congruence.proofs.CleanPrefixes.{PossiblePrefix}
 use Rattle.congruence.proofs.PossiblePrefixes.{possible-nothing, chain-of-rests, possible-of-rests, empty-stays}
 use Rattle.congruence.proofs.Sides.{half, kin-other, kin-two, chain-of-congruent, congruent-of-chain}
@@ -141,10 +141,10 @@ module _ {B : List Word} (R : Facts B) (even : Even B) where
           (λ o. row4-says R half i u v p h x a b l e f q i (kin-refl (c .there)) (λ g.
           let d = active-found R (zOf B i) a o in
           chain-of-active R g (kin-refl (c .there)) (hangs-of-prefix R (inner-z R i (c .there)) (d .3) (d .2))))
-          (λ o. row4-says R half i u v p h x a b l e f q j k (λ g. ⊎-elim (λ d. chain-of-active R g k (d .2)) (λ d. quiet o g d) (hangs-or-quiet R (inner-z R j (k .there)) a)))
+          (λ o. row4-says R half i u v p h x a b l e f q j k (λ g. ⊎-elim (λ d. chain-of-active R g k (d .2)) (λ d. inactive o g d) (hangs-or-no-prefix R (inner-z R j (k .there)) a)))
         where
-          quiet : active B (zOf B i) a ≡ false → Meets B half i a b → ((d m : ℕ) → d < length (zOf B j) → Prefix B (zOf B j ++ a) d m → ⊥) → Chain B half (zOf B j ++ a) (zOf B j ++ b)
-          quiet o g d = chain-behind (zOf B j) (chain-of-quiet R g (λ r q. ⊎-elim
+          inactive : active B (zOf B i) a ≡ false → Meets B half i a b → ((d m : ℕ) → d < length (zOf B j) → Prefix B (zOf B j ++ a) d m → ⊥) → Chain B half (zOf B j ++ a) (zOf B j ++ b)
+          inactive o g d = chain-behind (zOf B j) (chain-of-inactive R g (λ r q. ⊎-elim
               (λ y. subst (λ (r : ℕ). (d m : ℕ) → d < length (zOf B r) → Prefix B (zOf B r ++ a) d m → ⊥) y (active-none R (zOf B i) a o))
               (λ y. subst (λ (r : ℕ). (d m : ℕ) → d < length (zOf B r) → Prefix B (zOf B r ++ a) d m → ⊥) (sym y) d)
               (kin-two q)))

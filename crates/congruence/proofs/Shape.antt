@@ -18,7 +18,7 @@ use Rattle.congruence.specs.Rows.Next.{go}
 use Rattle.congruence.specs.Theorem.{EndOfTail, TailThenRest}
 use Rattle.congruence.specs.Theorem.EndOfTail.{nothing}
 use Rattle.congruence.proofs.Heads.{Facts}
-use Rattle.congruence.proofs.ShapeNoPrefix.{tail-drop, quiet-tail, tail-at-most, prefix-past-quiet}
+use Rattle.congruence.proofs.ShapeNoPrefix.{tail-drop, no-prefix-tail, tail-at-most, prefix-past-tail}
 use Rattle.congruence.proofs.ShapeRows.{Recut, Moves, round-moves}
 use Rattle.congruence.proofs.ShapeRows.Moves.{drops, cuts}
 
@@ -95,7 +95,7 @@ module _ (B : List Word) (u₀ u u′ : Word) (t : TailThenRest B u₀ u) where
       let n = r .enough in
       let f = r .fits in
       let g : isPrefix (xyOf B (r .by)) (t .tail ++ drop (t .from) u₀) ≡ true = subst (λ w. isPrefix (xyOf B (r .by)) w ≡ true) (t .made) (r .begins) in
-      let p = prefix-past-quiet B c (t .tail) (drop (t .from) u₀) (r .by) (quiet-tail B c (t .tail) (t .ends)) (r .there) g in
+      let p = prefix-past-tail B c (t .tail) (drop (t .from) u₀) (r .by) (no-prefix-tail B c (t .tail) (t .ends)) (r .there) g in
       let m = r .size - length (t .tail) in
       let e : r .size ≡ length (t .tail) + m = omega arith in
       record {

@@ -38,8 +38,8 @@ pub z-at-most : (B : List Word) (i : ℕ) → i < length B → length (zOf B i) 
 z-at-most B i h = let m = z-most B (length B) i h in let d = length-z B i in omega arith
 
 -- nothing stands in the empty word
-pub quiet-nil : (B : List Word) → Facts B → NoRelationPrefix B []
-quiet-nil B c = record { nowhere = λ q. false-of (hasRelationPrefixAt B [] q) (none q) }
+pub no-prefix-nil : (B : List Word) → Facts B → NoRelationPrefix B []
+no-prefix-nil B c = record { nowhere = λ q. false-of (hasRelationPrefixAt B [] q) (none q) }
   where
     none : (q : ℕ) → hasRelationPrefixAt B [] q ≡ true → ⊥
     none q e =
@@ -50,13 +50,13 @@ quiet-nil B c = record { nowhere = λ q. false-of (hasRelationPrefixAt B [] q) (
         omega arith
 
 -- nothing stands in an end of a word in which nothing stands
-pub quiet-drop : (B : List Word) (z : Word) (a : ℕ) → NoRelationPrefix B z → NoRelationPrefix B (drop a z)
+pub no-prefix-drop : (B : List Word) (z : Word) (a : ℕ) → NoRelationPrefix B z → NoRelationPrefix B (drop a z)
 unfolding hasRelationPrefixAt
-quiet-drop B z a h = record { nowhere = λ q. rw drop-drop (h .nowhere (a + q)) }
+no-prefix-drop B z a h = record { nowhere = λ q. rw drop-drop (h .nowhere (a + q)) }
 
 -- nothing stands in a Z: X and Y stand at the start of their own relation word only
-pub quiet-z : (B : List Word) → Facts B → (i : ℕ) → i < length B → NoRelationPrefix B (zOf B i)
-quiet-z B c i h = record { nowhere = λ q. false-of (hasRelationPrefixAt B (zOf B i) q) (none q) }
+pub no-prefix-z : (B : List Word) → Facts B → (i : ℕ) → i < length B → NoRelationPrefix B (zOf B i)
+no-prefix-z B c i h = record { nowhere = λ q. false-of (hasRelationPrefixAt B (zOf B i) q) (none q) }
   where
     none : (q : ℕ) → hasRelationPrefixAt B (zOf B i) q ≡ true → ⊥
     none q e =
@@ -89,9 +89,9 @@ tail-drop B z n (nothing e) = nothing (rw e (drop-nil n))
 tail-drop B z n (of i a h e) = of i (a + n) h (rw e (drop-drop n a (zOf B i)))
 
 -- X and Y stand in no end of a tail
-pub quiet-tail : (B : List Word) → Facts B → (z : Word) → EndOfTail B z → NoRelationPrefix B z
-quiet-tail B c z (nothing e) = subst (NoRelationPrefix B) (sym e) (quiet-nil B c)
-quiet-tail B c z (of i a h e) = subst (NoRelationPrefix B) (sym e) (quiet-drop B (zOf B i) a (quiet-z B c i h))
+pub no-prefix-tail : (B : List Word) → Facts B → (z : Word) → EndOfTail B z → NoRelationPrefix B z
+no-prefix-tail B c z (nothing e) = subst (NoRelationPrefix B) (sym e) (no-prefix-nil B c)
+no-prefix-tail B c z (of i a h e) = subst (NoRelationPrefix B) (sym e) (no-prefix-drop B (zOf B i) a (no-prefix-z B c i h))
 
 -- no end of a tail is longer than document 01's k
 pub tail-at-most : (B : List Word) (z : Word) → EndOfTail B z → length z ≤ longestSuffixPiece B
@@ -99,7 +99,7 @@ tail-at-most B z (nothing e) = rw e (omega arith)
 tail-at-most B z (of i a h e) = let m = z-at-most B i h in let d = length-drop a (zOf B i) in rw e (omega arith)
 
 -- a prefix XY of z r, nothing standing in z, is longer than z
-pub prefix-past-quiet : (B : List Word) → Facts B → (z r : Word) (j : ℕ) → NoRelationPrefix B z → j < length B → isPrefix (xyOf B j) (z ++ r) ≡ true → length z < xylen B j
-prefix-past-quiet B c z r j s h e = by-cases (decLt (length z) (xylen B j)) (λ a. a) (λ a.
+pub prefix-past-tail : (B : List Word) → Facts B → (z r : Word) (j : ℕ) → NoRelationPrefix B z → j < length B → isPrefix (xyOf B j) (z ++ r) ≡ true → length z < xylen B j
+prefix-past-tail B c z r j s h e = by-cases (decLt (length z) (xylen B j)) (λ a. a) (λ a.
     let l = length-xy B j in
     absurd (true≢false (sym (stands-of-test B z 0 j h (prefix-of-part (xyOf B j) z r (omega arith) e)) ∙ s .nowhere 0)))

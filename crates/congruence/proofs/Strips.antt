@@ -84,7 +84,7 @@ module _ {B : List Word} (R : Facts B) where
 
     -- a prefix before which no clean relation prefix begins stays under every chain (Corollary 2, Propositions 3 and 4)
     pub strip : (a s : Word) {v : Word} → ((d k : ℕ) → d < length a → Clean B (a ++ s) d k → ⊥) → Chain B fam (a ++ s) v → Stripped B fam a s v
-    strip a s {v} quiet c = ⊎-elim from-first
+    strip a s {v} none c = ⊎-elim from-first
         (λ none.
         let e = chain-still (λ d k w. none d k (prefix-of-whole R w)) c in
         record {
@@ -99,7 +99,7 @@ module _ {B : List Word} (R : Facts B) where
         from-first f = go (product-of-prefix (f .is-clean .at))
           where
             late : length a ≤ f .place
-            late = by-cases (decLe (length a) (f .place)) (λ y. y) (λ y. absurd (quiet (f .place) (f .by) (omega arith) (f .is-clean)))
+            late = by-cases (decLe (length a) (f .place)) (λ y. y) (λ y. absurd (none (f .place) (f .by) (omega arith) (f .is-clean)))
 
             guard : Guard B (a ++ s) (f .place)
             guard = guard-of-first R (f .is-clean) (f .before)
@@ -124,5 +124,5 @@ module _ {B : List Word} (R : Facts B) where
                     }
 
     -- the same where no XY at all begins before the end of a
-    pub strip-quiet : (a s : Word) {v : Word} → ((d k : ℕ) → d < length a → Prefix B (a ++ s) d k → ⊥) → Chain B fam (a ++ s) v → Stripped B fam a s v
-    strip-quiet a s quiet c = strip a s (λ d k h f. quiet d k h (f .at)) c
+    pub strip-no-prefix : (a s : Word) {v : Word} → ((d k : ℕ) → d < length a → Prefix B (a ++ s) d k → ⊥) → Chain B fam (a ++ s) v → Stripped B fam a s v
+    strip-no-prefix a s none c = strip a s (λ d k h f. none d k h (f .at)) c

@@ -1,13 +1,13 @@
 -- Reading the bytes of a presentation within the limits gives it back.
 use Prim.Native.Nat.{ℕ, zero, suc, _+_, _-_, _/_, _%_, _≤_, _<_}
-use mathlib.Core.Bool.{Bool, true, false, cond}
+use mathlib.Core.Bool.{false}
 use mathlib.Core.List.{List, [], _∷_, _++_, append-assoc, append-nil}
 use mathlib.Core.Path.{_≡_, refl, sym, ap, _∙_}
 use native.Mathlib.Omega.{arith}
-use lib.Dec.{ltb}
 use lib.ListN.{length, drop, length-append}
 use lib.Seq.{getD-append-add, drop-append-add, drop-append-seam, take-at}
 use borrow.Author.Tests.{eq-eqb, le-ltb, le-leb, lt-leb}
+use Rattle.words.specs.Words.{part}
 use Rattle.words.specs.Relations.{Relation}
 use Rattle.limits.specs.declared.Record.the-variants.{Whole}
 use Rattle.limits.specs.Limits.{lettersMost, relationsMost, outside}
@@ -15,7 +15,7 @@ use Rattle.letters.specs.Letters.{firstUnknown, unknownIn}
 use Rattle.letters.proofs.Letters.{of-known, unknown-append}
 use Rattle.format.specs.declared.HeadReading.the-variants as Heads
 use Rattle.format.specs.declared.RelationReading.the-variants as Relations
-use Rattle.format.specs.Book.{Presentation, read, byte, field, between, recordAt, differs, headAt, fieldsAt, relationAt, relationIn, relationsFrom, readBook}
+use Rattle.format.specs.Book.{read, byte, field, recordAt, differs, headAt, fieldsAt, relationAt, relationIn, relationsFrom, readBook}
 use Rattle.format.specs.Bytes.{recordBytes, headBytes, relationBytes, relationsBytes, bookBytes, RelationWithin, AllWithin, none, more, ReadBytes}
 
 -- a check that passes
@@ -57,7 +57,7 @@ module _ (pre : List ℕ) (kind : ℕ) (payload rest book : List ℕ) (e : book 
   payload-at i = ap (byte book) (omega arith) ∙ byte-at (suc (suc (suc (suc i))))
 
   -- a part of the payload
-  pub payload-part : (i n : ℕ) (a b : List ℕ) → n ≡ length a → drop i (payload ++ rest) ≡ a ++ b → between book (length pre + 4 + i) (length pre + 4 + i + n) ≡ a
+  pub payload-part : (i n : ℕ) (a b : List ℕ) → n ≡ length a → drop i (payload ++ rest) ≡ a ++ b → part book (length pre + 4 + i) (length pre + 4 + i + n) ≡ a
   payload-part i n a b l f =
       let z : length pre + 4 + i + n - (length pre + 4 + i) ≡ n = omega arith in
       let y : length pre + 4 + i ≡ length pre + suc (suc (suc (suc i))) = omega arith in
@@ -75,12 +75,12 @@ module _ (letters count : ℕ) (r : Relation) (w : RelationWithin letters r) (pr
   right-byte : byte book (length pre + 4 + 1) ≡ length (r .right)
   right-byte = payload-at pre 2 payload rest book e 1
 
-  letters-part : between book (length pre + 4 + 2) (length pre + 4 + length payload) ≡ r .left ++ r .right
+  letters-part : part book (length pre + 4 + 2) (length pre + 4 + length payload) ≡ r .left ++ r .right
   letters-part =
       let z : length pre + 4 + length payload ≡ length pre + 4 + 2 + length (r .left ++ r .right) = omega arith in
       rw z (payload-part pre 2 payload rest book e 2 (length (r .left ++ r .right)) (r .left ++ r .right) rest refl refl)
 
-  letters-known : unknownIn letters (between book (length pre + 4 + 2) (length pre + 4 + length payload)) ≡ false
+  letters-known : unknownIn letters (part book (length pre + 4 + 2) (length pre + 4 + length payload)) ≡ false
   letters-known =
       let k = unknown-append letters (r .left) (r .right) (of-known letters (r .left) (w .left .known)) (of-known letters (r .right) (w .right .known)) in
       rw letters-part (le-ltb (firstUnknown letters (r .left ++ r .right)) (length (r .left ++ r .right)) (omega arith))
@@ -114,9 +114,9 @@ module _ (letters count : ℕ) (r : Relation) (w : RelationWithin letters r) (pr
       let f : drop 2 (payload ++ rest) ≡ r .left ++ (r .right ++ rest) = append-assoc (r .left) (r .right) rest in
       let g : drop (suc (suc (length (r .left)))) (payload ++ rest) ≡ r .right ++ rest
       = rw (append-assoc (r .left) (r .right) rest) (drop-append-seam (r .left) (r .right ++ rest)) in
-      let a : between book (length pre + 4 + 2) (length pre + 4 + 2 + length (r .left)) ≡ r .left
+      let a : part book (length pre + 4 + 2) (length pre + 4 + 2 + length (r .left)) ≡ r .left
       = payload-part pre 2 payload rest book e 2 (length (r .left)) (r .left) (r .right ++ rest) refl f in
-      let b : between book (length pre + 4 + 2 + length (r .left)) (length pre + 4 + length payload) ≡ r .right
+      let b : part book (length pre + 4 + 2 + length (r .left)) (length pre + 4 + length payload) ≡ r .right
       = rw (y, z) (payload-part pre 2 payload rest book e (suc (suc (length (r .left)))) (length (r .right)) (r .right) rest refl g) in
       rw (a, b)
 

@@ -2,11 +2,12 @@
 use Prim.Native.Nat.{ℕ, zero, suc, _+_, _-_, _≤_, _<_}
 use mathlib.Core.Bool.{Bool, true, false, _||_, cond}
 use mathlib.Core.List.{List, [], _∷_, _++_}
-use mathlib.Core.Path.{_≡_, refl, sym, ap, subst}
+use mathlib.Core.Path.{_≡_, refl, sym, subst}
 use native.Mathlib.Omega.{arith}
 use lib.Dec.{eqb, leb, ltb}
 use lib.ListN.{length, getD, length-append}
 use borrow.Author.Tests.{eqb-true, not-false, ltb-false, leb-false, le-leb}
+use Rattle.words.specs.Words.{part}
 use Rattle.words.specs.Relations.{Relation}
 use Rattle.words.proofs.Tests.{or-neither}
 use Rattle.words.proofs.Lists.{part-length, part-at}
@@ -20,7 +21,7 @@ use Rattle.format.specs.declared.HeadReading.{HeadReading}
 use Rattle.format.specs.declared.HeadReading.the-variants as Heads
 use Rattle.format.specs.declared.RelationReading.{RelationReading}
 use Rattle.format.specs.declared.RelationReading.the-variants as Relations
-use Rattle.format.specs.Book.{Presentation, adding, BookReading, read, byte, field, between, recordAt, onWhole, differs, headAt, fieldsAt, relationAt, relationIn, onHead, onRelation, relationsFrom, readBook, FuelSuffices}
+use Rattle.format.specs.Book.{Presentation, adding, read, byte, field, recordAt, onWhole, differs, headAt, fieldsAt, relationAt, relationIn, onHead, onRelation, relationsFrom, readBook, FuelSuffices}
 use Rattle.format.specs.Bytes.{RelationWithin, AllWithin, none, more, Within, ReadWithin}
 
 -- a check that was passed: what is given was not the answer for its failure
@@ -109,7 +110,7 @@ relation-read letters count place book at left right to e =
     let c = passed (leb 32 count) _ _ _ (other _) (b .1) in
     let d = passed (differs (a .2 - a .1) (2 + byte book (a .1) + byte book (a .1 + 1))) _ _ _ (other _) (c .1) in
     let f = passed (outside 1 64 (byte book (a .1)) || outside 1 64 (byte book (a .1 + 1))) _ _ _ (other _) (d .1) in
-    let g = passed (unknownIn letters (between book (a .1 + 2) (a .2))) _ _ _ (other _) (f .1) in
+    let g = passed (unknownIn letters (part book (a .1 + 2) (a .2))) _ _ _ (other _) (f .1) in
     let o = or-neither (outside 1 64 (byte book (a .1))) (outside 1 64 (byte book (a .1 + 1))) (f .0) in
     let l = equal-of (a .2 - a .1) (2 + byte book (a .1) + byte book (a .1 + 1)) (d .0) in
     let p = inside-of 1 64 (byte book (a .1)) (o .0) in
@@ -119,7 +120,7 @@ relation-read letters count place book at left right to e =
     let z : a .2 ≡ to = cc (g .1) in
     let k = leb-false 32 count (c .0) in
     let n = part-length book (a .1 + 2) (a .2) (omega (arith, w .fits)) in
-    let u = known-of letters (between book (a .1 + 2) (a .2)) (ltb-false (firstUnknown letters (between book (a .1 + 2) (a .2))) (length (between book (a .1 + 2) (a .2))) (g .0)) in
+    let u = known-of letters (part book (a .1 + 2) (a .2)) (ltb-false (firstUnknown letters (part book (a .1 + 2) (a .2))) (length (part book (a .1 + 2) (a .2))) (g .0)) in
     record {
       room = omega arith;
       behind = omega (arith, w .start);

@@ -5,7 +5,8 @@ use mathlib.Core.Bool.{Bool, _||_, not, cond}
 use mathlib.Core.List.{List, [], _∷_, _++_}
 use mathlib.Core.Path.{_≡_}
 use lib.Dec.{eqb, leb, ltb}
-use lib.ListN.{length, getD, take, drop}
+use lib.ListN.{length, getD}
+use Rattle.words.specs.Words.{part}
 use Rattle.words.specs.Relations.{Relation}
 use Rattle.limits.specs.declared.Record.{Record}
 use Rattle.limits.specs.declared.Record.the-variants.{Whole, CutOff}
@@ -42,10 +43,6 @@ byte book at = getD book at 0
 abbrev pub field : List ℕ → ℕ → ℕ
 field book at = byte book at + 256 * byte book (at + 1)
 
--- the bytes from one position to another
-abbrev pub between : List ℕ → ℕ → ℕ → List ℕ
-between book from to = take (to - from) (drop from book)
-
 -- the record at a position: two bytes of length, two of kind, then the payload
 unfoldable pub recordAt : List ℕ → ℕ → Record
 recordAt book at =
@@ -76,7 +73,7 @@ unfoldable pub fieldsAt : ℕ → ℕ → List ℕ → ℕ → ℕ → RelationR
 fieldsAt letters place book from to =
     cond (differs (to - from) (relationLength + byte book from + byte book (from + 1))) (Relations.Refused (Length place))
     (cond (outside 1 sideMost (byte book from) || outside 1 sideMost (byte book (from + 1))) (Relations.Refused (Range place))
-    (cond (unknownIn letters (between book (from + relationLength) to)) (Relations.Refused (UnknownLetter place))
+    (cond (unknownIn letters (part book (from + relationLength) to)) (Relations.Refused (UnknownLetter place))
     (Relations.Read (from + relationLength) (from + relationLength + byte book from) to)))
 
 -- the relation (document 01: a rule) whose record begins at `at`: kind 2, where `count` relations stand before it. The lines are the refusals 1, 2, 6, and
@@ -90,7 +87,7 @@ relationAt letters count place book at =
 
 -- the relation whose words lie from `left` to `right` and from there to `to`
 abbrev pub relationIn : List ℕ → ℕ → ℕ → ℕ → Relation
-relationIn book left right to = record { left = between book left right; right = between book right to }
+relationIn book left right to = record { left = part book left right; right = part book right to }
 
 -- a refusal of a record goes straight back; else go on with what was read
 abbrev pub onHead : HeadReading → (ℕ → ℕ → BookReading) → BookReading

@@ -10,7 +10,7 @@ use borrow.Author.Needs.{needs}
 use borrow.Author.Tests.{ltb-true, ltb-false, eq-eqb, ne-eqb}
 use lib.ListN.{length, getD, drop, length-take, length-drop, length-append}
 use lib.Seq.{getD-drop}
-use Rattle.words.specs.Words.{Word, isPrefix, commonPrefix}
+use Rattle.words.specs.Words.{Word, isPrefix, commonPrefix, part}
 use Rattle.words.proofs.Tests.{false-of}
 use Rattle.words.proofs.Lists.{part-length, part-at}
 use Rattle.words.proofs.Searching.{least-is, least-none}
@@ -22,7 +22,7 @@ use Rattle.overlap.proofs.Rigid.{Rigid}
 use Rattle.overlap.proofs.Facts.{length-xy}
 use Rattle.congruence.proofs.RowTests.{one-prefix}
 use Rattle.layout.specs.Places.{lettersBound, startCell, zStartCell, firstCell, orderCell, sharedCell}
-use Rattle.layout.specs.Layout.{startOf, zStartOf, part, wordsIn, firstOf, orderOf, sharedOf, Checked}
+use Rattle.layout.specs.Layout.{startOf, zStartOf, wordsIn, firstOf, orderOf, sharedOf, Checked}
 use Rattle.layout.proofs.Placed.{words-length, word-part}
 use Rattle.layout.proofs.CutPlaces.{xy-span, xy-long, xy-part, checked-rigid}
 use Rattle.index.specs.declared.Meeting.{Meeting}

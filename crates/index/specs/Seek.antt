@@ -5,11 +5,11 @@ use mathlib.Core.List.{List}
 use mathlib.Core.Path.{_≡_}
 use lib.Dec.{eqb}
 use lib.ListN.{length, getD, drop}
-use Rattle.words.specs.Words.{Word, isPrefix, commonPrefix}
+use Rattle.words.specs.Words.{Word, isPrefix, commonPrefix, part}
 use Rattle.overlap.specs.Pieces.{word}
 use Rattle.overlap.specs.Cuts.{xyOf}
 use Rattle.layout.specs.Places.{lettersBound}
-use Rattle.layout.specs.Layout.{startOf, zStartOf, part, wordAt, wordsIn, firstOf, orderOf, sharedOf, Checked}
+use Rattle.layout.specs.Layout.{startOf, zStartOf, wordAt, wordsIn, firstOf, orderOf, sharedOf, Checked}
 use Rattle.index.specs.declared.Meeting.{Meeting}
 use Rattle.index.specs.declared.Meeting.the-variants.{Here, Past}
 use Rattle.joined.specs.Joined.{Agreed}

@@ -13,11 +13,11 @@ use lib.ListN.{length, getD, drop, set, length-set, length-drop}
 use lib.Seq.{getD-set-other, getD-set-same, getD-drop}
 use mir.Syntax.{w64}
 use mir.Val.{Fits}
-use Rattle.words.specs.Words.{commonPrefix}
+use Rattle.words.specs.Words.{commonPrefix, part}
 use Rattle.words.proofs.Lists.{part-length, part-at}
 use Rattle.words.proofs.Commons.{common-within, common-at, common-differ, common-is}
 use Rattle.layout.specs.Places.{wordsMost, startCell, endCell, firstCell, orderCell, tableRoom}
-use Rattle.layout.specs.Layout.{startOf, endOf, part, wordAt, orderOf, Laid, WordPair}
+use Rattle.layout.specs.Layout.{startOf, endOf, wordAt, orderOf, Laid, WordPair}
 use Rattle.layout.proofs.Placed.{end-inside, row-inside, word-span}
 use Rattle.joined.specs.Joined.{Agreed}
 use Rattle.insertion.specs.Inserting.{firstLetter, count, earlier, beforeListed, SamePositions, Inserting, Movable, MovedUp, Lists, NextOfLetter, Gathered}

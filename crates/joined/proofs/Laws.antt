@@ -13,10 +13,10 @@ use lib.ListN.{length, getD, drop, length-append, length-drop, List·getD-append
 use lib.Seq.{getD-drop, getD-append-add, drop-append-le}
 use mir.Syntax.{w64}
 use mir.Val.{Fits}
-use Rattle.words.specs.Words.{Word, isPrefix, commonPrefix}
+use Rattle.words.specs.Words.{Word, isPrefix, commonPrefix, part}
 use Rattle.words.proofs.Lists.{drop-past, part-length, part-at}
 use Rattle.words.proofs.Commons.{common-within, common-at, common-most, common-is, common-prefix, common-no-prefix, common-before, common-through, common-reaches, common-shorter, common-empty}
-use Rattle.layout.specs.Layout.{part, Span}
+use Rattle.layout.specs.Layout.{Span}
 use Rattle.layout.proofs.Parts.{part-drop}
 use Rattle.joined.specs.Joined.{hasPlace, Agreed}
 

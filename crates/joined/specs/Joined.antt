@@ -4,8 +4,8 @@ use mathlib.Core.Bool.{Bool}
 use mathlib.Core.List.{List}
 use lib.Dec.{ltb}
 use lib.ListN.{length, drop}
-use Rattle.words.specs.Words.{Word, commonPrefix}
-use Rattle.layout.specs.Layout.{part, Span}
+use Rattle.words.specs.Words.{Word, commonPrefix, part}
+use Rattle.layout.specs.Layout.{Span}
 
 -- w has a letter at place q
 unfoldable pub hasPlace : Word → ℕ → Bool

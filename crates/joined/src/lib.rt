@@ -3,8 +3,8 @@ ghost use mathlib.Core.Path.{_≡_};
 ghost use Prim.Native.Nat.{_+_, _-_, _<_};
 ghost use mathlib.Core.List.{_++_};
 ghost use lib.ListN.{length, getD, drop};
-ghost use Rattle.words.specs.Words.{isPrefix, commonPrefix};
-ghost use Rattle.layout.specs.Layout.{part, Span};
+ghost use Rattle.words.specs.Words.{isPrefix, commonPrefix, part};
+ghost use Rattle.layout.specs.Layout.{Span};
 ghost use Rattle.joined.specs.Joined.{hasPlace, Agreed};
 use numbers::smaller;
 

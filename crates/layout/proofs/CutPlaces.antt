@@ -4,11 +4,12 @@ use mathlib.Core.List.{List}
 use mathlib.Core.Path.{_≡_, ap, _∙_}
 use native.Mathlib.Omega.{arith}
 use lib.ListN.{take, drop}
+use Rattle.words.specs.Words.{part}
 use Rattle.overlap.specs.Pieces.{word}
 use Rattle.overlap.specs.Cuts.{xlen, xylen, xOf, xyOf, zOf}
 use Rattle.overlap.proofs.Rigid.{Rigid}
 use Rattle.overlap.proofs.Facts.{x-bound, z-bound, rigid-of-c4}
-use Rattle.layout.specs.Layout.{startOf, xEndOf, zStartOf, endOf, part, Span, wordsIn, Laid, Cut, Checked}
+use Rattle.layout.specs.Layout.{startOf, xEndOf, zStartOf, endOf, Span, wordsIn, Laid, Cut, Checked}
 use Rattle.layout.proofs.Parts.{part-take, part-drop}
 use Rattle.layout.proofs.Placed.{word-part, end-inside, word-length}
 

@@ -5,8 +5,8 @@ use mathlib.Core.Path.{_≡_, sym, ap, _∙_}
 use native.Mathlib.Omega.{arith}
 use lib.ListN.{length, getD, take, drop, length-take, length-drop}
 use lib.Seq.{take-take, drop-drop, ext-getD}
+use Rattle.words.specs.Words.{part}
 use Rattle.words.proofs.Lists.{drop-take, part-at}
-use Rattle.layout.specs.Layout.{part}
 
 pub part-none : (text : List ℕ) (a b : ℕ) → b ≤ a → part text a b ≡ []
 part-none text a b h = let e : b - a ≡ 0 = omega (arith, h) in rw e

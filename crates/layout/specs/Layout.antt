@@ -4,8 +4,8 @@
 use Prim.Native.Nat.{ℕ, zero, suc, _+_, _-_, _<_, _≤_}
 use mathlib.Core.List.{List, [], _∷_, _++_}
 use mathlib.Core.Path.{_≡_}
-use lib.ListN.{length, getD, take, drop}
-use Rattle.words.specs.Words.{Word, commonPrefix}
+use lib.ListN.{length, getD}
+use Rattle.words.specs.Words.{Word, commonPrefix, part}
 use Rattle.overlap.specs.Pieces.{C4}
 use Rattle.overlap.specs.Cuts.{xlen, zlen}
 use Rattle.layout.specs.Places.{wordsMost, wordMost, lettersBound, fenceOf, startCell, xEndCell, zStartCell, endCell, firstCell, orderCell, sharedCell, tableRoom}
@@ -21,10 +21,6 @@ zStartOf table i = getD table (zStartCell i) 0
 
 abbrev pub endOf : List ℕ → ℕ → ℕ
 endOf table i = getD table (endCell i) 0
-
--- the text from a to b
-abbrev pub part : List ℕ → ℕ → ℕ → Word
-part text a b = take (b - a) (drop a text)
 
 -- the text has a part from a to b
 pub record Span (text : List ℕ) (a b : ℕ) : Type 0 where

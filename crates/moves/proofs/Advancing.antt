@@ -8,28 +8,27 @@ use borrow.Author.Tests.{ltb-true, ltb-false}
 use lib.Dec.{ltb}
 use lib.ListN.{length, drop, length-append, length-drop}
 use lib.Seq.{drop-append-le, drop-drop}
-use Rattle.words.specs.Words.{Word}
+use Rattle.words.specs.Words.{Word, part}
 use Rattle.words.proofs.Lists.{drop-past, part-length}
 use Rattle.congruence.proofs.Heads.{Facts}
-use Rattle.congruence.proofs.ShapeNoPrefix.{quiet-nil, quiet-drop, quiet-z, prefix-past-quiet}
-use Rattle.layout.specs.Layout.{part}
+use Rattle.congruence.proofs.ShapeNoPrefix.{no-prefix-nil, no-prefix-drop, no-prefix-z, prefix-past-tail}
 use Rattle.layout.proofs.Parts.{part-none, part-drop}
 use Rattle.changes.specs.declared.Change.{Change}
 use Rattle.plans.specs.Plans.{applied, Fit, MarkFit}
 use Rattle.moves.specs.declared.PlacedWord.{PlacedWord}
 use Rattle.moves.specs.declared.Mark.{Mark}
-use Rattle.moves.specs.State.{wordOf, markOf, WordFits, MarkFits, advancedOf, advancedMark}
+use Rattle.moves.specs.State.{placedWord, placedMark, WordFits, MarkFits, advancedOf, advancedMark}
 
 -- a held word that stands for w
 pub record Holds (text : List ℕ) (B : List Word) (source w : Word) (h : PlacedWord) : Type 0 where
   pub fit : WordFits text B source h
-  pub same : wordOf text source h ≡ w
+  pub same : placedWord text source h ≡ w
 
 pub record MarkHolds (text : List ℕ) (p : Word) (m : Mark) : Type 0 where
   pub fit : MarkFits text m
-  pub same : markOf text m ≡ p
+  pub same : placedMark text m ≡ p
 
-module _ (text : List ℕ) (B : List Word) (cut4 : Facts B) (source : Word) (h : PlacedWord) (f : WordFits text B source h) (c : Change) (g : Fit text B (wordOf text source h) c) where
+module _ (text : List ℕ) (B : List Word) (cut4 : Facts B) (source : Word) (h : PlacedWord) (f : WordFits text B source h) (c : Change) (g : Fit text B (placedWord text source h) c) where
   z : Word
   z = part text (h .at) (h .to)
 
@@ -49,11 +48,11 @@ module _ (text : List ℕ) (B : List Word) (cut4 : Facts B) (source : Word) (h :
   rest k = drop-past z (drop (h .from) source) (c .cut) k ∙ drop-drop (c .cut - length z) (h .from) source ∙ rw z-length
 
   -- a new part of the text: the old one is cut away whole
-  replaced : c .from < c .to → Holds text B source (applied text c (wordOf text source h)) (record { at = c .from; to = c .to; from = h .from + (c .cut - (h .to - h .at)) })
+  replaced : c .from < c .to → Holds text B source (applied text c (placedWord text source h)) (record { at = c .from; to = c .to; from = h .from + (c .cut - (h .to - h .at)) })
   unfolding z
   replaced l =
       let t = g .tailed l in
-      let past : length z < c .cut = omega (arith, prefix-past-quiet B cut4 z (drop (h .from) source) (t .by) (f .quiet) (t .there) (t .prefix), t .taken) in
+      let past : length z < c .cut = omega (arith, prefix-past-tail B cut4 z (drop (h .from) source) (t .by) (f .noPrefix) (t .there) (t .prefix), t .taken) in
       let e = rest (omega arith) in
       record {
         fit = record {
@@ -61,13 +60,13 @@ module _ (text : List ℕ) (B : List Word) (cut4 : Facts B) (source : Word) (h :
           inside = g .inside;
           short = g .short;
           within = omega (arith, cut-within, z-length, f .within);
-          quiet = rw (t .tail) (quiet-z B cut4 (t .of) (t .known));
+          noPrefix = rw (t .tail) (no-prefix-z B cut4 (t .of) (t .known));
         };
         same = rw e;
       }
 
   -- the cut leaves some of the old part
-  shortened : c .to ≤ c .from → c .cut < h .to - h .at → Holds text B source (applied text c (wordOf text source h)) (record { at = h .at + c .cut; to = h .to; from = h .from })
+  shortened : c .to ≤ c .from → c .cut < h .to - h .at → Holds text B source (applied text c (placedWord text source h)) (record { at = h .at + c .cut; to = h .to; from = h .from })
   unfolding z
   shortened l k =
       let e : drop (c .cut) (z ++ drop (h .from) source) ≡ part text (h .at + c .cut) (h .to) ++ drop (h .from) source =
@@ -78,14 +77,14 @@ module _ (text : List ℕ) (B : List Word) (cut4 : Facts B) (source : Word) (h :
           inside = f .inside;
           short = omega (arith, f .short);
           within = f .within;
-          quiet = rw (part-drop text (h .at) (h .to) (c .cut)) at (quiet-drop B z (c .cut) (f .quiet));
+          noPrefix = rw (part-drop text (h .at) (h .to) (c .cut)) at (no-prefix-drop B z (c .cut) (f .noPrefix));
         };
         same = rw (part-none text (c .from) (c .to) l, e);
       }
 
   -- the cut leaves nothing of it
   emptied : c .to ≤ c .from → h .to - h .at ≤ c .cut
-      → Holds text B source (applied text c (wordOf text source h)) (record { at = h .to; to = h .to; from = h .from + (c .cut - (h .to - h .at)) })
+      → Holds text B source (applied text c (placedWord text source h)) (record { at = h .to; to = h .to; from = h .from + (c .cut - (h .to - h .at)) })
   unfolding z
   emptied l k =
       let e = rest (omega (arith, z-length)) in
@@ -96,32 +95,32 @@ module _ (text : List ℕ) (B : List Word) (cut4 : Facts B) (source : Word) (h :
           inside = f .inside;
           short = omega arith;
           within = omega (arith, cut-within, f .within);
-          quiet = rw n (quiet-nil B cut4);
+          noPrefix = rw n (no-prefix-nil B cut4);
         };
         same = rw (part-none text (c .from) (c .to) l, e, n);
       }
 
-  pub holds-advanced : Holds text B source (applied text c (wordOf text source h)) (advancedOf h c)
+  pub holds-advanced : Holds text B source (applied text c (placedWord text source h)) (advancedOf h c)
   unfolding advancedOf
   holds-advanced = go (ltb (c .from) (c .to)) refl (ltb (c .cut) (h .to - h .at)) refl
     where
       go : (a : Bool) → ltb (c .from) (c .to) ≡ a → (b : Bool) → ltb (c .cut) (h .to - h .at) ≡ b
-          → Holds text B source (applied text c (wordOf text source h)) (advancedOf h c)
+          → Holds text B source (applied text c (placedWord text source h)) (advancedOf h c)
       go true e b d = rw e (replaced (ltb-true _ _ e))
       go false e true d = rw (e, d) (shortened (ltb-false _ _ e) (ltb-true _ _ d))
       go false e false d = rw (e, d) (emptied (ltb-false _ _ e) (ltb-false _ _ d))
 
-module _ (text : List ℕ) (B : List Word) (m : Mark) (f : MarkFits text m) (c : Change) (g : MarkFit text B (markOf text m) c) where
-  mark-length : length (markOf text m) ≡ m .to - m .at
+module _ (text : List ℕ) (B : List Word) (m : Mark) (f : MarkFits text m) (c : Change) (g : MarkFit text B (placedMark text m) c) where
+  mark-length : length (placedMark text m) ≡ m .to - m .at
   mark-length = part-length text (m .at) (m .to) (f .inside)
 
-  pub mark-advanced : MarkHolds text (applied text c (markOf text m)) (advancedMark m c)
+  pub mark-advanced : MarkHolds text (applied text c (placedMark text m)) (advancedMark m c)
   unfolding advancedMark
   mark-advanced = go (ltb (c .from) (c .to)) refl
     where
-      go : (a : Bool) → ltb (c .from) (c .to) ≡ a → MarkHolds text (applied text c (markOf text m)) (advancedMark m c)
+      go : (a : Bool) → ltb (c .from) (c .to) ≡ a → MarkHolds text (applied text c (placedMark text m)) (advancedMark m c)
       go true e =
-          let n : drop (c .cut) (markOf text m) ≡ [] = part-drop text (m .at) (m .to) (c .cut) ∙ part-none text (m .at + c .cut) (m .to) (omega (arith, mark-length, g .whole (ltb-true _ _ e))) in
+          let n : drop (c .cut) (placedMark text m) ≡ [] = part-drop text (m .at) (m .to) (c .cut) ∙ part-none text (m .at + c .cut) (m .to) (omega (arith, mark-length, g .whole (ltb-true _ _ e))) in
           rw e (record { fit = record { up = g .up; inside = g .inside; short = g .short }; same = sym (rw n (append-nil (part text (c .from) (c .to)))) })
       go false e =
           rw e

@@ -1,21 +1,20 @@
 -- A law for each way that dropping a letter without a plan can go.
 use Prim.Native.Nat.{ℕ, _+_, _-_, _≤_, _<_, min}
-use mathlib.Core.Bool.{Bool, true, false, _||_, true≢false}
-use mathlib.Core.List.{List, [], _∷_, _++_}
+use mathlib.Core.Bool.{Bool, true, false, true≢false}
+use mathlib.Core.List.{List, [], _∷_}
 use mathlib.Core.Path.{_≡_, refl, sym, ap, _∙_}
 use mathlib.Core.Logic.{by-cases}
 use native.Mathlib.Omega.{arith}
 use native.Mathlib.Decide.{decLt}
 use borrow.Author.Needs.{needs}
-use borrow.Author.Tests.{leb-false, lt-ltb, le-ltb, eq-eqb}
+use borrow.Author.Tests.{leb-false, lt-ltb, le-ltb}
 use lib.Dec.{eqb, leb}
 use lib.ListN.{length, getD, drop, length-append, length-drop, List·getD-append}
 use lib.Seq.{getD-drop, getD-append-add}
-use Rattle.words.specs.Words.{Word, isEmpty}
+use Rattle.words.specs.Words.{Word, isEmpty, part}
 use Rattle.words.proofs.Lists.{part-length, part-at}
-use Rattle.congruence.specs.Rows.{alike}
 use Rattle.layout.specs.Places.{tableRoom}
-use Rattle.layout.specs.Layout.{part, wordsIn}
+use Rattle.layout.specs.Layout.{wordsIn}
 use Rattle.sites.specs.FirstLetters.{emptyList}
 use Rattle.sites.proofs.FirstLetters.{begins-none}
 use Rattle.changes.specs.declared.Plan.the-variants as Plans
@@ -26,7 +25,7 @@ use Rattle.moves.specs.declared.PlacedWord.{PlacedWord}
 use Rattle.moves.specs.declared.Mark.{Mark}
 use Rattle.moves.specs.declared.State.{State}
 use Rattle.moves.specs.declared.Move.{Move}
-use Rattle.moves.specs.State.{wordOf, markOf, WordFits, MarkFits, StateReady, Applicable, moveOf, RoundMade}
+use Rattle.moves.specs.State.{placedWord, placedMark, WordFits, MarkFits, StateReady, Applicable, moveOf, RoundMade}
 use Rattle.moves.specs.Drops.{heldEmpty, HasLetter, markAllows, markLetters, DropsAtOnce}
 use Rattle.moves.proofs.Laws.{move-applicable, move-made}
 
@@ -51,7 +50,7 @@ module _ (text : List ℕ) (source : Word) (h : PlacedWord) (f : HasLetter text 
   pub part-place : h .at < h .to → h .at < length text
   part-place l = let i = f .inside in omega arith
 
-  pub part-letter : h .at < h .to → getD text (h .at) 0 ≡ getD (wordOf text source h) 0 0
+  pub part-letter : h .at < h .to → getD text (h .at) 0 ≡ getD (placedWord text source h) 0 0
   part-letter l =
       let i = f .inside in
       let k = part-length text (h .at) (h .to) i in
@@ -60,10 +59,10 @@ module _ (text : List ℕ) (source : Word) (h : PlacedWord) (f : HasLetter text 
   pub rest-place : h .to ≤ h .at → h .from < length source
   rest-place l = rest-there l
 
-  pub rest-letter : h .to ≤ h .at → getD source (h .from) 0 ≡ getD (wordOf text source h) 0 0
+  pub rest-letter : h .to ≤ h .at → getD source (h .from) 0 ≡ getD (placedWord text source h) 0 0
   rest-letter l =
       let k : length (part text (h .at) (h .to)) ≡ 0 = part-length text (h .at) (h .to) (f .inside) ∙ omega arith in
-      sym (ap (λ m. getD (wordOf text source h) m 0) {x = 0} {y = length (part text (h .at) (h .to)) + 0} (omega arith)
+      sym (ap (λ m. getD (placedWord text source h) m 0) {x = 0} {y = length (part text (h .at) (h .to)) + 0} (omega arith)
       ∙ getD-append-add (part text (h .at) (h .to)) (drop (h .from) source) 0 0 ∙ getD-drop (h .from) source 0 0 ∙ ap (λ m. getD source m 0) (omega arith))
 
 pub ruleset firstLetters = (part-place, part-letter, rest-place, rest-letter, needs)
@@ -85,12 +84,12 @@ module _ (text : List ℕ) (m : Mark) (x : ℕ) (f : MarkFits text m) where
   unfolding markAllows
   mark-letter l =
       let k = part-length text (m .at) (m .to) (f .inside) in
-      let e : getD (markOf text m) 0 0 ≡ getD text (m .at) 0 = part-at text (m .at) (m .to) 0 (omega arith) ∙ ap (λ n. getD text n 0) (omega arith) in
-      rw (some-of (markOf text m) (omega arith), e)
+      let e : getD (placedMark text m) 0 0 ≡ getD text (m .at) 0 = part-at text (m .at) (m .to) 0 (omega arith) ∙ ap (λ n. getD text n 0) (omega arith) in
+      rw (some-of (placedMark text m) (omega arith), e)
 
   pub mark-empty : m .to ≤ m .at → true ≡ markAllows text m x
   unfolding markAllows
-  mark-empty l = let k = part-length text (m .at) (m .to) (f .inside) in rw (empty-of (markOf text m) (omega arith))
+  mark-empty l = let k = part-length text (m .at) (m .to) (f .inside) in rw (empty-of (placedMark text m) (omega arith))
 
 pub ruleset marksAllow = (mark-place, mark-letter, mark-empty, needs)
 
@@ -105,14 +104,14 @@ module _ (text table : List ℕ) (n : ℕ) (first second : Word) (s : State) (p 
   pub mark-held : MarkFits text (s .mark)
   mark-held = p .standing .mark
 
-  held-some : (source : Word) (h : PlacedWord) → WordFits text (wordsIn text table n) source h → heldEmpty (length source) h ≡ false → isEmpty (wordOf text source h) ≡ false
+  held-some : (source : Word) (h : PlacedWord) → WordFits text (wordsIn text table n) source h → heldEmpty (length source) h ≡ false → isEmpty (placedWord text source h) ≡ false
   unfolding heldEmpty
   held-some source h f e =
       let i = f .inside in
       let k = part-length text (h .at) (h .to) i in
       let a = length-append (part text (h .at) (h .to)) (drop (h .from) source) in
       let d = length-drop (h .from) source in
-      some-of (wordOf text source h) (by-cases (decLt (h .at) (h .to)) (λ l. omega arith)
+      some-of (placedWord text source h) (by-cases (decLt (h .at) (h .to)) (λ l. omega arith)
       (λ l. let r = leb-false (length source) (h .from) (rw (le-ltb (h .at) (h .to) (omega arith)) at e) in omega arith))
 
   module _ (eu : Bool) (fu : eu ≡ heldEmpty (length first) (s .u)) (hu : eu ≡ false) where
@@ -123,8 +122,8 @@ module _ (text table : List ℕ) (n : ℕ) (first second : Word) (s : State) (p 
       pub has-v : HasLetter text second (s .v)
       has-v = record { inside = p .standing .v .inside; some = sym fv ∙ hv }
 
-      module _ (x y : ℕ) (ex : x ≡ getD (wordOf text first (s .u)) 0 0) (ey : y ≡ getD (wordOf text second (s .v)) 0 0) (e : x ≡ y) (m : Bool) (em : m ≡ markAllows text (s .mark) x) (hm : m ≡ true) where
-        mark-letters : markLetters (s .mark) ≡ min 1 (length (markOf text (s .mark)))
+      module _ (x y : ℕ) (ex : x ≡ getD (placedWord text first (s .u)) 0 0) (ey : y ≡ getD (placedWord text second (s .v)) 0 0) (e : x ≡ y) (m : Bool) (em : m ≡ markAllows text (s .mark) x) (hm : m ≡ true) where
+        mark-letters : markLetters (s .mark) ≡ min 1 (length (placedMark text (s .mark)))
         unfolding markLetters
         mark-letters =
             let k = part-length text (s .mark .at) (s .mark .to) (p .standing .mark .inside) in
@@ -135,7 +134,7 @@ module _ (text table : List ℕ) (n : ℕ) (first second : Word) (s : State) (p 
         drops-so r er =
             record {
               plan = λ h.
-                  drop-plan text table n (p .fitting .ready .paired .checked) (wordOf text first (s .u)) (wordOf text second (s .v)) (markOf text (s .mark))
+                  drop-plan text table n (p .fitting .ready .paired .checked) (placedWord text first (s .u)) (placedWord text second (s .v)) (placedMark text (s .mark))
                   (held-some first (s .u) (p .standing .u) (sym fu ∙ hu)) (held-some second (s .v) (p .standing .v) (sym fv ∙ hv)) (sym ex ∙ e ∙ ey) (rw ex at (sym em ∙ hm))
                   (rw ex at (begins-none text table n (p .fitting .ready .paired .checked) x (sym er ∙ h))) (markLetters (s .mark)) mark-letters;
             }

@@ -8,12 +8,12 @@ use borrow.Author.Needs.{needs}
 use borrow.Author.Tests.{lt-ltb, le-ltb}
 use lib.ListN.{length, take, drop, length-append, length-drop}
 use lib.Seq.{take-all}
-use Rattle.words.specs.Words.{Word}
+use Rattle.words.specs.Words.{Word, part}
 use Rattle.words.proofs.Lists.{part-length}
 use Rattle.overlap.proofs.Facts.{rigid-of-c4}
 use Rattle.congruence.specs.Rows.{round}
 use Rattle.congruence.proofs.Heads.{Facts}
-use Rattle.layout.specs.Layout.{part, wordsIn}
+use Rattle.layout.specs.Layout.{wordsIn}
 use Rattle.rows.specs.Pairs.{Paired}
 use Rattle.changes.specs.declared.Change.{Change}
 use Rattle.changes.specs.declared.Plan.{Plan}
@@ -25,7 +25,7 @@ use Rattle.moves.specs.declared.Mark.{Mark}
 use Rattle.moves.specs.declared.State.{State}
 use Rattle.moves.specs.declared.Move.{Move}
 use Rattle.moves.specs.declared.Move.the-variants as Moves
-use Rattle.moves.specs.State.{wordOf, markOf, WordFits, MarkFits, beyondOf, Movable, MarkMovable, advancedOf, advancedMark, moveOf, Applicable, StateReady, RoundMade}
+use Rattle.moves.specs.State.{placedWord, placedMark, WordFits, MarkFits, beyondOf, Movable, MarkMovable, advancedOf, advancedMark, moveOf, Applicable, StateReady, RoundMade}
 use Rattle.moves.proofs.Advancing.{holds-advanced, mark-advanced}
 
 -- the word after a change
@@ -54,7 +54,7 @@ pub plan-held : (text table : List ℕ) (n : ℕ) (first second : Word) (s : Sta
     (part text (s .u .at) (s .u .to) ++ take (length first - s .u .from) (drop (s .u .from) first))
     (part text (s .v .at) (s .v .to) ++ take (length second - s .v .from) (drop (s .v .from) second))
     (part text (s .mark .at) (s .mark .to)) r
-    → PlansRound text table n (wordOf text first (s .u)) (wordOf text second (s .v)) (markOf text (s .mark)) r
+    → PlansRound text table n (placedWord text first (s .u)) (placedWord text second (s .v)) (placedMark text (s .mark)) r
 plan-held text table n first second s r d = rw (rest-lent first (s .u .from), rest-lent second (s .v .from)) at d
 
 -- the lent parts lie in what they are parts of
@@ -121,7 +121,7 @@ module _ (text table : List ℕ) (n : ℕ) (first second : Word) (s : State) (p 
   unfolding words
   cuts = rigid-of-c4 (wordsIn text table n) (p .fitting .ready .paired .checked .accepted)
 
-  movable-of-fit : (source : Word) → length source ≤ 65536 → (h : PlacedWord) → WordFits text words source h → (c : Change) → Fit text words (wordOf text source h) c → Movable h c
+  movable-of-fit : (source : Word) → length source ≤ 65536 → (h : PlacedWord) → WordFits text words source h → (c : Change) → Fit text words (placedWord text source h) c → Movable h c
   movable-of-fit source k h f c g =
       let l = length-append (part text (h .at) (h .to)) (drop (h .from) source) in
       let m = part-length text (h .at) (h .to) (f .inside) in
@@ -133,12 +133,12 @@ module _ (text table : List ℕ) (n : ℕ) (first second : Word) (s : State) (p 
         small = omega (arith, g .within, f .inside, p .fitting .ready .text-short);
       }
 
-  mark-of-fit : (m : Mark) → MarkFits text m → (c : Change) → MarkFit text words (markOf text m) c → MarkMovable m c
+  mark-of-fit : (m : Mark) → MarkFits text m → (c : Change) → MarkFit text words (placedMark text m) c → MarkMovable m c
   mark-of-fit m f c g =
       let l = part-length text (m .at) (m .to) (f .inside) in
       record { low = omega (arith, f .up, f .inside, p .fitting .ready .text-short); small = omega (arith, g .within, f .inside, p .fitting .ready .text-short) }
 
-  applicable : (plan : Plan) → PlanFit text words (wordOf text first (s .u)) (wordOf text second (s .v)) (markOf text (s .mark)) plan → Applicable s plan
+  applicable : (plan : Plan) → PlanFit text words (placedWord text first (s .u)) (placedWord text second (s .v)) (placedMark text (s .mark)) plan → Applicable s plan
   unfolding words
   applicable (Plans.End b) f = tt
   applicable (Plans.Go cu cv cp) (goes a b c) = (
@@ -147,8 +147,8 @@ module _ (text table : List ℕ) (n : ℕ) (first second : Word) (s : State) (p 
     mark-of-fit (s .mark) (p .standing .mark) cp c,
   )
 
-  round-made : (plan : Plan) → PlanFit text words (wordOf text first (s .u)) (wordOf text second (s .v)) (markOf text (s .mark)) plan
-      → planned text (wordOf text first (s .u)) (wordOf text second (s .v)) (markOf text (s .mark)) plan ≡ round words (wordOf text first (s .u)) (wordOf text second (s .v)) (markOf text (s .mark))
+  round-made : (plan : Plan) → PlanFit text words (placedWord text first (s .u)) (placedWord text second (s .v)) (placedMark text (s .mark)) plan
+      → planned text (placedWord text first (s .u)) (placedWord text second (s .v)) (placedMark text (s .mark)) plan ≡ round words (placedWord text first (s .u)) (placedWord text second (s .v)) (placedMark text (s .mark))
       → RoundMade text table n first second s (moveOf s plan)
   unfolding words planned
   round-made (Plans.End b) f e = record { same = e; stands = tt }
@@ -158,7 +158,7 @@ module _ (text table : List ℕ) (n : ℕ) (first second : Word) (s : State) (p 
       let hm = mark-advanced text (wordsIn text table n) (s .mark) (p .standing .mark) cp c in
       record { same = rw (hu .same, hv .same, hm .same) e; stands = record { u = hu .fit; v = hv .fit; mark = hm .fit } }
 
-  module _ (plan : Plan) (d : PlansRound text table n (wordOf text first (s .u)) (wordOf text second (s .v)) (markOf text (s .mark)) plan) where
+  module _ (plan : Plan) (d : PlansRound text table n (placedWord text first (s .u)) (placedWord text second (s .v)) (placedMark text (s .mark)) plan) where
     pub move-applicable : Applicable s plan
     unfolding words
     move-applicable = applicable plan (d .fits)

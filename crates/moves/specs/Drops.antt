@@ -11,7 +11,7 @@ use Rattle.plans.specs.RowPlans.{dropOne}
 use Rattle.moves.specs.declared.PlacedWord.{PlacedWord}
 use Rattle.moves.specs.declared.Mark.{Mark}
 use Rattle.moves.specs.declared.State.{State}
-use Rattle.moves.specs.State.{wordOf, markOf}
+use Rattle.moves.specs.State.{placedWord, placedMark}
 
 -- a held word has no letter, where the given word has so many
 unfoldable pub heldEmpty : ℕ → PlacedWord → Bool
@@ -24,7 +24,7 @@ pub record HasLetter (text : List ℕ) (source : Word) (h : PlacedWord) : Type 0
 
 -- the mark is empty or begins with the letter x
 unfoldable pub markAllows : List ℕ → Mark → ℕ → Bool
-markAllows text m x = isEmpty (markOf text m) || eqb (getD (markOf text m) 0 0) x
+markAllows text m x = isEmpty (placedMark text m) || eqb (getD (placedMark text m) 0 0) x
 
 -- how many letters row 2 takes from the mark
 unfoldable pub markLetters : Mark → ℕ
@@ -32,4 +32,4 @@ markLetters m = cond (ltb (m .at) (m .to)) 1 0
 
 -- where r is true, the round drops a letter of each word, and of the mark if it has one
 pub record DropsAtOnce (text table : List ℕ) (n : ℕ) (first second : Word) (s : State) (r : Bool) : Type 0 where
-  pub plan : r ≡ true → PlansRound text table n (wordOf text first (s .u)) (wordOf text second (s .v)) (markOf text (s .mark)) (dropOne (markLetters (s .mark)))
+  pub plan : r ≡ true → PlansRound text table n (placedWord text first (s .u)) (placedWord text second (s .v)) (placedMark text (s .mark)) (dropOne (markLetters (s .mark)))

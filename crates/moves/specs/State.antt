@@ -5,11 +5,11 @@ use mathlib.Core.List.{List, _++_}
 use mathlib.Core.Path.{_≡_}
 use lib.Dec.{ltb}
 use lib.ListN.{length, drop}
-use Rattle.words.specs.Words.{Word}
+use Rattle.words.specs.Words.{Word, part}
 use Rattle.congruence.specs.Rows.{Next, round}
 use Rattle.congruence.specs.Rows.Next.{end, go}
 use Rattle.congruence.specs.NoRelationPrefix.{NoRelationPrefix}
-use Rattle.layout.specs.Layout.{part, wordsIn}
+use Rattle.layout.specs.Layout.{wordsIn}
 use Rattle.changes.specs.declared.Change.{Change}
 use Rattle.changes.specs.declared.Plan.{Plan}
 use Rattle.changes.specs.declared.Plan.the-variants as Plans
@@ -22,12 +22,12 @@ use Rattle.moves.specs.declared.Move.{Move}
 use Rattle.moves.specs.declared.Move.the-variants as Moves
 
 -- the word that is held
-abbrev pub wordOf : List ℕ → Word → PlacedWord → Word
-wordOf text source h = part text (h .at) (h .to) ++ drop (h .from) source
+abbrev pub placedWord : List ℕ → Word → PlacedWord → Word
+placedWord text source h = part text (h .at) (h .to) ++ drop (h .from) source
 
 -- the front mark
-abbrev pub markOf : List ℕ → Mark → Word
-markOf text m = part text (m .at) (m .to)
+abbrev pub placedMark : List ℕ → Mark → Word
+placedMark text m = part text (m .at) (m .to)
 
 -- a held word lies in the text and in the given word, and no X and Y stands in its part of the text
 pub record WordFits (text : List ℕ) (B : List Word) (source : Word) (h : PlacedWord) : Type 0 where
@@ -35,7 +35,7 @@ pub record WordFits (text : List ℕ) (B : List Word) (source : Word) (h : Place
   pub inside : h .to ≤ length text
   pub short : h .to ≤ h .at + 64
   pub within : h .from ≤ length source
-  pub quiet : NoRelationPrefix B (part text (h .at) (h .to))
+  pub noPrefix : NoRelationPrefix B (part text (h .at) (h .to))
 
 pub record MarkFits (text : List ℕ) (m : Mark) : Type 0 where
   pub up : m .at ≤ m .to
@@ -106,7 +106,7 @@ pub record StateReady (text table : List ℕ) (n : ℕ) (first second : Word) (s
 -- a step in the words of the rows
 abbrev pub moveNext : List ℕ → Word → Word → Move → Next
 moveNext text first second (Moves.End b) = end b
-moveNext text first second (Moves.Next s) = go (wordOf text first (s .u)) (wordOf text second (s .v)) (markOf text (s .mark))
+moveNext text first second (Moves.Next s) = go (placedWord text first (s .u)) (placedWord text second (s .v)) (placedMark text (s .mark))
 
 -- the next state, if there is one, stands
 abbrev pub MoveFits : List ℕ → List Word → Word → Word → Move → Type 0
@@ -115,5 +115,5 @@ MoveFits text B first second (Moves.Next s) = StateFits text B first second s
 
 -- one step of a state is one round of the rows from the words that it stands for
 pub record RoundMade (text table : List ℕ) (n : ℕ) (first second : Word) (s : State) (step : Move) : Type 0 where
-  pub same : moveNext text first second step ≡ round (wordsIn text table n) (wordOf text first (s .u)) (wordOf text second (s .v)) (markOf text (s .mark))
+  pub same : moveNext text first second step ≡ round (wordsIn text table n) (placedWord text first (s .u)) (placedWord text second (s .v)) (placedMark text (s .mark))
   pub stands : MoveFits text (wordsIn text table n) first second step

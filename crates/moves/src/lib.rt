@@ -4,7 +4,7 @@ ghost use mathlib.Core.Path.{_≡_};
 ghost use lib.ListN.{length, getD};
 ghost use Rattle.plans.specs.Plans.{PlansRound};
 ghost use Rattle.plans.specs.RowPlans.{dropOne};
-ghost use Rattle.moves.specs.State.{MarkFits, beyondOf, Movable, advancedOf, MarkMovable, advancedMark, wordOf, markOf, StateReady, Applicable, moveOf, RoundMade};
+ghost use Rattle.moves.specs.State.{MarkFits, beyondOf, Movable, advancedOf, MarkMovable, advancedMark, placedWord, placedMark, StateReady, Applicable, moveOf, RoundMade};
 ghost use Rattle.moves.specs.Drops.{heldEmpty, HasLetter, markAllows, markLetters, DropsAtOnce};
 use plans::Change;
 use plans::Plan;
@@ -93,7 +93,7 @@ fn advance_mark(m: Mark, c: Change) -> Mark
 // What the round of a state does, over its words as they are held.
 fn plan_of(text: &[u16], table: &[u16], n: usize, first: &[u16], second: &[u16], s: State) -> Plan
     requires { ⌜ StateReady (now text) (now table) n (now first) (now second) s ⌝ }
-    ensures { λ r. ⌜ PlansRound (now (text .entry)) (now (table .entry)) n (wordOf (now (text .entry)) (now (first .entry)) (s .u)) (wordOf (now (text .entry)) (now (second .entry)) (s .v)) (markOf (now (text .entry)) (s .mark)) r ⌝ }
+    ensures { λ r. ⌜ PlansRound (now (text .entry)) (now (table .entry)) n (placedWord (now (text .entry)) (now (first .entry)) (s .u)) (placedWord (now (text .entry)) (now (second .entry)) (s .v)) (placedMark (now (text .entry)) (s .mark)) r ⌝ }
 {
     let u_at = s.u.at;
     let u_to = s.u.to;
@@ -143,7 +143,7 @@ fn held_empty(given: &[u16], h: PlacedWord) -> bool
 // The first letter of a held word.
 fn first_letter(text: &[u16], given: &[u16], h: PlacedWord) -> u16
     requires { ⌜ HasLetter (now text) (now given) h ⌝ }
-    ensures { λ r. ⌜ r ≡ getD (wordOf (now (text .entry)) (now (given .entry)) h) 0 0 ⌝ }
+    ensures { λ r. ⌜ r ≡ getD (placedWord (now (text .entry)) (now (given .entry)) h) 0 0 ⌝ }
 {
     let at = h.at;
     let from = h.from;

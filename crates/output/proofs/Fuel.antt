@@ -7,8 +7,8 @@ use native.Mathlib.Omega.{arith}
 use borrow.Author.Tests.{lt-ltb, le-leb}
 use lib.Dec.{leb}
 use lib.ListN.{length}
-use Rattle.words.specs.Words.{Word}
-use Rattle.format.specs.Book.{field, between}
+use Rattle.words.specs.Words.{Word, part}
+use Rattle.format.specs.Book.{field}
 use Rattle.comparison.specs.Comparing.{comparisonOf}
 use Rattle.output.specs.declared.Request.{Request}
 use Rattle.output.specs.declared.Request.the-variants.{Compare, Refused}
@@ -39,7 +39,7 @@ lines-fuel (suc fuel) (suc larger) letters B input at h l =
     go false (Refused x) e f = refl
     go false (Compare a first second end) e f =
         let w = lies-of input at (Compare a first second end) (sym e) a first second end refl in
-        ap (λ (t : List ℕ). comparisonLine (comparisonOf letters B (between input first second) (between input second end) a) ++ t) (f end (omega (arith, w .behind)))
+        ap (λ (t : List ℕ). comparisonLine (comparisonOf letters B (part input first second) (part input second end) a) ++ t) (f end (omega (arith, w .behind)))
 
 pub fuel-suffices : FuelSuffices
 fuel-suffices = record { end = end-fuel; lines = lines-fuel }

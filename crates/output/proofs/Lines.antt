@@ -9,9 +9,9 @@ use borrow.Author.Tests.{lt-leb, le-leb}
 use lib.ListN.{length, length-append, take-append-drop}
 use mir.Val.{Fits}
 use mir.Syntax.{w64}
+use Rattle.words.specs.Words.{part}
 use Rattle.layout.specs.Layout.{wordsIn}
 use Rattle.refusals.specs.declared.Refusal.{Refusal}
-use Rattle.format.specs.Book.{between}
 use Rattle.comparison.specs.declared.Comparison.{Comparison}
 use Rattle.moves.specs.State.{Ready}
 use Rattle.comparison.specs.Comparing.{comparisonOf}
@@ -120,7 +120,7 @@ module _ (text table : List ℕ) (n letters : ℕ) (input : List ℕ) (start : �
         pub lining-less : length input - to < length input - at
         lining-less = let w0 = lies .behind in let w1 = lies .inside in omega arith
 
-        module _ (c : Comparison) (g : c ≡ comparisonOf letters (wordsIn text table n) (between input first second) (between input second to) a) where
+        module _ (c : Comparison) (g : c ≡ comparisonOf letters (wordsIn text table n) (part input first second) (part input second to) a) where
           next-whole : linesUnder text table n letters input start ≡ l .written ++ (comparisonLine c ++ linesFrom (on .0) letters (wordsIn text table n) input to)
           next-whole =
               on .2 ∙ ap (λ (t : Request). l .written ++ byRequest (linesFrom (on .0) letters (wordsIn text table n) input) letters (wordsIn text table n) input t) f

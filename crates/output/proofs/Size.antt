@@ -1,13 +1,13 @@
 -- The output is never longer than the size that is named for it: each line has at most 22 bytes, and each comparison record at least 12.
 use Prim.Native.Nat.{ℕ, zero, suc, _+_, _*_, _-_, _<_, _≤_}
 use mathlib.Core.Bool.{Bool, true, false, cond}
-use mathlib.Core.List.{List, [], _∷_, _++_}
+use mathlib.Core.List.{List, [], _++_}
 use mathlib.Core.Path.{_≡_, refl, sym, subst}
 use native.Mathlib.Omega.{arith}
 use borrow.Author.Tests.{ltb-true, ltb-false, leb-false}
 use lib.Dec.{eqb, leb, ltb}
 use lib.ListN.{length, take, length-append, length-take}
-use Rattle.words.specs.Words.{Word}
+use Rattle.words.specs.Words.{Word, part}
 use Rattle.words.specs.Relations.{relationWords}
 use Rattle.overlap.specs.Cuts.{firstLoose}
 use Rattle.overlap.specs.Verdict.{Verdict, judge, firstRepeated}
@@ -26,10 +26,10 @@ use Rattle.format.specs.declared.HeadReading.{HeadReading}
 use Rattle.format.specs.declared.HeadReading.the-variants as Heads
 use Rattle.format.specs.declared.RelationReading.{RelationReading}
 use Rattle.format.specs.declared.RelationReading.the-variants as Relations
-use Rattle.format.specs.Book.{Presentation, adding, BookReading, field, between, recordAt, differs, headAt, fieldsAt, relationAt, relationIn, onWhole, onHead, onRelation, relationsFrom, readBook}
+use Rattle.format.specs.Book.{Presentation, adding, BookReading, field, recordAt, differs, headAt, fieldsAt, relationAt, relationIn, onWhole, onHead, onRelation, relationsFrom, readBook}
 use Rattle.format.proofs.Readings.{whole-at, read-within}
 use Rattle.presentation.specs.Loading.{byVerdict, byReading, loadBook}
-use Rattle.presentation.proofs.Laws.{length-words}
+use Rattle.words.proofs.Relations.{length-words}
 use Rattle.given.specs.declared.Given.{Given}
 use Rattle.given.specs.declared.Given.the-variants as Givens
 use Rattle.given.specs.Given.{givenOf, onGiven, pairOf}
@@ -246,8 +246,8 @@ module _ (letters : ℕ) (B : List Word) (input : List ℕ) (bytes : AreBytes in
   few-request next at h f (Requests.Compare a first second to) e =
       let w = lies-of input at (Requests.Compare a first second to) (sym e) a first second to refl in
       let k = field-small input (at + 4) bytes in
-      let c = comparisonOf letters B (between input first second) (between input second to) a in
-      let l = small-comparison letters B (between input first second) (between input second to) a (omega (arith, w .allowed)) in
+      let c = comparisonOf letters B (part input first second) (part input second to) a in
+      let l = small-comparison letters B (part input first second) (part input second to) a (omega (arith, w .allowed)) in
       few-more _ at to (comparisonLine c) (next to) (omega (arith, w .behind)) (comparison-short c l) (f to (w .inside))
 
   few-lines : (most at : ℕ) → at ≤ length input → Few (length input) at (linesFrom most letters B input at)

@@ -5,13 +5,13 @@ use mathlib.Core.List.{List, [], _∷_, _++_}
 use mathlib.Core.Path.{_≡_}
 use lib.Dec.{eqb, leb, ltb}
 use lib.ListN.{length, take}
-use Rattle.words.specs.Words.{Word}
+use Rattle.words.specs.Words.{Word, part}
 use Rattle.words.specs.Relations.{relationWords}
 use Rattle.limits.specs.Limits.{recordPrefix, inputMost, comparisonKind}
 use Rattle.refusals.specs.declared.Refusal.{Refusal}
 use Rattle.refusals.specs.declared.Refusal.the-variants.{Heavy}
 use Rattle.refusals.specs.Refusals.{numberAndPlace}
-use Rattle.format.specs.Book.{Presentation, BookReading, field, between}
+use Rattle.format.specs.Book.{BookReading, field}
 use Rattle.presentation.specs.Loading.{loadBook}
 use Rattle.comparison.specs.declared.Comparison.{Comparison}
 use Rattle.comparison.specs.declared.Comparison.the-variants.{Same, Different, Refused}
@@ -61,7 +61,7 @@ bookEnd input = bookEndFrom (length input) input 0
 abbrev pub byRequest : (ℕ → List ℕ) → ℕ → List Word → List ℕ → Request → List ℕ
 byRequest next letters B input (Requests.Refused r) = refusedLine r
 byRequest next letters B input (Requests.Compare allowance first second end) =
-    comparisonLine (comparisonOf letters B (between input first second) (between input second end) allowance) ++ next end
+    comparisonLine (comparisonOf letters B (part input first second) (part input second end) allowance) ++ next end
 
 -- the lines of the comparison records from a position on; a fuel of the input's length never runs out (FuelSuffices)
 unfoldable pub linesFrom : ℕ → ℕ → List Word → List ℕ → ℕ → List ℕ

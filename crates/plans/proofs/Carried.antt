@@ -6,7 +6,7 @@ use mathlib.Core.Path.{_≡_, refl, sym, ap, _∙_}
 use native.Mathlib.Omega.{arith}
 use lib.ListN.{length, take, drop, length-drop}
 use lib.Seq.{length-take-le, drop-length, drop-drop, drop-append-le}
-use Rattle.words.specs.Words.{Word, isEmpty, isPrefix, commonSuffix}
+use Rattle.words.specs.Words.{Word, isEmpty, isPrefix, commonSuffix, part}
 use Rattle.words.proofs.Prefixes.{prefix-length, prefix-split}
 use Rattle.words.proofs.Tests.{cond-both}
 use Rattle.words.proofs.Lists.{part-length}
@@ -19,7 +19,6 @@ use Rattle.words.proofs.CommonSuffixes.{suffix-within}
 use Rattle.congruence.proofs.RowTests.{prefix-of-clean}
 use Rattle.congruence.proofs.FirstRow.{Fits, xy-of-whole}
 use Rattle.congruence.proofs.FirstRow.Fits.{fits2, fits4, fits5, fits6, fits7, fits8}
-use Rattle.layout.specs.Layout.{part}
 use Rattle.layout.proofs.Parts.{part-take, part-drop}
 use Rattle.changes.specs.declared.Plan.the-variants.{End}
 use Rattle.sites.specs.declared.Site.{Site}

@@ -6,14 +6,14 @@ use native.Mathlib.Omega.{arith}
 use borrow.Author.Needs.{needs}
 use mathlib.Core.Bool.{false}
 use lib.ListN.{length}
-use Rattle.words.specs.Words.{Word}
+use Rattle.words.specs.Words.{Word, part}
 use Rattle.words.specs.Relations.{other}
 use Rattle.words.proofs.Lists.{part-length}
 use Rattle.congruence.specs.Rows.{cleanRelationPrefix, otherWord, makes, row1, round}
 use Rattle.words.proofs.CommonSuffixes.{suffix-within}
 use Rattle.congruence.proofs.FirstRow.{Fits, fits, prefix-of-fits, row-eight}
 use Rattle.congruence.proofs.FirstRow.Fits.{fits2}
-use Rattle.layout.specs.Layout.{part, wordsIn}
+use Rattle.layout.specs.Layout.{wordsIn}
 use Rattle.layout.proofs.Placed.{words-length}
 use Rattle.rows.specs.declared.Found.{Found}
 use Rattle.sites.specs.declared.Site.{Site}

@@ -4,11 +4,11 @@ use mathlib.Core.Bool.{Bool, true}
 use mathlib.Core.List.{List, _++_}
 use mathlib.Core.Path.{_≡_}
 use lib.ListN.{length, drop}
-use Rattle.words.specs.Words.{Word, isPrefix}
+use Rattle.words.specs.Words.{Word, isPrefix, part}
 use Rattle.overlap.specs.Cuts.{xylen, xyOf, zOf}
 use Rattle.congruence.specs.Rows.{Next, round}
 use Rattle.congruence.specs.Rows.Next.{end, go}
-use Rattle.layout.specs.Layout.{part, wordsIn}
+use Rattle.layout.specs.Layout.{wordsIn}
 use Rattle.changes.specs.declared.Change.{Change}
 use Rattle.changes.specs.declared.Plan.{Plan}
 use Rattle.changes.specs.declared.Plan.the-variants.{End, Go}

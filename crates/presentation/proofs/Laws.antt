@@ -1,13 +1,13 @@
 -- A law for each way that loading a book can go.
 use Prim.Native.Nat.{ℕ, _*_}
-use mathlib.Core.List.{List, [], _∷_}
+use mathlib.Core.List.{List}
 use mathlib.Core.Path.{_≡_, refl, sym, ap, _∙_, subst}
 use native.Mathlib.Omega.{arith}
 use borrow.Author.Needs.{needs}
 use lib.ListN.{length}
 use mir.Val.{Fits}
 use mir.Syntax.{w64}
-use Rattle.words.specs.Relations.{Relation, relationWords}
+use Rattle.words.specs.Relations.{relationWords}
 use Rattle.overlap.specs.Verdict.{judge}
 use Rattle.layout.specs.Layout.{Laid, wordsIn}
 use Rattle.refusals.specs.declared.Refusal.{Refusal}
@@ -169,9 +169,3 @@ pub ruleset answers = (answer-case, needs)
 
 pub load-refused : (book : List ℕ) (reading : Reading) (text table : List ℕ) → BookLoaded book reading text table → (r : Refusal) → reading ≡ Refused r → loadBook book ≡ refused r
 load-refused book reading text table d r e = refused-reading (loadBook book) r (sym e ∙ d .answer)
-
--- a presentation has two relation words for each relation
-pub length-words : (relations : List Relation) → length (relationWords relations) ≡ 2 * length relations
-unfolding relationWords
-length-words [] = refl
-length-words (r ∷ rs) = omega (arith, length-words rs)

@@ -8,6 +8,7 @@ use borrow.Author.Needs.{needs}
 use borrow.Author.Tests.{eq-eqb, ne-eqb, le-leb, lt-leb}
 use lib.Dec.{ltb}
 use lib.ListN.{length}
+use Rattle.words.specs.Words.{part}
 use Rattle.words.proofs.Lists.{part-length}
 use Rattle.limits.specs.declared.Record.{Record}
 use Rattle.limits.specs.declared.Record.the-variants.{Whole, CutOff}
@@ -24,7 +25,7 @@ use Rattle.letters.specs.Letters.{firstUnknown, unknownIn}
 use Rattle.format.specs.declared.HeadReading.the-variants as Heads
 use Rattle.format.specs.declared.RelationReading.{RelationReading}
 use Rattle.format.specs.declared.RelationReading.the-variants as Relations
-use Rattle.format.specs.Book.{byte, between, recordAt, headAt, fieldsAt, relationAt}
+use Rattle.format.specs.Book.{byte, recordAt, headAt, fieldsAt, relationAt}
 use Rattle.format.proofs.Readings.{whole-at}
 use Rattle.records.specs.Reads.{Payload}
 
@@ -136,7 +137,7 @@ module _ (letters place : ℕ) (book : List ℕ) (from to : ℕ) (p : Payload bo
         pub fields-part : Payload book (from + 2) to
         fields-part = record { order = omega arith; inside = p .inside }
 
-        module _ (u : Bool) (k : u ≡ unknownIn letters (between book (from + 2) to)) where
+        module _ (u : Bool) (k : u ≡ unknownIn letters (part book (from + 2) to)) where
           pub fields-unknown : u ≡ true → Relations.Refused (UnknownLetter place) ≡ fieldsAt letters place book from to
           unfolding fieldsAt
           fields-unknown h = rw (← v .same, ← w .same, eq-eqb (to - from) (2 + m + n) l, relation-inside m n r (sym d ∙ g), ← k, h)
@@ -148,8 +149,8 @@ module _ (letters place : ℕ) (book : List ℕ) (from to : ℕ) (p : Payload bo
 pub ruleset fieldsets = (fields-none, fields-length, fields-range, fields-part, fields-unknown, fields-good, needs)
 
 -- some letter of a part is unknown
-pub unknown-part : (letters : ℕ) (book : List ℕ) (from to known : ℕ) → Payload book from to → known ≡ firstUnknown letters (between book from to)
-    → ltb known (to - from) ≡ unknownIn letters (between book from to)
+pub unknown-part : (letters : ℕ) (book : List ℕ) (from to known : ℕ) → Payload book from to → known ≡ firstUnknown letters (part book from to)
+    → ltb known (to - from) ≡ unknownIn letters (part book from to)
 unknown-part letters book from to known p e = rw (part-length book from to (p .inside), e)
 
 pub ruleset unknowns = (unknown-part, needs)

@@ -1,9 +1,10 @@
 // What a head and a relation say: a record's bytes to their fields (document 01, "Book bytes"), each answer equal to a definition's for every byte slice.
 // Where a record lies and the place that its refusal reports are told apart: a record may lie in another slice than the book that it belongs to.
 ghost use mathlib.Core.Path.{_≡_};
+ghost use Rattle.words.specs.Words.{part};
 ghost use Rattle.limits.specs.Limits.{lettersMost};
 ghost use Rattle.letters.specs.Letters.{unknownIn};
-ghost use Rattle.format.specs.Book.{between, headAt, fieldsAt, relationAt};
+ghost use Rattle.format.specs.Book.{headAt, fieldsAt, relationAt};
 ghost use Rattle.records.specs.Reads.{Payload};
 use format::HeadReading;
 use format::RelationReading;
@@ -44,7 +45,7 @@ pub fn head_at(book: &[u8], at: usize, place: usize) -> HeadReading
 // Some letter of a part is not below the number of letters.
 fn unknown_in(book: &[u8], from: usize, to: usize, letters: u8) -> bool
     requires { ⌜ Payload (now book) from to ⌝ }
-    ensures { λ r. ⌜ r ≡ unknownIn letters (between (now (book .entry)) from to) ⌝ }
+    ensures { λ r. ⌜ r ≡ unknownIn letters (part (now (book .entry)) from to) ⌝ }
 {
     let known = first_unknown(&book[from..to], letters);
     known < to - from

@@ -12,13 +12,13 @@ use lib.ListN.{length, getD}
 use mir.Val.{Fits}
 use mir.Syntax.{w64}
 use Rattle.words.specs.Search.{least}
-use Rattle.words.specs.Words.{Word, isPrefix}
+use Rattle.words.specs.Words.{Word, isPrefix, part}
 use Rattle.words.proofs.Prefixes.{prefix-at, at-prefix}
 use Rattle.words.proofs.Tests.{false-of}
 use Rattle.words.proofs.Searching.{NoneBelow, none-start, none-more, none-all, any-of, any-same, least-is, least-none, least-same}
 use Rattle.overlap.specs.Verdict.{sameWord, isRepeated, firstRepeated}
 use Rattle.layout.specs.Places.{startCell, endCell}
-use Rattle.layout.specs.Layout.{part, startOf, endOf, wordsIn, Laid, KnownWord, WordPair}
+use Rattle.layout.specs.Layout.{startOf, endOf, wordsIn, Laid, KnownWord, WordPair}
 use Rattle.layout.proofs.Placed.{start-bound, words-length, word-part, row-inside, word-span}
 use Rattle.repeated.specs.Repeated.{sameWords, repeatedIn}
 

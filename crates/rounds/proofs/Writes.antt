@@ -1,5 +1,5 @@
 -- Laws of the writers: a change written into a buffer, and the three of a round; and of the doors, where given words are widened and next words narrowed.
-use Prim.Native.Nat.{ℕ, zero, suc, _+_, _*_, _-_, _≤_, _<_}
+use Prim.Native.Nat.{ℕ, zero, suc, _+_, _-_, _≤_, _<_}
 use mathlib.Core.Bool.{Bool}
 use mathlib.Core.List.{List, _++_}
 use mathlib.Core.Path.{_≡_, ap, _∙_}
@@ -9,11 +9,11 @@ use mir.Syntax.{w64}
 use mir.Val.{Fits}
 use lib.ListN.{replicate, length-replicate, length, take, drop, length-append, length-drop}
 use lib.Seq.{take-all}
-use Rattle.words.specs.Words.{Word}
+use Rattle.words.specs.Words.{Word, part}
 use Rattle.words.proofs.Lists.{part-length}
 use Rattle.congruence.specs.Rows.{round}
 use Rattle.layout.specs.Places.{startCell}
-use Rattle.layout.specs.Layout.{part, wordsIn, startOf, Laid}
+use Rattle.layout.specs.Layout.{wordsIn, startOf, Laid}
 use Rattle.layout.proofs.Whole.{whole-inside, whole-long, whole-words, whole-bytes, whole-checked}
 use Rattle.given.specs.Given.{Widened}
 use Rattle.writing.specs.Writing.{written, Bytes, Narrowing}

@@ -8,12 +8,12 @@ use borrow.Author.Needs.{needs}
 use lib.Dec.{eqb}
 use lib.ListN.{length, drop}
 use borrow.Author.Tests.{ne-eqb, le-leb}
-use Rattle.words.specs.Words.{Word, isEmpty, isPrefix}
+use Rattle.words.specs.Words.{Word, isEmpty, isPrefix, part}
 use Rattle.words.specs.Relations.{other}
 use Rattle.words.proofs.Relations.{other-there}
 use Rattle.congruence.specs.Rows.{cleanRelationPrefix, fitting, firstRow}
 use Rattle.congruence.proofs.FirstRow.{row-of-prefix, fits}
-use Rattle.layout.specs.Layout.{part, wordsIn}
+use Rattle.layout.specs.Layout.{wordsIn}
 use Rattle.layout.proofs.Placed.{words-length}
 use Rattle.sites.specs.declared.Site.{Site}
 use Rattle.sites.specs.Sites.{siteOf, SitesInText}

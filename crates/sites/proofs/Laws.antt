@@ -10,14 +10,14 @@ use mir.Val.{Fits}
 use lib.Dec.{leb, ltb}
 use lib.ListN.{length}
 use borrow.Author.Tests.{le-leb, lt-leb}
-use Rattle.words.specs.Words.{Word, isPrefix}
+use Rattle.words.specs.Words.{Word, isPrefix, part}
 use Rattle.words.proofs.Tests.{false-of}
 use Rattle.words.proofs.Lists.{part-length}
 use Rattle.words.proofs.Prefixes.{prefix-length, prefix-swap, prefix-take}
 use Rattle.words.proofs.Searching.{NoneBelow, none-more, any-of, any-none}
 use Rattle.overlap.proofs.Facts.{rigid-of-c4}
 use Rattle.congruence.specs.Rows.{hasRelationPrefixAt, hasRelationPrefixBetween, cleanRelationPrefix}
-use Rattle.layout.specs.Layout.{startOf, xEndOf, zStartOf, endOf, part, Span, wordsIn, Checked}
+use Rattle.layout.specs.Layout.{startOf, xEndOf, zStartOf, endOf, Span, wordsIn, Checked}
 use Rattle.layout.proofs.Parts.{part-take}
 use Rattle.layout.proofs.Placed.{words-length}
 use Rattle.index.specs.Index.{relationPrefixAt}

@@ -4,11 +4,11 @@ use mathlib.Core.List.{List}
 use mathlib.Core.Path.{_≡_}
 use native.Mathlib.Omega.{arith}
 use lib.ListN.{length}
-use Rattle.words.specs.Words.{Word}
+use Rattle.words.specs.Words.{Word, part}
 use Rattle.overlap.specs.Pieces.{word}
 use Rattle.overlap.specs.Cuts.{len, xlen, xylen, xOf, xyOf, zOf}
 use Rattle.overlap.proofs.Facts.{rigid-of-c4}
-use Rattle.layout.specs.Layout.{part, wordsIn, Checked}
+use Rattle.layout.specs.Layout.{wordsIn, Checked}
 use Rattle.layout.proofs.Placed.{words-length, word-part, end-inside, word-length}
 use Rattle.layout.proofs.CutPlaces.{cuts-inside, x-long, xy-long, x-part, xy-part, z-part}
 use Rattle.sites.specs.declared.Site.{Site}

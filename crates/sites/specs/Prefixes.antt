@@ -2,10 +2,9 @@
 use Prim.Native.Nat.{ℕ, _+_}
 use mathlib.Core.Bool.{Bool, _||_}
 use mathlib.Core.List.{List}
-use Rattle.words.specs.Words.{Word, isPrefix}
+use Rattle.words.specs.Words.{Word, isPrefix, part}
 use Rattle.overlap.specs.Cuts.{xlen, xylen}
 use Rattle.congruence.specs.Rows.{hasRelationPrefixBetween}
-use Rattle.layout.specs.Layout.{part}
 use Rattle.sites.specs.declared.Site.{Site}
 
 -- where X and Y of relation word i begin w, this says that they are no clean relation prefix

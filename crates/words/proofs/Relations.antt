@@ -1,5 +1,5 @@
 -- The relation words of relations come in twos, and each has its other one.
-use Prim.Native.Nat.{ℕ, _<_, _%_}
+use Prim.Native.Nat.{ℕ, _*_, _<_, _%_}
 use mathlib.Core.List.{List, [], _∷_}
 use mathlib.Core.Path.{_≡_, refl}
 use native.Mathlib.Omega.{arith}
@@ -15,6 +15,12 @@ pub even-sides : (rs : List Relation) → Even (relationWords rs)
 unfolding relationWords
 even-sides [] = refl
 even-sides (r ∷ rs) = let e = even-sides rs in omega arith
+
+-- relations have two relation words each
+pub length-words : (relations : List Relation) → length (relationWords relations) ≡ 2 * length relations
+unfolding relationWords
+length-words [] = refl
+length-words (r ∷ rs) = omega (arith, length-words rs)
 
 pub other-there : (n i : ℕ) → n % 2 ≡ 0 → i < n → other i < n
 other-there n i e h = omega arith

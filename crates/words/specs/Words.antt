@@ -3,7 +3,7 @@ use Prim.Native.Nat.{ℕ, suc, _-_, min}
 use mathlib.Core.Bool.{Bool, true, false, _&&_, cond}
 use mathlib.Core.List.{List, [], _∷_}
 use lib.Dec.{eqb}
-use lib.ListN.{length, drop}
+use lib.ListN.{length, take, drop}
 use Rattle.words.specs.Search.{greatest}
 
 abbrev pub Word : Type 0
@@ -25,6 +25,10 @@ unfoldable pub commonPrefix : Word → Word → ℕ
 commonPrefix [] u = 0
 commonPrefix (x ∷ a) [] = 0
 commonPrefix (x ∷ a) (y ∷ u) = cond (eqb x y) (suc (commonPrefix a u)) 0
+
+-- the letters from place a to place b
+abbrev pub part : Word → ℕ → ℕ → Word
+part w a b = take (b - a) (drop a w)
 
 -- the last n letters
 abbrev pub lastLetters : ℕ → Word → Word

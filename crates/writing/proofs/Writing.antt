@@ -1,4 +1,4 @@
--- Laws of `written`: its length, its elements, two writings behind each other, one element.
+-- Laws of `written` and `over`: their length, their elements, two writings behind each other, one element.
 use Prim.Native.Nat.{ℕ, _+_, _-_, _≤_, _<_}
 use mathlib.Core.List.{List, [], _∷_, _++_, append-assoc}
 use mathlib.Core.Path.{_≡_, refl, sym, ap, _∙_}
@@ -17,6 +17,21 @@ written-zero s d = let z : 0 + length s ≡ length s = omega arith in rw z
 -- what is written at the start can be read there
 pub written-taken : (s d b : List ℕ) → b ≡ written 0 s d → take (length s) b ≡ s
 written-taken s d b e = ap (take (length s)) (e ∙ written-zero s d) ∙ take-append-seam s (drop (length s) d)
+
+-- what is written over the start of a list, what stands behind it, and the length of both together
+pub over-prefix : (out buffer : List ℕ) (j : ℕ) → j < length out → getD (over out buffer) j 0 ≡ getD out j 0
+over-prefix out buffer j h = List·getD-append out (drop (length out) buffer) 0 j h
+
+pub over-behind : (out buffer : List ℕ) (j : ℕ) → length out ≤ j → getD (over out buffer) j 0 ≡ getD buffer j 0
+over-behind out buffer j h =
+    let e : j ≡ length out + (j - length out) = omega arith in
+    ap (λ (m : ℕ). getD (over out buffer) m 0) e ∙ getD-append-add out (drop (length out) buffer) (j - length out) 0 ∙ getD-drop (length out) buffer (j - length out) 0
+    ∙ ap (λ (m : ℕ). getD buffer m 0) (sym e)
+
+pub over-kept : (out buffer : List ℕ) → length out ≤ length buffer → length (over out buffer) ≡ length buffer
+over-kept out buffer h =
+    let d = length-drop (length out) buffer in
+    simp length-append (omega arith)
 
 module _ (at : ℕ) (s d : List ℕ) (h : at + length s ≤ length d) where
   head-long : length (take at d) ≡ at

@@ -1,4 +1,4 @@
-use Prim.Native.Nat.{_-_, _+_}
+use Prim.Native.Nat.{_-_}
 use lib.ListN.{length}
 use Rattle.reader.proofs.Books.{Going, goings}
 use Rattle.reader.proofs.read_book.Statement.{statement}
