@@ -1,6 +1,7 @@
 use Prim.Native.Nat.{_-_}
 use lib.ListN.{length}
-use Rattle.cases.proofs.Laws.{Reached, cases}
+use Rattle.fields.proofs.Laws.{Reached}
+use Rattle.cases.proofs.Laws.{cases}
 use Rattle.cases.proofs.answer_all.Statement.{statement}
 use Rattle.cases.proofs.answer_all.Tie as tie
 
