@@ -6,6 +6,7 @@ pub answer-spec : {M : Type 1} → statement M
 answer-spec =
     tie.close
     (tie.spec
+    (λ c κs. search prints)
     (λ c. search prints)
     (λ c κs. search prints)
     (λ c. search prints)

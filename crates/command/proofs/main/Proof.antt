@@ -6,6 +6,7 @@ pub main-spec : {M : Type 1} → statement M
 main-spec =
     tie.close
     (tie.spec
+    (λ c κs. search mains)
     (λ c. search mains)
     (λ c κs. search mains)
     (λ c. search mains)
