@@ -20,7 +20,7 @@ use layout::Text;
 use libc::STDIN_FILENO;
 
 fn main() {
-    let mut buffer = [0u8; 65536];
+    let mut buffer = io::large_buffer();
     answer_input(&mut buffer);
 }
 
@@ -71,7 +71,7 @@ fn answer_all(input: &[u8]) -> usize {
 // Answers a line. Whatever it asks for, its first field is a book.
 fn answer_line(line: &[u8]) {
     let end = fields::find(line, 0, b' ');
-    let mut book = [0u8; 8192];
+    let mut book = fields::field_room();
     let n = fields::put_field(line, 1, &mut book);
     answer_call(&line[..end], line, &book[..n]);
 }
@@ -119,7 +119,7 @@ fn answer_check(book: &[u8]) {
 
 // The cut sheet of a book.
 fn answer_sheet(line: &[u8], book: &[u8]) {
-    let mut sheet = [0xaau8; 8192];
+    let mut sheet = fields::lent_room();
     let n = fields::lent_field(line, 2, &sheet);
     let verdict = lend_sheet(book, &mut sheet, n);
     print_verdict(verdict, &sheet, n);
@@ -145,9 +145,9 @@ fn lend_sheet(book: &[u8], sheet: &mut [u8], n: usize) -> Verdict
 
 // A comparison.
 fn answer_compare(line: &[u8], book: &[u8]) {
-    let mut u = [0u8; 8192];
+    let mut u = fields::field_room();
     let i = fields::put_field(line, 2, &mut u);
-    let mut v = [0u8; 8192];
+    let mut v = fields::field_room();
     let j = fields::put_field(line, 3, &mut v);
     let allowance = fields::number_field(line, 4);
     compare_words(book, &u[..i], &v[..j], allowance);
@@ -165,9 +165,9 @@ fn compare_words(book: &[u8], u: &[u8], v: &[u8], allowance: u32) {
 
 // A single round.
 fn answer_round(line: &[u8], book: &[u8]) {
-    let mut u = [0u8; 8192];
+    let mut u = fields::field_room();
     let i = fields::put_field(line, 2, &mut u);
-    let mut v = [0u8; 8192];
+    let mut v = fields::field_room();
     let j = fields::put_field(line, 3, &mut v);
     let mut p = [0u8; 256];
     let k = fields::put_field(line, 4, &mut p);
@@ -176,9 +176,9 @@ fn answer_round(line: &[u8], book: &[u8]) {
 
 // A round of what is given, with buffers of the lengths that a line asks for.
 fn make_round(line: &[u8], book: &[u8], u: &[u8], v: &[u8], p: &[u8]) {
-    let mut nu = [0xaau8; 8192];
+    let mut nu = fields::lent_room();
     let i = fields::lent_field(line, 5, &nu);
-    let mut nv = [0xaau8; 8192];
+    let mut nv = fields::lent_room();
     let j = fields::lent_field(line, 6, &nv);
     let mut np = [0xaau8; 256];
     let k = fields::lent_field(line, 7, &np);

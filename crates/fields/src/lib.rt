@@ -1,5 +1,6 @@
 // The text of a line: where its fields begin and end, the bytes and the numbers that they write, and bytes written in hexadecimal again. A field ends at a
 // space or at the line's end.
+ghost use mathlib.Core.Path.{_≡_};
 ghost use Prim.Native.Nat.{_≤_, _<_};
 ghost use lib.ListN.{length};
 ghost use Rattle.fields.specs.Places.{Behind, Filled};
@@ -153,7 +154,21 @@ fn glyph(value: u8) -> u8 {
     }
 }
 
-// The bytes of a buffer from a position on are what it was filled with.
+// A buffer for the bytes of a field. The promise is the length alone, so that no proof counts the bytes.
+pub fn field_room() -> [u8; 8192]
+    ensures { λ r. ⌜ 8192 ≡ length r ⌝ }
+{
+    [0; 8192]
+}
+
+// A buffer to be lent, filled with aa.
+pub fn lent_room() -> [u8; 8192]
+    ensures { λ r. ⌜ 8192 ≡ length r ⌝ }
+{
+    [0xaa; 8192]
+}
+
+// The bytes of a buffer from a position on are aa.
 pub fn is_kept(buffer: &[u8], from: usize) -> bool {
     let mut i = from;
     while i < buffer.len() {
