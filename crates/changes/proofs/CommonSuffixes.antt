@@ -11,9 +11,8 @@ use lib.ListN.{length, getD, drop}
 use Rattle.words.specs.Words.{isPrefix, lastLetters, commonSuffix, part}
 use Rattle.words.proofs.Searching.{greatest-is}
 use Rattle.words.proofs.Tests.{false-of}
-use Rattle.words.proofs.Lists.{part-length, part-at}
+use Rattle.words.proofs.Parts.{part-length, part-at, part-drop}
 use Rattle.words.proofs.Prefixes.{prefix-at, at-prefix}
-use Rattle.layout.proofs.Parts.{part-drop}
 use Rattle.sites.specs.declared.Site.{Site}
 use Rattle.sites.specs.Sites.{SitesInText}
 use Rattle.changes.specs.Asked.{BackRoom, AgreeBack}

@@ -10,7 +10,7 @@ use borrow.Author.Tests.{eqb-true, not-false, ltb-false, leb-false, le-leb}
 use Rattle.words.specs.Words.{part}
 use Rattle.words.specs.Relations.{Relation}
 use Rattle.words.proofs.Tests.{or-neither}
-use Rattle.words.proofs.Lists.{part-length, part-at}
+use Rattle.words.proofs.Parts.{part-length, part-at}
 use Rattle.limits.specs.declared.Record.{Record}
 use Rattle.limits.specs.declared.Record.the-variants.{Whole, CutOff}
 use Rattle.limits.specs.Limits.{lettersMost, relationsMost, sideMost, outside}

@@ -12,7 +12,7 @@ use lib.ListN.{length, getD, drop, length-take, length-drop, length-append}
 use lib.Seq.{getD-drop}
 use Rattle.words.specs.Words.{Word, isPrefix, commonPrefix, part}
 use Rattle.words.proofs.Tests.{false-of}
-use Rattle.words.proofs.Lists.{part-length, part-at}
+use Rattle.words.proofs.Parts.{part-length, part-at}
 use Rattle.words.proofs.Searching.{least-is, least-none}
 use Rattle.words.proofs.Prefixes.{prefix-length, prefix-at}
 use Rattle.words.proofs.Commons.{common-within, common-at, common-prefix, common-no-prefix, common-take, common-later, common-sooner, common-via}

@@ -14,7 +14,7 @@ use lib.Seq.{getD-set-other, getD-set-same, getD-drop}
 use mir.Syntax.{w64}
 use mir.Val.{Fits}
 use Rattle.words.specs.Words.{commonPrefix, part}
-use Rattle.words.proofs.Lists.{part-length, part-at}
+use Rattle.words.proofs.Parts.{part-length, part-at}
 use Rattle.words.proofs.Commons.{common-within, common-at, common-differ, common-is}
 use Rattle.layout.specs.Places.{wordsMost, startCell, endCell, firstCell, orderCell, tableRoom}
 use Rattle.layout.specs.Layout.{startOf, endOf, wordAt, orderOf, Laid, WordPair}

@@ -14,10 +14,10 @@ use lib.Seq.{getD-drop, getD-append-add, drop-append-le}
 use mir.Syntax.{w64}
 use mir.Val.{Fits}
 use Rattle.words.specs.Words.{Word, isPrefix, commonPrefix, part}
-use Rattle.words.proofs.Lists.{drop-past, part-length, part-at}
+use Rattle.words.proofs.Lists.{drop-past}
+use Rattle.words.proofs.Parts.{part-length, part-at, part-drop}
 use Rattle.words.proofs.Commons.{common-within, common-at, common-most, common-is, common-prefix, common-no-prefix, common-before, common-through, common-reaches, common-shorter, common-empty}
 use Rattle.layout.specs.Layout.{Span}
-use Rattle.layout.proofs.Parts.{part-drop}
 use Rattle.joined.specs.Joined.{hasPlace, Agreed}
 
 -- the letter of a ++ b at a place of a, and at a place of b

@@ -10,7 +10,7 @@ use Rattle.overlap.specs.Cuts.{xlen, xylen, xOf, xyOf, zOf}
 use Rattle.overlap.proofs.Rigid.{Rigid}
 use Rattle.overlap.proofs.Facts.{x-bound, z-bound, rigid-of-c4}
 use Rattle.layout.specs.Layout.{startOf, xEndOf, zStartOf, endOf, Span, wordsIn, Laid, Cut, Checked}
-use Rattle.layout.proofs.Parts.{part-take, part-drop}
+use Rattle.words.proofs.Parts.{part-take, part-drop}
 use Rattle.layout.proofs.Placed.{word-part, end-inside, word-length}
 
 module _ (text table : List ℕ) (n : ℕ) (l : Laid text table n) (c : Cut text table n) (i : ℕ) (h : i < n) where

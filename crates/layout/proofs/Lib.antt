@@ -1,4 +1,3 @@
-pub mod Parts
 pub mod Placed
 pub mod CutPlaces
 pub mod Whole

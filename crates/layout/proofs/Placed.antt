@@ -8,12 +8,11 @@ use native.Mathlib.Numerals.{add-one}
 use native.Mathlib.Decide.{decLt, ℕ-discrete}
 use lib.ListN.{length, getD, length-append, List·getD-append}
 use lib.Seq.{getD-at}
-use Rattle.words.proofs.Lists.{part-length, part-at}
+use Rattle.words.proofs.Parts.{part-length, part-at, same-part}
 use Rattle.overlap.specs.Pieces.{word}
 use Rattle.overlap.specs.Cuts.{len}
 use Rattle.layout.specs.Places.{wordMost, fenceOf, endCell}
 use Rattle.layout.specs.Layout.{startOf, endOf, Span, wordAt, wordsIn, Laid}
-use Rattle.layout.proofs.Parts.{same-part}
 
 pub words-length : (text table : List ℕ) (n : ℕ) → length (wordsIn text table n) ≡ n
 unfolding wordsIn

@@ -10,7 +10,7 @@ use lib.Seq.{getD-take, length-take-le}
 use Rattle.writing.specs.Writing.{Bytes}
 use Rattle.overlap.specs.Pieces.{C4}
 use Rattle.layout.specs.Layout.{Laid, Checked, wordAt, wordsIn, startOf, endOf, orderOf}
-use Rattle.layout.proofs.Parts.{part-of-take}
+use Rattle.words.proofs.Parts.{part-of-take}
 use Rattle.layout.proofs.Placed.{end-before, owner}
 
 pub words-take : (text table : List ℕ) (t m : ℕ) → ((i : ℕ) → i < m → endOf table i ≤ t) → wordsIn (take t text) table m ≡ wordsIn text table m

@@ -14,7 +14,7 @@ use lib.Seq.{getD-set-other, getD-set-same}
 use mir.Syntax.{w64}
 use mir.Val.{Fits}
 use Rattle.words.specs.Words.{commonPrefix}
-use Rattle.words.proofs.Lists.{part-length}
+use Rattle.words.proofs.Parts.{part-length}
 use Rattle.words.proofs.Commons.{common-within}
 use Rattle.layout.specs.Places.{lettersBound, startCell, firstCell, orderCell, sharedCell}
 use Rattle.layout.specs.Layout.{startOf, endOf, wordAt, firstOf, orderOf, sharedOf, KnownWord, WordPair}

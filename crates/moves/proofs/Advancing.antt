@@ -9,10 +9,10 @@ use lib.Dec.{ltb}
 use lib.ListN.{length, drop, length-append, length-drop}
 use lib.Seq.{drop-append-le, drop-drop}
 use Rattle.words.specs.Words.{Word, part}
-use Rattle.words.proofs.Lists.{drop-past, part-length}
+use Rattle.words.proofs.Lists.{drop-past}
+use Rattle.words.proofs.Parts.{part-length, part-none, part-drop}
 use Rattle.congruence.proofs.Heads.{Facts}
 use Rattle.congruence.proofs.ShapeNoPrefix.{no-prefix-nil, no-prefix-drop, no-prefix-z, prefix-past-tail}
-use Rattle.layout.proofs.Parts.{part-none, part-drop}
 use Rattle.changes.specs.declared.Change.{Change}
 use Rattle.plans.specs.Plans.{applied, Fit, MarkFit}
 use Rattle.moves.specs.declared.PlacedWord.{PlacedWord}

@@ -12,7 +12,7 @@ use lib.Dec.{eqb, leb}
 use lib.ListN.{length, getD, drop, length-append, length-drop, List·getD-append}
 use lib.Seq.{getD-drop, getD-append-add}
 use Rattle.words.specs.Words.{Word, isEmpty, part}
-use Rattle.words.proofs.Lists.{part-length, part-at}
+use Rattle.words.proofs.Parts.{part-length, part-at}
 use Rattle.layout.specs.Places.{tableRoom}
 use Rattle.layout.specs.Layout.{wordsIn}
 use Rattle.sites.specs.FirstLetters.{emptyList}

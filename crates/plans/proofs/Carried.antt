@@ -9,7 +9,7 @@ use lib.Seq.{length-take-le, drop-length, drop-drop, drop-append-le}
 use Rattle.words.specs.Words.{Word, isEmpty, isPrefix, commonSuffix, part}
 use Rattle.words.proofs.Prefixes.{prefix-length, prefix-split}
 use Rattle.words.proofs.Tests.{cond-both}
-use Rattle.words.proofs.Lists.{part-length}
+use Rattle.words.proofs.Parts.{part-length, part-take, part-drop}
 use Rattle.overlap.specs.Pieces.{word}
 use Rattle.overlap.specs.Cuts.{len, xylen, xOf, xyOf, zOf}
 use Rattle.congruence.specs.Rows.{choose, alike, hasRelationPrefixBetween, active, row2, row4, row5, row6, row7, row8}
@@ -19,7 +19,6 @@ use Rattle.words.proofs.CommonSuffixes.{suffix-within}
 use Rattle.congruence.proofs.RowTests.{prefix-of-clean}
 use Rattle.congruence.proofs.FirstRow.{Fits, xy-of-whole}
 use Rattle.congruence.proofs.FirstRow.Fits.{fits2, fits4, fits5, fits6, fits7, fits8}
-use Rattle.layout.proofs.Parts.{part-take, part-drop}
 use Rattle.changes.specs.declared.Plan.the-variants.{End}
 use Rattle.sites.specs.declared.Site.{Site}
 use Rattle.plans.specs.Plans.{applied, planned, Fit, MarkFit, Carries}

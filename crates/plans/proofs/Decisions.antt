@@ -8,7 +8,7 @@ use mathlib.Core.Bool.{false}
 use lib.ListN.{length}
 use Rattle.words.specs.Words.{Word, part}
 use Rattle.words.specs.Relations.{other}
-use Rattle.words.proofs.Lists.{part-length}
+use Rattle.words.proofs.Parts.{part-length}
 use Rattle.congruence.specs.Rows.{cleanRelationPrefix, otherWord, makes, row1, round}
 use Rattle.words.proofs.CommonSuffixes.{suffix-within}
 use Rattle.congruence.proofs.FirstRow.{Fits, fits, prefix-of-fits, row-eight}

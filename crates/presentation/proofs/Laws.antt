@@ -16,7 +16,7 @@ use Rattle.format.specs.declared.Reading.{Reading}
 use Rattle.format.specs.declared.Reading.the-variants.{Read, Refused}
 use Rattle.format.specs.Book.{Presentation, BookReading, read, refused, readBook, readingOf}
 use Rattle.laying.specs.Appending.{Arrays}
-use Rattle.reader.specs.Laying.{Stored, BookRead}
+use Rattle.reader.specs.Reading.{Stored, BookRead}
 use Rattle.pieces.specs.declared.Judged.{Judged}
 use Rattle.pieces.specs.declared.Judged.the-variants as Judges
 use Rattle.pieces.specs.Judging.{verdictOf, Judging}

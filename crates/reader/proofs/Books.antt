@@ -21,7 +21,7 @@ use Rattle.format.proofs.Readings.{RelationRead, relation-read, relation-within
 use Rattle.laying.specs.Appending.{Arrays}
 use Rattle.laying.specs.Relations.{RelationRoom, RelationAppended}
 use Rattle.laying.proofs.Appending.{nothing-laid}
-use Rattle.reader.specs.Laying.{ofHead, ofRelation, Stored, BookRead}
+use Rattle.reader.specs.Reading.{ofHead, ofRelation, Stored, BookRead}
 
 -- the answer for a book that ends here, by what was read last
 module _ (head : HeadReading) where

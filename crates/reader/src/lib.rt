@@ -2,7 +2,7 @@
 // It is a part for the entries above it: a book that it reads may still have a relation word twice, or fail C(4).
 ghost use mathlib.Core.Path.{_≡_};
 ghost use Rattle.laying.specs.Appending.{Arrays};
-ghost use Rattle.reader.specs.Laying.{ofHead, ofRelation, BookRead};
+ghost use Rattle.reader.specs.Reading.{ofHead, ofRelation, BookRead};
 use format::HeadReading;
 use format::Reading;
 use format::RelationReading;

@@ -9,7 +9,7 @@ use borrow.Author.Tests.{eq-eqb, ne-eqb, le-leb, lt-leb}
 use lib.Dec.{ltb}
 use lib.ListN.{length}
 use Rattle.words.specs.Words.{part}
-use Rattle.words.proofs.Lists.{part-length}
+use Rattle.words.proofs.Parts.{part-length}
 use Rattle.limits.specs.declared.Record.{Record}
 use Rattle.limits.specs.declared.Record.the-variants.{Whole, CutOff}
 use Rattle.limits.specs.declared.Head.{Head}

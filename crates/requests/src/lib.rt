@@ -1,4 +1,4 @@
-// The requests of the program's input (document 01, "The program"): where the book ends, and what a record of the kind 3 part asks for.
+// The requests of the program's input (document 01, "The program"): where the book ends, and what a record of kind 3 asks for.
 ghost use mathlib.Core.Path.{_≡_};
 ghost use Prim.Native.Nat.{_+_, _<_};
 ghost use lib.ListN.{length};

@@ -10,7 +10,7 @@ use mir.Val.{Fits}
 use lib.ListN.{replicate, length-replicate, length, take, drop, length-append, length-drop}
 use lib.Seq.{take-all}
 use Rattle.words.specs.Words.{Word, part}
-use Rattle.words.proofs.Lists.{part-length}
+use Rattle.words.proofs.Parts.{part-length}
 use Rattle.congruence.specs.Rows.{round}
 use Rattle.layout.specs.Places.{startCell}
 use Rattle.layout.specs.Layout.{wordsIn, startOf, Laid}

@@ -8,7 +8,7 @@ use borrow.Author.Needs.{needs}
 use borrow.Author.Tests.{eqb-true, le-leb, lt-leb}
 use lib.Dec.{eqb}
 use lib.ListN.{length, getD}
-use Rattle.words.proofs.Lists.{part-at}
+use Rattle.words.proofs.Parts.{part-at}
 use Rattle.overlap.specs.Pieces.{word}
 use Rattle.congruence.proofs.Drops.{BeginsNone}
 use Rattle.numbers.specs.Widths.{Widened}

@@ -12,13 +12,12 @@ use lib.ListN.{length}
 use borrow.Author.Tests.{le-leb, lt-leb}
 use Rattle.words.specs.Words.{Word, isPrefix, part}
 use Rattle.words.proofs.Tests.{false-of}
-use Rattle.words.proofs.Lists.{part-length}
+use Rattle.words.proofs.Parts.{part-length, part-take}
 use Rattle.words.proofs.Prefixes.{prefix-length, prefix-swap, prefix-take}
 use Rattle.words.proofs.Searching.{NoneBelow, none-more, any-of, any-none}
 use Rattle.overlap.proofs.Facts.{rigid-of-c4}
 use Rattle.congruence.specs.Rows.{hasRelationPrefixAt, hasRelationPrefixBetween, cleanRelationPrefix}
 use Rattle.layout.specs.Layout.{startOf, xEndOf, zStartOf, endOf, Span, wordsIn, Checked}
-use Rattle.layout.proofs.Parts.{part-take}
 use Rattle.layout.proofs.Placed.{words-length}
 use Rattle.index.specs.Index.{relationPrefixAt}
 use Rattle.index.proofs.PrefixAt.{stands-prefix}

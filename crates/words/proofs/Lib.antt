@@ -1,6 +1,7 @@
 pub mod Tests
 pub mod Picks
 pub mod Lists
+pub mod Parts
 pub mod Relations
 pub mod Searching
 pub mod Segments

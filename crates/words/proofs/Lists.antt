@@ -5,8 +5,8 @@ use mathlib.Core.List.{List, [], _∷_, _++_}
 use mathlib.Core.Path.{_≡_, refl, sym, ap, _∙_}
 use native.Mathlib.Omega.{arith}
 use native.Mathlib.Nat.{sub-zero, zero-sub, suc-sub-suc}
-use lib.ListN.{length, getD, take, drop, length-drop}
-use lib.Seq.{take-nil, drop-append-add, length-take-le, getD-take, getD-drop}
+use lib.ListN.{length, take, drop}
+use lib.Seq.{take-nil, drop-append-add}
 use Rattle.words.specs.Words.{Word, isEmpty}
 
 -- what is left of the first n elements behind k
@@ -15,13 +15,6 @@ drop-take zero n l = rw (sub-zero n)
 drop-take (suc k) zero l = rw (zero-sub (suc k))
 drop-take (suc k) (suc n) [] = sym (take-nil (suc n - suc k))
 drop-take (suc k) (suc n) (x ∷ l) = rw (suc-sub-suc n k) (drop-take k n l)
-
--- the part of a list from a to b: its length, and its elements by their positions in the whole
-pub part-length : (l : List ℕ) (a b : ℕ) → b ≤ length l → length (take (b - a) (drop a l)) ≡ b - a
-part-length l a b h = let d = length-drop a l in length-take-le (b - a) (drop a l) (omega (arith, h, d))
-
-pub part-at : (l : List ℕ) (a b k : ℕ) → k < b - a → getD (take (b - a) (drop a l)) k 0 ≡ getD l (a + k) 0
-part-at l a b k h = getD-take (b - a) (drop a l) k 0 h ∙ getD-drop a l k 0
 
 -- what is left of two words behind the first
 pub drop-past : (a b : Word) (n : ℕ) → length a ≤ n → drop n (a ++ b) ≡ drop (n - length a) b
