@@ -23,11 +23,13 @@ pub fn print_pair(word: &[u8], m: usize, n: usize) {
     print_count(b" ", n as u64);
 }
 
+// Prints a refusal: its number and its place.
 pub fn print_refusal(refusal: Refusal) {
     let numbered = refusals::number_and_place(refusal);
     print_pair(b"refused ", numbers::wide(numbered.number), numbered.place);
 }
 
+// Prints the end of a round.
 pub fn print_end(same: bool) {
     if same {
         io::write_all(STDOUT_FILENO, b"end same\n");
@@ -36,6 +38,7 @@ pub fn print_end(same: bool) {
     }
 }
 
+// Prints the next words of a round, the first bytes of its three buffers.
 pub fn print_next(nu: &[u8], i: usize, nv: &[u8], j: usize, np: &[u8], k: usize) {
     io::write_all(STDOUT_FILENO, b"next ");
     print_bytes(nu, i);
@@ -54,6 +57,7 @@ pub fn print_sheet(sheet: &[u8], n: usize) {
     io::write_all(STDOUT_FILENO, b"\n");
 }
 
+// Tells of each of a round's three buffers whether a byte behind its first ones was changed.
 pub fn print_touches(nu: &[u8], i: usize, nv: &[u8], j: usize, np: &[u8], k: usize) {
     print_touched(nu, i);
     print_touched(nv, j);

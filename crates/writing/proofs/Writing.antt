@@ -18,7 +18,7 @@ written-zero s d = let z : 0 + length s ≡ length s = omega arith in rw z
 pub written-taken : (s d b : List ℕ) → b ≡ written 0 s d → take (length s) b ≡ s
 written-taken s d b e = ap (take (length s)) (e ∙ written-zero s d) ∙ take-append-seam s (drop (length s) d)
 
--- what is written over the start of a list, what stands behind it, and the length of both together
+-- what is written over the start of a list, and what stands behind it
 pub over-prefix : (out buffer : List ℕ) (j : ℕ) → j < length out → getD (over out buffer) j 0 ≡ getD out j 0
 over-prefix out buffer j h = List·getD-append out (drop (length out) buffer) 0 j h
 
@@ -27,11 +27,6 @@ over-behind out buffer j h =
     let e : j ≡ length out + (j - length out) = omega arith in
     ap (λ (m : ℕ). getD (over out buffer) m 0) e ∙ getD-append-add out (drop (length out) buffer) (j - length out) 0 ∙ getD-drop (length out) buffer (j - length out) 0
     ∙ ap (λ (m : ℕ). getD buffer m 0) (sym e)
-
-pub over-kept : (out buffer : List ℕ) → length out ≤ length buffer → length (over out buffer) ≡ length buffer
-over-kept out buffer h =
-    let d = length-drop (length out) buffer in
-    simp length-append (omega arith)
 
 module _ (at : ℕ) (s d : List ℕ) (h : at + length s ≤ length d) where
   head-long : length (take at d) ≡ at
@@ -63,6 +58,9 @@ module _ (at : ℕ) (s d : List ℕ) (h : at + length s ≤ length d) where
   pub written-there : take (length s) (drop at (written at s d)) ≡ s
   unfolding written
   written-there = rw (drop-at (take at d) (s ++ drop (at + length s) d) at head-long) (take-at s (drop (at + length s) d) (length s) refl)
+
+pub over-kept : (out buffer : List ℕ) → length out ≤ length buffer → length (over out buffer) ≡ length buffer
+over-kept out buffer h = ap length (sym (written-zero out buffer)) ∙ written-length 0 out buffer (omega arith)
 
 -- a writing and another behind it are one
 pub written-behind : (at : ℕ) (s t d : List ℕ) (n : ℕ) → n ≡ at + length s → at + length s ≤ length d → written n t (written at s d) ≡ written at (s ++ t) d
