@@ -1,0 +1,14 @@
+-- The worked cases hold of the definitions, by computing them.
+use mathlib.Core.Path.{refl}
+use Rattle.words.specs.Search.{anyBelow, least, greatest}
+use Rattle.words.specs.Words.{isPrefix, commonSuffix}
+use Rattle.overlap.specs.Cuts.{twin, pieceAt, xlen, zlen, zmost}
+use Rattle.congruence.specs.Rows.{hasRelationPrefixAt, hasRelationPrefixBetween, clean, cleanRelationPrefix, active}
+use Rattle.least.specs.Order.{before, houseRank}
+use Rattle.least.specs.Possible.{marked, markedByAny, possibleWithin, possible}
+use Rattle.least.specs.Writing.{cleanBefore, firstMember, chosenMember, carrier, letterPart, wholePart, otherPart, memberPart, writePart, leastWithin, leastBehind}
+use Rattle.least.specs.Examples.{WorkedHold}
+
+pub worked-hold : WorkedHold
+unfolding twin pieceAt xlen zlen zmost greatest least anyBelow isPrefix commonSuffix hasRelationPrefixAt hasRelationPrefixBetween clean cleanRelationPrefix active before houseRank marked markedByAny possibleWithin possible cleanBefore firstMember chosenMember carrier letterPart wholePart otherPart memberPart writePart leastWithin leastBehind
+worked-hold = (refl, (refl, (refl, (refl, (refl, (refl, (refl, (refl, (refl, (refl, (refl, (refl, (refl, (refl, (refl, tt)))))))))))))))

@@ -1,0 +1,67 @@
+-- Least words that were worked out by hand, as one table; that the definitions give all of them is one theorem (proofs/Examples.antt).
+-- The letters a, b, c, d, e are 0, 1, 2, 3, 4.
+use Prim.Native.Nat.{ℕ}
+use mathlib.Core.List.{List, [], _∷_}
+use mathlib.Core.Path.{_≡_}
+use Rattle.words.specs.Words.{Word}
+use Rattle.congruence.specs.Starred.{bookQ}
+use Rattle.least.specs.Order.{houseRank}
+use Rattle.least.specs.Possible.{relationOf}
+use Rattle.least.specs.Writing.{Found, found, absent, leastBehind}
+
+-- a book's relation words, a mark, a word and what the rounds give
+pub data Case : Type 0 where
+  least : List Word → Word → Word → Found → Case
+
+abbrev pub Holds : Case → Type 0
+Holds (least B p u r) = leastBehind B relationOf houseRank p u ≡ r
+
+abbrev pub All : List Case → Type 0
+All [] = Unit {0}
+All (c ∷ cs) = Holds c × All cs
+
+-- a = b
+abbrev pub bookAB : List Word
+bookAB = (0 ∷ []) ∷ (1 ∷ []) ∷ []
+
+-- ba = bcb
+abbrev pub bookBA : List Word
+bookBA = (1 ∷ 0 ∷ []) ∷ (1 ∷ 2 ∷ 1 ∷ []) ∷ []
+
+-- ad = de
+abbrev pub bookAD : List Word
+bookAD = (0 ∷ 3 ∷ []) ∷ (3 ∷ 4 ∷ []) ∷ []
+
+-- a letter of rank 0 for the letter 0: letter 32 comes before letter 0
+abbrev pub bookRanks : List Word
+bookRanks = (0 ∷ []) ∷ (32 ∷ 33 ∷ []) ∷ []
+
+abbrev pub worked : List Case
+worked =
+    -- no relations: the word itself; a mark that it begins with, and one that it does not
+    least [] [] (1 ∷ 0 ∷ []) (found (1 ∷ 0 ∷ []))
+    ∷ least [] [] [] (found [])
+    -- a = b: every b becomes a
+    ∷ least bookAB [] (1 ∷ 0 ∷ 1 ∷ []) (found (0 ∷ 0 ∷ 0 ∷ []))
+    -- Q: abdc for either side
+    ∷ least bookQ [] (2 ∷ 0 ∷ 3 ∷ 1 ∷ []) (found (0 ∷ 1 ∷ 3 ∷ 2 ∷ []))
+    ∷ least bookQ [] (0 ∷ 1 ∷ 3 ∷ 2 ∷ []) (found (0 ∷ 1 ∷ 3 ∷ 2 ∷ []))
+    -- cadbadb, abdcadb and abdabdc are one class
+    ∷ least bookQ [] (2 ∷ 0 ∷ 3 ∷ 1 ∷ 0 ∷ 3 ∷ 1 ∷ []) (found (0 ∷ 1 ∷ 3 ∷ 0 ∷ 1 ∷ 3 ∷ 2 ∷ []))
+    -- with c taken off: adb, and adbadb; with b: none
+    ∷ least bookQ (2 ∷ []) (0 ∷ 1 ∷ 3 ∷ 2 ∷ []) (found (0 ∷ 3 ∷ 1 ∷ []))
+    ∷ least bookQ (2 ∷ []) (0 ∷ 1 ∷ 3 ∷ 0 ∷ 1 ∷ 3 ∷ 2 ∷ []) (found (0 ∷ 3 ∷ 1 ∷ 0 ∷ 3 ∷ 1 ∷ []))
+    ∷ least bookQ (1 ∷ []) (0 ∷ 1 ∷ 3 ∷ 2 ∷ []) absent
+    -- ba = bcb: bacb is congruent to bcbcb, bcba and baa
+    ∷ least bookBA [] (1 ∷ 0 ∷ 2 ∷ 1 ∷ []) (found (1 ∷ 0 ∷ 0 ∷ []))
+    -- ad = de: deed stays, aad is congruent to ade and dee
+    ∷ least bookAD [] (3 ∷ 4 ∷ 4 ∷ []) (found (0 ∷ 0 ∷ 3 ∷ []))
+    ∷ least bookAD [] (0 ∷ 0 ∷ 0 ∷ []) (found (0 ∷ 0 ∷ 0 ∷ []))
+    ∷ least bookAD (3 ∷ []) (0 ∷ 0 ∷ 3 ∷ []) (found (4 ∷ 4 ∷ []))
+    ∷ least bookAD (3 ∷ []) (0 ∷ 0 ∷ []) absent
+    -- the house table: 32 comes before 0
+    ∷ least bookRanks [] (0 ∷ 0 ∷ []) (found (32 ∷ 33 ∷ 32 ∷ 33 ∷ []))
+    ∷ []
+
+abbrev pub WorkedHold : Type 0
+WorkedHold = All worked
