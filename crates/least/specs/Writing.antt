@@ -24,6 +24,12 @@ pub data Part : Type 0 where
 unfoldable pub cleanBefore : List Word → Word → ℕ → Bool
 cleanBefore B w n = anyBelow n (λ q. ltb (cleanRelationPrefix B (drop q w)) (length B))
 
+-- u has no clean relation prefix: its first letter stays
+unfoldable pub letterPart : Word → Word → Part
+letterPart p u =
+    choose (isEmpty p) (λ _. part (take 1 u) [] (drop 1 u)) (λ _.
+    choose (alike p u) (λ _. part [] (drop 1 p) (drop 1 u)) (λ _. none))
+
 module _ (B : List Word) (family rank : ℕ → ℕ) where
   -- of the members of i's family with p a prefix of their X, the one whose XY comes first; or the number of relation words
   unfoldable pub firstMember : ℕ → Word → ℕ
@@ -42,12 +48,6 @@ module _ (B : List Word) (family rank : ℕ → ℕ) where
   carrier i w =
       let c = least (length B) (λ j. eqb (family i) (family j) && active B (zOf B j) w) in
       choose (ltb c (length B)) (λ _. c) (λ _. i)
-
-  -- u has no clean relation prefix: its first letter stays
-  unfoldable pub letterPart : Word → Word → Part
-  letterPart p u =
-      choose (isEmpty p) (λ _. part (take 1 u) [] (drop 1 u)) (λ _.
-      choose (alike p u) (λ _. part [] (drop 1 p) (drop 1 u)) (λ _. none))
 
   -- u = XYZ w, XYZ relation word i, and the least word begins with XY of j
   unfoldable pub wholePart : ℕ → ℕ → Word → Word → Part
