@@ -30,53 +30,52 @@ letterPart p u =
     choose (isEmpty p) (λ _. part (take 1 u) [] (drop 1 u)) (λ _.
     choose (alike p u) (λ _. part [] (drop 1 p) (drop 1 u)) (λ _. none))
 
-module _ (B : List Word) (family rank : ℕ → ℕ) where
-  -- of the members of i's family with p a prefix of their X, the one whose XY comes first; or the number of relation words
-  unfoldable pub firstMember : ℕ → Word → ℕ
-  firstMember i p =
-      least (length B) (λ j. marked B family i p j && not (anyBelow (length B) (λ l. marked B family i p l && before rank (xyOf B l) (xyOf B j))))
+-- of the members of i's family with p a prefix of their X, the one whose XY comes first; or the number of relation words
+unfoldable pub firstMember : List Word → (ℕ → ℕ) → (ℕ → ℕ) → ℕ → Word → ℕ
+firstMember B family rank i p =
+    least (length B) (λ j. marked B family i p j && not (anyBelow (length B) (λ l. marked B family i p l && before rank (xyOf B l) (xyOf B j))))
 
-  -- the member whose XY the least word begins with, where XY of i is clean and s follows it; or the number of relation words. Another member than i can be
-  -- reached only where Z of i is possible behind XY
-  unfoldable pub chosenMember : ℕ → Word → Word → ℕ
-  chosenMember i p s =
-      choose (eqb (firstMember i p) i || possible B family (zOf B i) s) (λ _. firstMember i p) (λ _.
-      choose (isPrefix p (xOf B i)) (λ _. i) (λ _. length B))
+-- the member whose XY the least word begins with, where XY of i is clean and s follows it; or the number of relation words. Another member than i can be
+-- reached only where Z of i is possible behind XY
+unfoldable pub chosenMember : List Word → (ℕ → ℕ) → (ℕ → ℕ) → ℕ → Word → Word → ℕ
+chosenMember B family rank i p s =
+    choose (eqb (firstMember B family rank i p) i || possible B family (zOf B i) s) (λ _. firstMember B family rank i p) (λ _.
+    choose (isPrefix p (xOf B i)) (λ _. i) (λ _. length B))
 
-  -- the first member of i's family for whose Z the word w is active, or i
-  unfoldable pub carrier : ℕ → Word → ℕ
-  carrier i w =
-      let c = least (length B) (λ j. eqb (family i) (family j) && active B (zOf B j) w) in
-      choose (ltb c (length B)) (λ _. c) (λ _. i)
+-- the first member of i's family for whose Z the word w is active, or i
+unfoldable pub carrier : List Word → (ℕ → ℕ) → ℕ → Word → ℕ
+carrier B family i w =
+    let c = least (length B) (λ j. eqb (family i) (family j) && active B (zOf B j) w) in
+    choose (ltb c (length B)) (λ _. c) (λ _. i)
 
-  -- u = XYZ w, XYZ relation word i, and the least word begins with XY of j
-  unfoldable pub wholePart : ℕ → ℕ → Word → Word → Part
-  wholePart i j p w =
-      choose (active B (zOf B j) w) (λ _. part (drop (length p) (xyOf B j)) [] (zOf B j ++ w)) (λ _.
-      part (drop (length p) (word B j)) (zOf B (carrier i w)) (zOf B (carrier i w) ++ w))
+-- u = XYZ w, XYZ relation word i, and the least word begins with XY of j
+unfoldable pub wholePart : List Word → (ℕ → ℕ) → ℕ → ℕ → Word → Word → Part
+wholePart B family i j p w =
+    choose (active B (zOf B j) w) (λ _. part (drop (length p) (xyOf B j)) [] (zOf B j ++ w)) (λ _.
+    part (drop (length p) (word B j)) (zOf B (carrier B family i w)) (zOf B (carrier B family i w) ++ w))
 
-  -- u = XY s, s not beginning with Z, and the least word begins with XY of j, other than i: Z of i is e z and Z of j is f z with the longest common suffix z
-  unfoldable pub otherPart : ℕ → ℕ → Word → Word → Part
-  otherPart i j p s =
-      let l = commonSuffix (zOf B i) (zOf B j) in
-      let e = take (length (zOf B i) - l) (zOf B i) in
-      choose (isPrefix e s && not (cleanBefore B s (length e))) (λ _. part (drop (length p) (take (len B j - l) (word B j))) [] (drop (length e) s)) (λ _.
-      part (drop (length p) (word B j)) (zOf B i) s)
+-- u = XY s, s not beginning with Z, and the least word begins with XY of j, other than i: Z of i is e z and Z of j is f z with the longest common suffix z
+unfoldable pub otherPart : List Word → ℕ → ℕ → Word → Word → Part
+otherPart B i j p s =
+    let l = commonSuffix (zOf B i) (zOf B j) in
+    let e = take (length (zOf B i) - l) (zOf B i) in
+    choose (isPrefix e s && not (cleanBefore B s (length e))) (λ _. part (drop (length p) (take (len B j - l) (word B j))) [] (drop (length e) s)) (λ _.
+    part (drop (length p) (word B j)) (zOf B i) s)
 
-  -- XY of i is the clean relation prefix of u, and the least word begins with XY of j
-  unfoldable pub memberPart : ℕ → ℕ → Word → Word → Part
-  memberPart i j p u =
-      choose (leb (length B) j) (λ _. none) (λ _.
-      choose (isPrefix (zOf B i) (drop (xylen B i) u)) (λ _. wholePart i j p (drop (len B i) u)) (λ _.
-      choose (eqb j i) (λ _. part (drop (length p) (xyOf B i)) [] (drop (xylen B i) u)) (λ _.
-      otherPart i j p (drop (xylen B i) u))))
+-- XY of i is the clean relation prefix of u, and the least word begins with XY of j
+unfoldable pub memberPart : List Word → (ℕ → ℕ) → ℕ → ℕ → Word → Word → Part
+memberPart B family i j p u =
+    choose (leb (length B) j) (λ _. none) (λ _.
+    choose (isPrefix (zOf B i) (drop (xylen B i) u)) (λ _. wholePart B family i j p (drop (len B i) u)) (λ _.
+    choose (eqb j i) (λ _. part (drop (length p) (xyOf B i)) [] (drop (xylen B i) u)) (λ _.
+    otherPart B i j p (drop (xylen B i) u))))
 
-  -- one round
-  unfoldable pub writePart : Word → Word → Part
-  writePart p u =
-      choose (isEmpty u) (λ _. choose (isEmpty p) (λ _. end) (λ _. none)) (λ _.
-      choose (leb (length B) (cleanRelationPrefix B u)) (λ _. letterPart p u) (λ _.
-      memberPart (cleanRelationPrefix B u) (chosenMember (cleanRelationPrefix B u) p (drop (xylen B (cleanRelationPrefix B u)) u)) p u))
+-- one round
+unfoldable pub writePart : List Word → (ℕ → ℕ) → (ℕ → ℕ) → Word → Word → Part
+writePart B family rank p u =
+    choose (isEmpty u) (λ _. choose (isEmpty p) (λ _. end) (λ _. none)) (λ _.
+    choose (leb (length B) (cleanRelationPrefix B u)) (λ _. letterPart p u) (λ _.
+    memberPart B family (cleanRelationPrefix B u) (chosenMember B family rank (cleanRelationPrefix B u) p (drop (xylen B (cleanRelationPrefix B u)) u)) p u))
 
 -- what the rounds give: a word, or that there is none
 pub data Found : Type 0 where
