@@ -1,2 +1,4 @@
 pub mod Examples
+pub mod Order
+pub mod Choice
 pub mod Branches
