@@ -68,7 +68,7 @@ drop-both (suc n) (x ∷ a) r = drop-both n a r ∙ ap (λ m. drop n a ++ drop m
 
 module _ (B : List Word) (u₀ u u′ : Word) (t : TailThenRest B u₀ u) where
   -- a letter is dropped
-  drop-lighter : 0 < length u → u′ ≡ drop 1 u → Lighter B u₀ u u′ t (drop 1 (t .tail))
+  pub drop-lighter : 0 < length u → u′ ≡ drop 1 u → Lighter B u₀ u u′ t (drop 1 (t .tail))
   drop-lighter h e =
       let l = tailed-length B u₀ u t in
       let d = length-drop 1 (t .tail) in
@@ -88,7 +88,7 @@ module _ (B : List Word) (u₀ u u′ : Word) (t : TailThenRest B u₀ u) where
       }
 
   -- an X and Y, and perhaps more, is cut and an end of a Z put before the rest
-  cut-lighter : Facts B → {z : Word} → Recut B u z u′ → Lighter B u₀ u u′ t z
+  pub cut-lighter : Facts B → {z : Word} → Recut B u z u′ → Lighter B u₀ u u′ t z
   cut-lighter c {z} r =
       let l = tailed-length B u₀ u t in
       let w = t .within in

@@ -5,3 +5,6 @@ pub mod Possible
 pub mod Choice
 pub mod Branches
 pub mod NextQuestion
+pub mod RoundRight
+pub mod Shape
+pub mod Ends

@@ -71,7 +71,7 @@ module _ {B : List Word} (R : Facts B) where
       prefix-further p (xyOf B j) c (subst (λ (w : Word). isPrefix p w ≡ true) split (prefix-further p (xOf B j) (drop (xlen B j) (xyOf B j)) e))
 
   -- XY with part of Z
-  xy-rest : (j l : ℕ) → l ≤ zlen B j → xyOf B j ++ take (length (zOf B j) - l) (zOf B j) ≡ take (len B j - l) (word B j)
+  pub xy-rest : (j l : ℕ) → l ≤ zlen B j → xyOf B j ++ take (length (zOf B j) - l) (zOf B j) ≡ take (len B j - l) (word B j)
   xy-rest j l h =
       let z = length-z B j in
       let b = z-bound B j in
@@ -98,13 +98,13 @@ module _ {B : List Word} (R : Facts B) where
       }
 
   -- the test for a clean relation prefix before a place
-  clean-before-found : (s : Word) (n : ℕ) → cleanBefore B s n ≡ true → (q : ℕ) × (i : ℕ) × (q < n) × Clean B s q i
+  pub clean-before-found : (s : Word) (n : ℕ) → cleanBefore B s n ≡ true → (q : ℕ) × (i : ℕ) × (q < n) × Clean B s q i
   unfolding cleanBefore
   clean-before-found s n e =
       let f = any-found n (λ q. ltb (cleanRelationPrefix B (drop q s)) (length B)) e in
       (f .0, cleanRelationPrefix B (drop (f .0) s), f .1, clean-of-rest s (f .0) _ (cleanRelationPrefix-clean R (drop (f .0) s) (ltb-true _ _ (f .2))))
 
-  clean-before-none : (s : Word) (n : ℕ) → cleanBefore B s n ≡ false → (q i : ℕ) → q < n → Clean B s q i → ⊥
+  pub clean-before-none : (s : Word) (n : ℕ) → cleanBefore B s n ≡ false → (q i : ℕ) → q < n → Clean B s q i → ⊥
   unfolding cleanBefore
   clean-before-none s n e q i h c = by-cases (decLt (cleanRelationPrefix B (drop q s)) (length B))
       (λ a. true≢false (sym (any-of n (λ q. ltb (cleanRelationPrefix B (drop q s)) (length B)) q h (lt-ltb _ _ a)) ∙ e))
