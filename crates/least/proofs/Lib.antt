@@ -8,3 +8,4 @@ pub mod NextQuestion
 pub mod RoundRight
 pub mod Shape
 pub mod Ends
+pub mod Theorem

@@ -81,8 +81,8 @@ module _ {B : List Word} (R : Facts B) (fam rank : ℕ → ℕ) where
         by-choose (Chosen B fam rank i p s) (isPrefix p (xOf B i)) _ _
         (λ b. member (kin-refl h) b (inl refl) (λ l k e how. ⊎-elim (λ o. inl (ap (xyOf B) o)) (λ q. absurd (n q)) how))
         (λ b. nobody (omega arith) (λ l k e how. ⊎-elim
-            (λ o. true≢false (sym (subst (λ (y : ℕ). isPrefix p (xOf B y) ≡ true) (sym o) e) ∙ b))
-            n how)))
+        (λ o. true≢false (sym (subst (λ (y : ℕ). isPrefix p (xOf B y) ≡ true) (sym o) e) ∙ b))
+        n how)))
 
   -- the carrier tells what meets w
   carries : (i : ℕ) (w : Word) → i < length B → Kin B fam i (carrier B fam i w)
