@@ -1,20 +1,18 @@
 -- What follows XY of a member in the words that are congruent to a clean XY and s: for each way in which the round goes on, a part that is fixed and a question
 -- that is left (document 003, Lemmas 2 to 4, for families of any size).
 use Prim.Native.Nat.{ℕ, _+_, _-_, _≤_, _<_}
-use mathlib.Core.Bool.{Bool, true, false}
 use mathlib.Core.List.{List, [], _++_, append-assoc, append-cancel-left}
-use mathlib.Core.Logic.{by-cases, ⊎-elim, _⊎_, inl, inr, _↔_}
-use mathlib.Core.Path.{_≡_, refl, sym, ap, _∙_, subst, subst₂}
+use mathlib.Core.Logic.{by-cases, ⊎-elim, _⊎_, inl}
+use mathlib.Core.Path.{_≡_, refl, sym, ap, _∙_, subst}
 use native.Mathlib.Omega.{arith}
-use native.Mathlib.Decide.{decLe, decLt}
+use native.Mathlib.Decide.{decLe}
 use lib.ListN.{length, drop, length-append}
 use lib.Seq.{drop-at}
 use Rattle.words.specs.Words.{Word, isPrefix}
 use Rattle.words.proofs.Tests.{true-or-false}
 use Rattle.words.proofs.Prefixes.{prefix-split}
 use Rattle.words.proofs.CommonSuffixes.{LongestSuffix}
-use Rattle.overlap.specs.Pieces.{word}
-use Rattle.overlap.specs.Cuts.{xylen, xyOf, zOf}
+use Rattle.overlap.specs.Cuts.{xyOf, zOf}
 use Rattle.congruence.proofs.Heads.{Facts, Prefix, Clean}
 use Rattle.congruence.proofs.Places.{xy-z, prefix-in-product, product-of-prefix}
 use Rattle.congruence.proofs.Chains.{Kin, Chain, kin-refl, kin-sym, chain-join, chain-sym, chain-behind, chain-from, chain-to, chain-turn}

@@ -3,7 +3,7 @@ use Prim.Native.Nat.{ℕ, zero, suc, _≤_, _<_}
 use mathlib.Core.Bool.{Bool, true, false, _&&_, not, true≢false, and-eq-true-iff}
 use mathlib.Core.List.{List}
 use mathlib.Core.Logic.{by-cases, ⊎-elim, _⊎_, inl, inr}
-use mathlib.Core.Path.{_≡_, refl, sym, ap, _∙_, subst}
+use mathlib.Core.Path.{_≡_, sym, ap, _∙_, subst}
 use native.Mathlib.Omega.{arith}
 use native.Mathlib.Decide.{decLt}
 use borrow.Author.Tests.{not-true}
@@ -11,7 +11,7 @@ use lib.ListN.{length}
 use Rattle.words.specs.Search.{anyBelow, least}
 use Rattle.words.specs.Words.{Word}
 use Rattle.words.proofs.Tests.{true-or-false, false-of}
-use Rattle.words.proofs.Searching.{any-found, any-none, none-of, least-bound, least-passes, least-first}
+use Rattle.words.proofs.Searching.{any-found, any-none, none-of, least-passes, least-first}
 use Rattle.overlap.specs.Cuts.{xyOf}
 use Rattle.least.specs.Order.{Injective, Before, AtMost, before}
 use Rattle.least.specs.Possible.{marked}

@@ -1,50 +1,40 @@
 -- One round is right, for families of any size: what it writes begins the least word, and the least word of the next question follows.
 use Prim.Native.Nat.{ℕ, _+_, _-_, _≤_, _<_}
-use mathlib.Core.Bool.{Bool, true, false, _&&_, _||_, not, true≢false, and-eq-true-iff}
-use mathlib.Core.List.{List, [], _∷_, _++_, append-assoc, append-nil, cons≢nil}
+use mathlib.Core.Bool.{true, false, true≢false}
+use mathlib.Core.List.{List, [], _++_, append-assoc, append-nil}
 use mathlib.Core.Logic.{by-cases, ⊎-elim, _⊎_, inl, inr}
-use mathlib.Core.Path.{_≡_, refl, sym, ap, _∙_, subst}
+use mathlib.Core.Path.{_≡_, sym, ap, _∙_, subst}
 use native.Mathlib.Omega.{arith}
 use native.Mathlib.Decide.{ℕ-discrete, decLt}
-use borrow.Author.Tests.{eqb-true, eq-eqb, leb-true, leb-false, ltb-true, ltb-false, not-true, lt-ltb}
-use lib.Dec.{eqb, leb, ltb}
-use lib.ListN.{length, take, drop, take-append-drop, length-drop}
+use borrow.Author.Tests.{ltb-true, lt-ltb}
+use lib.Dec.{ltb}
+use lib.ListN.{length, take, drop, take-append-drop}
 use lib.Seq.{take-add, drop-drop, take-take}
-use Rattle.words.specs.Search.{least}
-use Rattle.words.specs.Words.{Word, isEmpty, isPrefix, commonSuffix}
-use Rattle.words.proofs.Tests.{true-or-false, or-found, or-neither, false-of}
+use Rattle.words.specs.Words.{Word, isPrefix}
 use Rattle.words.proofs.Prefixes.{prefix-split, prefix-append}
-use Rattle.words.proofs.Searching.{any-of, any-found, least-bound, least-passes, least-first}
-use Rattle.words.proofs.Lists.{some-letter}
-use Rattle.words.proofs.CommonSuffixes.{suffix-within, longest-suffix}
+use Rattle.words.proofs.Searching.{any-of, any-found}
 use Rattle.overlap.specs.Pieces.{word}
 use Rattle.overlap.specs.Cuts.{len, xlen, zlen, xylen, xOf, xyOf, zOf}
-use Rattle.overlap.proofs.Facts.{length-xy, length-z, z-bound}
-use Rattle.congruence.specs.Rows.{choose, cleanRelationPrefix, active, alike}
-use Rattle.congruence.proofs.Heads.{Facts, Prefix, Clean}
-use Rattle.congruence.proofs.RowTests.{by-choose, head-of-test, test-of-head, cleanRelationPrefix-clean, cleanRelationPrefix-none, active-found, active-none}
-use Rattle.congruence.proofs.Chains.{Kin, Chain, kin-refl, chain-join, chain-sym, chain-behind, chain-from, chain-to, chain-turn}
+use Rattle.overlap.proofs.Facts.{length-z, z-bound}
+use Rattle.congruence.specs.Rows.{cleanRelationPrefix}
+use Rattle.congruence.proofs.Heads.{Facts, Clean}
+use Rattle.congruence.proofs.RowTests.{head-of-test, test-of-head, cleanRelationPrefix-clean, cleanRelationPrefix-none}
+use Rattle.congruence.proofs.Chains.{Kin, Chain, chain-join, chain-sym, chain-behind, chain-from, chain-to, chain-turn}
 use Rattle.congruence.proofs.Chains.Chain.{stop}
 use Rattle.congruence.proofs.Places.{xy-z}
-use Rattle.congruence.proofs.Activity.{inner-z, hangs-of-prefix}
-use Rattle.congruence.proofs.Merges.{Meets, Unlike, prefix-fixed, reached}
+use Rattle.congruence.proofs.Merges.{prefix-fixed, reached}
 use Rattle.congruence.proofs.CleanPrefixes.{PossiblePrefix}
-use Rattle.congruence.proofs.PossiblePrefixes.{first-stays, chain-of-rests, empty-stays}
-use Rattle.congruence.proofs.RowsRight.{unlike-of-test, cut-xy}
-use Rattle.least.specs.Order.{Injective, Before, AtMost}
-use Rattle.least.specs.Possible.{marked, possible}
-use Rattle.least.specs.Writing.{Part, cleanBefore, letterPart, firstMember, chosenMember, carrier, wholePart, otherPart, memberPart, writePart}
+use Rattle.least.specs.Order.{AtMost}
+use Rattle.least.specs.Least.{LeastBehind}
+use Rattle.least.specs.Writing.{Part, cleanBefore}
 use Rattle.least.specs.Writing.Part.{end, none, part}
 use Rattle.least.proofs.Order.{at-most-behind, at-most-cancel, before-parted}
-use Rattle.least.proofs.Marks.{Marking, marking-drop, marking-nothing, marking-z, x-of-marking}
--- POSSIBLE
-use Rattle.least.proofs.Choice.{first-is-first, none-is-marked}
-use Rattle.least.proofs.Branches.{Inactive, Continues, continues-active, continues-inactive, carry-active, carry-inactive, continues-own, continues-unparted, continues-parted}
+use Rattle.least.proofs.Marks.{Marking}
+use Rattle.least.proofs.Branches.{Continues}
 
 -- w is the least word behind p for u, over chains of families
-pub record LeastChain (B : List Word) (fam rank : ℕ → ℕ) (p u w : Word) : Type 0 where
-  pub chain : Chain B fam (p ++ w) u
-  pub first : (v : Word) → Chain B fam (p ++ v) u → AtMost rank w v
+abbrev pub LeastChain : List Word → (ℕ → ℕ) → (ℕ → ℕ) → Word → Word → Word → Type 0
+LeastChain B fam rank p u w = LeastBehind (Chain B fam) rank p u w
 
 -- there is no word behind p for u
 abbrev pub Missing : List Word → (ℕ → ℕ) → Word → Word → Type 0
@@ -124,7 +114,7 @@ module _ {B : List Word} (R : Facts B) where
       after-least : (w : Word) → LeastChain B fam rank p′ u′ w → LeastChain B fam rank p (xyOf B i ++ s) (drop (length p) (xyOf B j ++ c) ++ w)
       after-least w l =
           record {
-            chain = chain-from (mark-then w) (chain-sym (next .from w (l .chain)));
+            joined = chain-from (mark-then w) (chain-sym (next .from w (l .joined)));
             first = λ v d.
                 let r = reached R h (chain-sym d) in
                 at-most-cancel p (drop (length p) (xyOf B j ++ c) ++ w) v

@@ -1,28 +1,28 @@
 -- Every round is right, for families of any size: what the tests of `writePart` say, and by them which branch goes on.
 use Prim.Native.Nat.{ℕ, _+_, _-_, _≤_, _<_}
-use mathlib.Core.Bool.{Bool, true, false, _&&_, _||_, not, true≢false, and-eq-true-iff}
+use mathlib.Core.Bool.{true, false, _&&_, _||_, not, true≢false, and-eq-true-iff}
 use mathlib.Core.List.{List, [], _∷_, _++_, append-nil, cons≢nil}
 use mathlib.Core.Logic.{by-cases, ⊎-elim, _⊎_, inl, inr}
 use mathlib.Core.Path.{_≡_, refl, sym, ap, _∙_, subst}
 use native.Mathlib.Omega.{arith}
-use native.Mathlib.Decide.{ℕ-discrete, decLt}
-use borrow.Author.Tests.{eqb-true, eqb-false, eq-eqb, leb-true, leb-false, ltb-true, not-true, not-false, lt-ltb}
+use native.Mathlib.Decide.{decLt}
+use borrow.Author.Tests.{eqb-true, eqb-false, eq-eqb, leb-true, leb-false, ltb-true, not-true, lt-ltb}
 use lib.Dec.{eqb, leb, ltb}
 use lib.ListN.{length, take, drop, take-append-drop}
 use lib.Seq.{drop-drop}
 use Rattle.words.specs.Search.{least}
 use Rattle.words.specs.Words.{Word, isEmpty, isPrefix, commonSuffix}
-use Rattle.words.proofs.Tests.{true-or-false, or-found, or-neither, false-of}
+use Rattle.words.proofs.Tests.{or-found, or-neither, false-of}
 use Rattle.words.proofs.Prefixes.{prefix-split, prefix-append}
 use Rattle.words.proofs.Searching.{least-bound, least-passes, least-first}
 use Rattle.words.proofs.CommonSuffixes.{suffix-within, longest-suffix}
 use Rattle.overlap.specs.Pieces.{word}
-use Rattle.overlap.specs.Cuts.{len, zlen, xylen, xOf, xyOf, zOf}
+use Rattle.overlap.specs.Cuts.{len, xylen, xOf, xyOf, zOf}
 use Rattle.overlap.proofs.Facts.{length-z, z-bound}
-use Rattle.congruence.specs.Rows.{choose, cleanRelationPrefix, active, alike}
-use Rattle.congruence.proofs.Heads.{Facts, Prefix, Clean}
+use Rattle.congruence.specs.Rows.{choose, cleanRelationPrefix, active}
+use Rattle.congruence.proofs.Heads.{Facts, Clean}
 use Rattle.congruence.proofs.RowTests.{by-choose, test-of-head, cleanRelationPrefix-clean, cleanRelationPrefix-none, active-found, active-none}
-use Rattle.congruence.proofs.Chains.{Kin, Chain, kin-refl, chain-sym, chain-behind, chain-from, chain-to}
+use Rattle.congruence.proofs.Chains.{Kin, Chain, kin-refl, chain-sym, chain-behind, chain-to}
 use Rattle.congruence.proofs.Chains.Chain.{stop}
 use Rattle.congruence.proofs.Activity.{inner-z, hangs-of-prefix}
 use Rattle.congruence.proofs.Merges.{Meets, Unlike}
@@ -31,14 +31,14 @@ use Rattle.congruence.proofs.PossiblePrefixes.{first-stays, chain-of-rests, emp
 use Rattle.congruence.proofs.RowsRight.{unlike-of-test, cut-xy}
 use Rattle.least.specs.Order.{Injective, AtMost}
 use Rattle.least.specs.Possible.{marked, possible}
-use Rattle.least.specs.Writing.{Part, cleanBefore, letterPart, firstMember, chosenMember, carrier, wholePart, otherPart, memberPart, writePart}
+use Rattle.least.specs.Writing.{cleanBefore, letterPart, firstMember, chosenMember, carrier, wholePart, otherPart, memberPart, writePart}
 use Rattle.least.specs.Writing.Part.{end, none, part}
 use Rattle.least.proofs.Order.{at-most-behind}
 use Rattle.least.proofs.Marks.{Marking, marking-drop, marking-nothing, marking-z, x-of-marking}
 use Rattle.least.proofs.Possible.{possible-right}
 use Rattle.least.proofs.Choice.{first-is-first, none-is-marked}
 use Rattle.least.proofs.Branches.{Continues, continues-active, continues-inactive, carry-active, carry-inactive, continues-own, continues-unparted, continues-parted}
-use Rattle.least.proofs.NextQuestion.{LeastChain, Missing, Says, xy-rest, clean-before-found, clean-before-none, says-part}
+use Rattle.least.proofs.NextQuestion.{Missing, Says, xy-rest, clean-before-found, clean-before-none, says-part}
 
 -- what is chosen: nobody, where no member that p begins can be reached; or a member that can be reached, whose XY comes first of those
 pub data Chosen (B : List Word) (fam rank : ℕ → ℕ) (i : ℕ) (p s : Word) : ℕ → Type 0 where
@@ -209,7 +209,7 @@ module _ {B : List Word} (R : Facts B) (fam rank : ℕ → ℕ) where
   letter-says [] (x ∷ u) m a clear = (
     (λ w l.
         record {
-          chain = chain-behind (x ∷ []) (l .chain);
+          joined = chain-behind (x ∷ []) (l .joined);
           first = λ v d.
               let r = first-stays R clear (chain-sym d) in
               subst (AtMost rank (x ∷ w)) (sym (r .1)) (at-most-behind (x ∷ []) (l .first (r .0) (chain-sym (r .2))));
@@ -223,7 +223,7 @@ module _ {B : List Word} (R : Facts B) (fam rank : ℕ → ℕ) where
       let to : (v : Word) → Chain B fam ((y ∷ p) ++ v) (x ∷ u) → Chain B fam (p ++ v) u = λ v d. chain-sym (chain-of-rests R clear y (p ++ v) .0 (chain-sym d) .1) in (
         (λ w l.
             record {
-              chain = chain-sym (chain-of-rests R clear y (p ++ w) .1 (sym o, chain-sym (l .chain)));
+              joined = chain-sym (chain-of-rests R clear y (p ++ w) .1 (sym o, chain-sym (l .joined)));
               first = λ v d. l .first v (to v d);
             }),
         (λ missing w d. missing w (to w d)),
@@ -233,7 +233,7 @@ module _ {B : List Word} (R : Facts B) (fam rank : ℕ → ℕ) where
 
   -- the end: the empty word is congruent to itself alone
   end-says : (p : Word) → Says B fam rank p [] (choose (isEmpty p) (λ _. end) (λ _. none))
-  end-says [] = record { chain = stop; first = λ v d. inl (sym (empty-stays R (chain-sym d))) }
+  end-says [] = record { joined = stop; first = λ v d. inl (sym (empty-stays R (chain-sym d))) }
   end-says (x ∷ p) = λ w d. cons≢nil (empty-stays R (chain-sym d))
 
   -- every round

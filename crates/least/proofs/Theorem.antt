@@ -1,10 +1,8 @@
 -- The rounds write the least word, put together: that they end and how soon (Ends), and what each of them says (RoundRight).
-use Prim.Native.Nat.{ℕ, _+_, _*_, _≤_}
-use mathlib.Core.Bool.{true}
-use mathlib.Core.List.{List, [], _++_}
-use mathlib.Core.Logic.{_↔_, inr}
+use Prim.Native.Nat.{ℕ}
+use mathlib.Core.List.{List, []}
+use mathlib.Core.Logic.{_↔_}
 use mathlib.Core.Path.{_≡_, refl, sym, ap, _∙_, subst}
-use lib.ListN.{length}
 use Rattle.words.specs.Words.{Word}
 use Rattle.words.specs.Relations.{relationWords}
 use Rattle.words.proofs.Relations.{Even, even-sides}
@@ -16,11 +14,11 @@ use Rattle.congruence.specs.Congruence.Congruent.{done}
 use Rattle.congruence.proofs.Heads.{Facts}
 use Rattle.congruence.proofs.Chains.{Chain, chain-sym, chain-join}
 use Rattle.congruence.proofs.Sides.{congruent-of-chain, chain-of-congruent}
-use Rattle.least.specs.Order.{Injective, AtMost}
+use Rattle.least.specs.Order.{Injective}
 use Rattle.least.specs.Least.{LeastBehind, LeastWord}
 use Rattle.least.specs.Possible.{relationOf}
-use Rattle.least.specs.Writing.{Part, Found, found, absent, wordOf, behind, Parts, writePart, leastBehind}
-use Rattle.least.specs.Writing.Part.{end, none, part}
+use Rattle.least.specs.Writing.{Found, found, absent, wordOf, behind, Parts, leastBehind}
+use Rattle.least.specs.Writing.Part.{part}
 use Rattle.least.specs.Writing.Parts.{ended, failed, goes}
 use Rattle.least.specs.Theorem.{Written, LeastWords, RoundsWriteLeast, LeastWordsDecide, WalkTellsPossible}
 use Rattle.least.proofs.Order.{at-most-unique}
@@ -60,50 +58,66 @@ found≢absent {w} e = subst (λ r. IsFound r) e tt
     IsFound (found w) = Unit {0}
     IsFound absent = ⊥
 
+-- one word is the least at most, whatever the congruence
+pub least-unique : {Joined : Word → Word → Type 0} {rank : ℕ → ℕ} {p u w x : Word} → LeastBehind Joined rank p u w → LeastBehind Joined rank p u x → w ≡ x
+least-unique {w = w} {x = x} a b = at-most-unique (a .first x (b .joined)) (b .first w (a .joined))
+
+module _ {B : List Word} (fam rank : ℕ → ℕ) (p u : Word) where
+  found-least : (r : Found) → Answers B fam rank p u r → (w : Word) → (r ≡ found w) ↔ LeastChain B fam rank p u w
+  found-least (found x) a w = ((λ e. subst (LeastChain B fam rank p u) (found-injective e) a), (λ l. ap found (least-unique a l)))
+  found-least absent a w = ((λ e. absurd (found≢absent (sym e))), (λ l. absurd (a w (l .joined))))
+
+  absent-missing : (r : Found) → Answers B fam rank p u r → (r ≡ absent) ↔ Missing B fam p u
+  absent-missing (found x) a = ((λ e. absurd (found≢absent e)), (λ f. absurd (f x (a .joined))))
+  absent-missing absent a = ((λ e. a), (λ f. refl))
+
+-- the rounds write the least word, for families of any size: of every presentation that meets C(4), every rank in which different letters differ, every mark
+pub families-write-least : {B : List Word} → Facts B → (fam rank : ℕ → ℕ) → Injective rank → (p u : Word) → Marking B p → Written B fam rank (Chain B fam) p u
+unfolding leastBehind
+families-write-least {B} R fam rank injective p u m =
+    let x = parts-end B R fam rank p u in
+    let a = parts-answer R fam rank injective m (x .parts) in
+    record {
+      rounds = x .count;
+      result = x .result;
+      made = x .parts;
+      only = λ n r d. parts-unique d (x .parts);
+      bound = x .bound;
+      computed = computed-of-parts (x .parts) _ (x .bound);
+      least = found-least fam rank p u (x .result) a;
+      missing = absent-missing fam rank p u (x .result) a;
+      short = x .short;
+    }
+
 -- families of two: chains of families join the same words as rewrite steps of relations
 module _ {B : List Word} (R : Facts B) (even : Even B) (rank : ℕ → ℕ) (injective : Injective rank) where
-  least-of-chain : {p u w : Word} → LeastChain B relationOf rank p u w → LeastBehind B rank p u w
-  least-of-chain l = record { congruent = congruent-of-chain (l .chain); first = λ v c. l .first v (chain-of-congruent even c) }
+  least-iff : (p u w : Word) → LeastChain B relationOf rank p u w ↔ LeastBehind (Congruent B) rank p u w
+  least-iff p u w = (
+    (λ l. record { joined = congruent-of-chain (l .joined); first = λ v c. l .first v (chain-of-congruent even c) }),
+    (λ l. record { joined = chain-of-congruent even (l .joined); first = λ v c. l .first v (congruent-of-chain c) }),
+  )
 
-  -- a word has one least word at most
-  pub least-unique : {p u w x : Word} → LeastBehind B rank p u w → LeastBehind B rank p u x → w ≡ x
-  least-unique {p} {u} {w} {x} a b = at-most-unique (a .first x (b .congruent)) (b .first w (a .congruent))
-
-  module _ (p u : Word) where
-    found-least : (r : Found) → Answers B relationOf rank p u r → (w : Word) → (r ≡ found w) ↔ LeastBehind B rank p u w
-    found-least (found x) a w = (
-      (λ e. subst (LeastBehind B rank p u) (found-injective e) (least-of-chain a)),
-      (λ l. ap found (least-unique (least-of-chain a) l)),
-    )
-    found-least absent a w = ((λ e. absurd (found≢absent (sym e))), (λ l. absurd (a w (chain-of-congruent even (l .congruent)))))
-
-    absent-missing : (r : Found) → Answers B relationOf rank p u r → (r ≡ absent) ↔ ((w : Word) → ¬ Congruent B (p ++ w) u)
-    absent-missing (found x) a = ((λ e. absurd (found≢absent e)), (λ f. absurd (f x (congruent-of-chain (a .chain)))))
-    absent-missing absent a = ((λ e w c. a w (chain-of-congruent even c)), (λ f. refl))
-
-  pub written : (p u : Word) → IsPiece B p → Written B rank p u
-  unfolding leastBehind
+  pub written : (p u : Word) → IsPiece B p → Written B relationOf rank (Congruent B) p u
   written p u piece =
-      let x = parts-end B R relationOf rank p u in
-      let a = parts-answer R relationOf rank injective (marking-piece R piece) (x .parts) in
+      let x = families-write-least R relationOf rank injective p u (marking-piece R piece) in
       record {
-        rounds = x .count;
+        rounds = x .rounds;
         result = x .result;
-        made = x .parts;
-        only = λ n r d. parts-unique d (x .parts);
+        made = x .made;
+        only = x .only;
         bound = x .bound;
-        computed = computed-of-parts (x .parts) _ (x .bound);
-        least = found-least p u (x .result) a;
-        missing = absent-missing p u (x .result) a;
+        computed = x .computed;
+        least = λ w. let l = x .least w in let i = least-iff p u w in ((λ e. i .0 (l .0 e)), (λ a. l .1 (i .1 a)));
+        missing = ((λ e w c. x .missing .0 e w (chain-of-congruent even c)), (λ f. x .missing .1 (λ w c. f w (congruent-of-chain c))));
         short = x .short;
       }
 
   -- least words of single words
-  least-word : {u w : Word} → LeastBehind B rank [] u w → LeastWord B rank u w
-  least-word l = record { congruent = l .congruent; first = l .first }
+  least-word : {u w : Word} → LeastBehind (Congruent B) rank [] u w → LeastWord B rank u w
+  least-word l = record { congruent = l .joined; first = l .first }
 
-  least-behind-nothing : {u w : Word} → LeastWord B rank u w → LeastBehind B rank [] u w
-  least-behind-nothing l = record { congruent = l .congruent; first = l .first }
+  least-behind-nothing : {u w : Word} → LeastWord B rank u w → LeastBehind (Congruent B) rank [] u w
+  least-behind-nothing l = record { joined = l .congruent; first = l .first }
 
   congruent-sym : {u v : Word} → Congruent B u v → Congruent B v u
   congruent-sym c = congruent-of-chain (chain-sym (chain-of-congruent even c))

@@ -1,6 +1,5 @@
 -- Least words that were worked out by hand, as one table; that the definitions give all of them is one theorem (proofs/Examples.antt).
 -- The letters a, b, c, d, e are 0, 1, 2, 3, 4.
-use Prim.Native.Nat.{ℕ}
 use mathlib.Core.List.{List, [], _∷_}
 use mathlib.Core.Path.{_≡_}
 use Rattle.words.specs.Words.{Word}

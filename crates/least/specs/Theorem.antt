@@ -24,26 +24,26 @@ longestOf B (suc n) = max (longestOf B n) (len B n)
 abbrev pub longestWord : List Word → ℕ
 longestWord B = max 1 (longestOf B (length B))
 
--- what the rounds give for a mark p and a word u under relation words B
-pub record Written (B : List Word) (rank : ℕ → ℕ) (p u : Word) : Type 0 where
+-- what the rounds give for a mark p and a word u under relation words B in families, whose congruence is `Joined`
+pub record Written (B : List Word) (family rank : ℕ → ℕ) (Joined : Word → Word → Type 0) (p u : Word) : Type 0 where
   -- they end: after so many rounds, with this result; and in no other way
   pub rounds : ℕ
   pub result : Found
-  pub made : Parts B relationOf rank p u rounds result
-  pub only : (n : ℕ) (r : Found) → Parts B relationOf rank p u n r → (n ≡ rounds) × (r ≡ result)
+  pub made : Parts B family rank p u rounds result
+  pub only : (n : ℕ) (r : Found) → Parts B family rank p u n r → (n ≡ rounds) × (r ≡ result)
   pub bound : rounds ≤ (longestSuffixPiece B + 1) * length u
   -- what computes gives it
-  pub computed : leastBehind B relationOf rank p u ≡ result
+  pub computed : leastBehind B family rank p u ≡ result
   -- a word is found exactly when it is the least, and none is found exactly when there is none
-  pub least : (w : Word) → (result ≡ found w) ↔ LeastBehind B rank p u w
-  pub missing : (result ≡ absent) ↔ ((w : Word) → ¬ Congruent B (p ++ w) u)
+  pub least : (w : Word) → (result ≡ found w) ↔ LeastBehind Joined rank p u w
+  pub missing : (result ≡ absent) ↔ ((w : Word) → ¬ Joined (p ++ w) u)
   -- its length is at most that of the longest relation word for each letter of u
   pub short : (w : Word) → result ≡ found w → length w ≤ longestWord B * length u
 
--- the rounds write the least word
+-- the rounds write the least word, where the two words of each relation are a family (proofs/Theorem.antt has the same for families of any size)
 abbrev pub RoundsWriteLeast : Type 0
 RoundsWriteLeast = (relations : List Relation) → C4 (relationWords relations) → (rank : ℕ → ℕ) → Injective rank
-    → (p u : Word) → IsPiece (relationWords relations) p → Written (relationWords relations) rank p u
+    → (p u : Word) → IsPiece (relationWords relations) p → Written (relationWords relations) relationOf rank (Congruent (relationWords relations)) p u
 
 -- least words of single words: every word has one and only one, and two words are congruent exactly when theirs are equal
 pub record LeastWords (B : List Word) (rank : ℕ → ℕ) : Type 0 where
