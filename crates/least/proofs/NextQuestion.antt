@@ -8,13 +8,13 @@ use native.Mathlib.Omega.{arith}
 use native.Mathlib.Decide.{ℕ-discrete, decLt}
 use borrow.Author.Tests.{ltb-true, lt-ltb}
 use lib.Dec.{ltb}
-use lib.ListN.{length, take, drop, take-append-drop}
-use lib.Seq.{take-add, drop-drop, take-take}
+use lib.ListN.{length, take, drop}
+use lib.Seq.{take-add, drop-drop}
 use Rattle.words.specs.Words.{Word, isPrefix}
-use Rattle.words.proofs.Prefixes.{prefix-split, prefix-append}
+use Rattle.words.proofs.Prefixes.{prefix-split, prefix-append, prefix-trans}
 use Rattle.words.proofs.Searching.{any-of, any-found}
 use Rattle.overlap.specs.Pieces.{word}
-use Rattle.overlap.specs.Cuts.{len, xlen, zlen, xylen, xOf, xyOf, zOf}
+use Rattle.overlap.specs.Cuts.{len, zlen, xylen, xOf, xyOf, zOf}
 use Rattle.overlap.proofs.Facts.{length-z, z-bound}
 use Rattle.congruence.specs.Rows.{cleanRelationPrefix}
 use Rattle.congruence.proofs.Heads.{Facts, Clean}
@@ -30,6 +30,7 @@ use Rattle.least.specs.Writing.{Part, cleanBefore}
 use Rattle.least.specs.Writing.Part.{end, none, part}
 use Rattle.least.proofs.Order.{at-most-behind, at-most-cancel, before-parted}
 use Rattle.least.proofs.Marks.{Marking}
+use Rattle.least.proofs.Possible.{x-of-xy}
 use Rattle.least.proofs.Branches.{Continues}
 
 -- w is the least word behind p for u, over chains of families
@@ -47,18 +48,12 @@ Says B fam rank p u none = Missing B fam p u
 Says B fam rank p u (part c p′ u′) =
     ((w : Word) → LeastChain B fam rank p′ u′ w → LeastChain B fam rank p u (c ++ w)) × (Missing B fam p′ u′ → Missing B fam p u) × Marking B p′
 
--- a prefix of a prefix
-prefix-further : (a b t : Word) → isPrefix a b ≡ true → isPrefix a (b ++ t) ≡ true
-prefix-further a b t e =
-    subst (λ (w : Word). isPrefix a w ≡ true) (sym (append-assoc a (drop (length a) b) t) ∙ ap (_++ t) (prefix-split a b e)) (prefix-append a (drop (length a) b ++ t))
-
 module _ {B : List Word} (R : Facts B) where
   -- a prefix of X is one of XY and whatever follows
   prefix-of-x : (p c : Word) (j : ℕ) → j < length B → isPrefix p (xOf B j) ≡ true → isPrefix p (xyOf B j ++ c) ≡ true
   prefix-of-x p c j h e =
       let s = R .some j h in
-      let split : xOf B j ++ drop (xlen B j) (xyOf B j) ≡ xyOf B j = ap (_++ drop (xlen B j) (xyOf B j)) (sym (take-take (xlen B j) (xylen B j) (word B j) (omega arith))) ∙ take-append-drop (xlen B j) (xyOf B j) in
-      prefix-further p (xyOf B j) c (subst (λ (w : Word). isPrefix p w ≡ true) split (prefix-further p (xOf B j) (drop (xlen B j) (xyOf B j)) e))
+      prefix-trans p (xyOf B j) (xyOf B j ++ c) (prefix-trans p (xOf B j) (xyOf B j) e (x-of-xy B j (omega arith))) (prefix-append (xyOf B j) c)
 
   -- XY with part of Z
   pub xy-rest : (j l : ℕ) → l ≤ zlen B j → xyOf B j ++ take (length (zOf B j) - l) (zOf B j) ≡ take (len B j - l) (word B j)

@@ -13,7 +13,7 @@ use lib.Seq.{take-take}
 use Rattle.words.specs.Words.{Word, isPrefix}
 use Rattle.words.proofs.Tests.{true-or-false}
 use Rattle.words.proofs.Lists.{no-letters}
-use Rattle.words.proofs.Prefixes.{prefix-append, prefix-split}
+use Rattle.words.proofs.Prefixes.{prefix-trans, prefix-append, prefix-split}
 use Rattle.words.proofs.Searching.{any-of, any-found}
 use Rattle.overlap.specs.Pieces.{word}
 use Rattle.overlap.specs.Cuts.{xlen, xylen, xOf, xyOf, zOf}
@@ -26,17 +26,6 @@ use Rattle.congruence.proofs.CleanPrefixes.{PossiblePrefix}
 use Rattle.congruence.proofs.PossiblePrefixes.{possible-of-turn, possible-of-rests, empty-stays}
 use Rattle.least.specs.Possible.{marked, markedByAny, possibleWithin, possible}
 use Rattle.least.proofs.Marks.{Marking, marking-drop, marking-z, x-of-marking}
-
--- a prefix of a prefix is a prefix
-pub prefix-trans : (a b c : Word) → isPrefix a b ≡ true → isPrefix b c ≡ true → isPrefix a c ≡ true
-unfolding isPrefix
-prefix-trans [] b c e f = refl
-prefix-trans (x ∷ a) [] c e f = absurd (true≢false (sym e))
-prefix-trans (x ∷ a) (y ∷ b) [] e f = absurd (true≢false (sym f))
-prefix-trans (x ∷ a) (y ∷ b) (z ∷ c) e f =
-    let r = simp and-eq-true-iff at e in
-    let s = simp and-eq-true-iff at f in
-    rw (eq-eqb x z (eqb-true x y (r .0) ∙ eqb-true y z (s .0))) (prefix-trans a b c (r .1) (s .1))
 
 -- X is a prefix of XY
 pub x-of-xy : (B : List Word) (i : ℕ) → xlen B i ≤ xylen B i → isPrefix (xOf B i) (xyOf B i) ≡ true

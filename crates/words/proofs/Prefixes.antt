@@ -61,6 +61,17 @@ pub same-prefix : (a u : Word) (q : ℕ) → q + length a ≤ length u → Same 
 same-prefix a u q h s =
     at-prefix a (drop q u) (simp length-drop (omega arith)) (λ k l. ap (λ n. getD a n 0) (omega arith) ∙ s .at k l ∙ sym (getD-drop q u k 0))
 
+-- a prefix of a prefix is a prefix
+pub prefix-trans : (a b c : Word) → isPrefix a b ≡ true → isPrefix b c ≡ true → isPrefix a c ≡ true
+unfolding isPrefix
+prefix-trans [] b c e f = refl
+prefix-trans (x ∷ a) [] c e f = absurd (true≢false (sym e))
+prefix-trans (x ∷ a) (y ∷ b) [] e f = absurd (true≢false (sym f))
+prefix-trans (x ∷ a) (y ∷ b) (z ∷ c) e f =
+    let r = simp and-eq-true-iff at e in
+    let s = simp and-eq-true-iff at f in
+    rw (eq-eqb x z (eqb-true x y (r .0) ∙ eqb-true y z (s .0))) (prefix-trans a b c (r .1) (s .1))
+
 -- a prefix in two parts
 pub prefix-both : (a b w : Word) → isPrefix (a ++ b) w ≡ (isPrefix a w && isPrefix b (drop (length a) w))
 unfolding isPrefix
