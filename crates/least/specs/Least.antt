@@ -1,4 +1,4 @@
--- The least congruent word (document 02: the least equal run), in words.
+-- The least congruent word (document 01: the least equal run), in words.
 use Prim.Native.Nat.{ℕ}
 use mathlib.Core.List.{List, _++_}
 use Rattle.words.specs.Words.{Word}

@@ -14,7 +14,7 @@ Injective rank = (x y : ℕ) → rank x ≡ rank y → x ≡ y
 
 -- u comes before v
 pub data Before (rank : ℕ → ℕ) (u v : Word) : Type 0 where
-  -- u is a proper prefix of v (document 02: a proper front)
+  -- u is a proper prefix of v (document 01: a proper front)
   shorter : (x : ℕ) (t : Word) → v ≡ u ++ (x ∷ t) → Before rank u v
   -- at the first place where they differ, u has the letter of lower rank
   lower : (a : Word) (x y : ℕ) (s t : Word) → u ≡ a ++ (x ∷ s) → v ≡ a ++ (y ∷ t) → rank x < rank y → Before rank u v
@@ -30,7 +30,7 @@ before rank [] (y ∷ v) = true
 before rank (x ∷ u) [] = false
 before rank (x ∷ u) (y ∷ v) = choose (eqb x y) (λ _. before rank u v) (λ _. ltb (rank x) (rank y))
 
--- the house table of document 02: the letters 32 to 63 have the ranks 0 to 31, and 0 to 31 the ranks 32 to 63; no other letter is below the limit, and each
+-- the house table of document 01: the letters 32 to 63 have the ranks 0 to 31, and 0 to 31 the ranks 32 to 63; no other letter is below the limit, and each
 -- further one has its own number
 unfoldable pub houseRank : ℕ → ℕ
 houseRank c = cond (ltb c 32) (c + 32) (cond (ltb c 64) (c - 32) c)

@@ -1,4 +1,4 @@
--- The rounds that write the least word w with p w congruent to u (document 02, slip 1; there p is empty). A round works on a front mark p and a word u, writes a
+-- The rounds that write the least word w with p w congruent to u (document 01, "The least equal run"; there p is empty). A round works on a front mark p and a word u, writes a
 -- part of w, and goes on with the next mark and word. Nothing that was written is ever changed.
 use Prim.Native.Nat.{ℕ, zero, suc, _+_, _-_, _*_}
 use mathlib.Core.Bool.{Bool, _&&_, _||_, not}

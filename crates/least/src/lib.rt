@@ -1,4 +1,4 @@
-// Least congruent words (document 02: least equal runs): definitions and laws, with no code under them.
+// Least congruent words (document 01: least equal runs): definitions and laws, with no code under them.
 // The theorems that everything rests on are the contracts of functions that do nothing, so that they are found here and the check holds them fast.
 ghost use Rattle.least.specs.Theorem.{RoundsWriteLeast, LeastWordsDecide, WalkTellsPossible};
 ghost use Rattle.least.specs.Examples.{WorkedHold};
