@@ -28,6 +28,28 @@ impl Book {
         }
         bytes
     }
+
+    /// The same book with its letters renamed, among 64.
+    pub fn renamed(&self, table: &Renaming) -> Book {
+        Book::new(64, self.words.iter().map(|word| renamed(word, table)).collect())
+    }
+}
+
+/// Other codes for the letters: a code for each from 0 to 63, none twice.
+pub type Renaming = [u8; 64];
+
+/// A renaming at random, so that few letters lie anywhere among the 64.
+pub fn renaming(chance: &mut Chance) -> Renaming {
+    let mut table: Renaming = std::array::from_fn(|code| code as u8);
+    for i in (1..64).rev() {
+        table.swap(i, chance.below(i + 1));
+    }
+    table
+}
+
+/// A word with its letters renamed.
+pub fn renamed(word: &[u8], table: &Renaming) -> Vec<u8> {
+    word.iter().map(|&code| table[code as usize]).collect()
 }
 
 /// A record of kind 1.
