@@ -115,7 +115,7 @@ fn on_rounds_with_marks() {
 #[test]
 fn on_least_words() {
     let mut chance = Chance::new(6);
-    let kinds = [books::any, books::few_letters, books::overlapping, books::linked, books::marked, books::small];
+    let kinds = [books::any, books::few_letters, books::overlapping, books::linked, books::tangled, books::small];
     let (mut longer, mut shorter, mut kept) = (0, 0, 0);
     for case in 0..6_000 {
         let book = kinds[case % kinds.len()](&mut chance);
@@ -207,7 +207,7 @@ fn on_recorded_vectors() {
         program(&run.input);
     }
     for recorded in vectors::calls() {
-        let (Call::Compare { book, .. } | Call::Sheet { book, .. } | Call::Round { book, .. }) = &recorded.call;
+        let book = recorded.call.book();
         sheet(book);
         let Some(accepted) = check(book) else { continue };
         match &recorded.call {
@@ -215,6 +215,12 @@ fn on_recorded_vectors() {
                 assert_eq!(compare(book, &accepted, u, v, *allowance), recorded.answer.starts_with("same"), "{}", recorded.line)
             }
             Call::Round { words, .. } => drop(round(book, &accepted, words.each_ref().map(|word| &word[..]))),
+            Call::Least { word, size, offset, .. } => {
+                let mut buffer = vec![170; *size];
+                let length = fast::least(book, word, &mut buffer, *offset).map_err(ours);
+                let answer = length.map(|length| format!("least {length} {}", vectors::hex(&buffer[*offset..][..length as usize])));
+                assert_eq!(answer.unwrap_or_else(|(number, place)| format!("refused {number} {place}")), recorded.answer, "{}", recorded.line)
+            }
             Call::Sheet { .. } => {}
         }
     }

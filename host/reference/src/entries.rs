@@ -3,7 +3,7 @@
 use crate::book::{accept, Accepted};
 use crate::least::least_word;
 use crate::rows::{self, Answer, Next};
-use crate::{refuse, Refusal};
+use crate::{refuse, Refusal, Word};
 
 /// The most letters of a word that is compared, and of one whose least word is asked for.
 pub const COMPARED: usize = 4_096;
@@ -108,9 +108,14 @@ pub fn least(book: &[u8], word: &[u8], buffer: &mut [u8], offset: usize) -> Resu
 
 /// The same under a book that is accepted already.
 pub fn least_under(book: &Accepted, word: &[u8], buffer: &mut [u8], offset: usize) -> Result<u64, Refusal> {
-    check_word(word, 0, COMPARED, book.letters)?;
-    let least = least_word(&book.words(), word, usize::MAX).expect("a search without a limit ends");
+    let least = find_least(book, word, usize::MAX)?.expect("a search without a limit ends");
     write_at(&least, buffer, offset)
+}
+
+/// 9 and 10 of the word, and then its least word; none where a chain reaches more than `most` words.
+pub fn find_least(book: &Accepted, word: &[u8], most: usize) -> Result<Option<Word>, Refusal> {
+    check_word(word, 0, COMPARED, book.letters)?;
+    Ok(least_word(&book.words(), word, most))
 }
 
 /// Writes a least word at an offset: 14 where the offset lies past the buffer's end, or the word is longer than what follows the offset.
