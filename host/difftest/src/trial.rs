@@ -162,9 +162,8 @@ impl<'a> Trial<'a> {
         let mut buffer = vec![0; LEAST];
         let length = Fast.least(book, word, &mut buffer, 0).expect("an accepted book, a word under it, and room enough");
         buffer.truncate(length as usize);
-        let known = Ok(buffer);
-        self.least(book, &known, word, LEAST, 0);
-        known.expect("it is known")
+        self.least(book, &Ok(buffer.clone()), word, LEAST, 0);
+        buffer
     }
 
     /// The program, with an output buffer of the size it needs and some bytes more; gives its lines.
