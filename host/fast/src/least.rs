@@ -145,7 +145,7 @@ impl Walk<'_> {
         let s = u.skip(xy);
         let behind = State { u: state.u.skip(xy), p: state.p, hint: state.hint.and_then(|hint| self.behind(hint, i)) };
         let wanted = self.wanted(state.p, i);
-        if s.begins(&self.text[z.0..z.1]) {
+        if self.begins(s, z) {
             self.whole(behind, i, wanted, sink)
         } else if wanted == i {
             self.own(behind, i, sink)
@@ -157,15 +157,13 @@ impl Walk<'_> {
     /// What a hint at a clean front XY of relation word i says of Z behind it.
     #[inline]
     fn behind(&self, hint: Hint, i: usize) -> Option<Hint> {
-        let q = &self.text[hint.q.0..hint.q.1];
-        (!self.x(i).starts_with(q) && self.x(i ^ 1).starts_with(q)).then_some(Hint { q: self.z(i), ..hint })
+        (!self.x_begins(i, hint.q) && self.x_begins(i ^ 1, hint.q)).then_some(Hint { q: self.z(i), ..hint })
     }
 
     /// Of relation word i and the other of its relation, the one that comes first among those whose X begins with p.
     #[inline]
     fn wanted(&self, p: Part, i: usize) -> usize {
-        let p = &self.text[p.0..p.1];
-        if self.x(i ^ 1).starts_with(p) && (!self.kin.first[i] || !self.x(i).starts_with(p)) {
+        if self.x_begins(i ^ 1, p) && (!self.kin.first[i] || !self.x_begins(i, p)) {
             i ^ 1
         } else {
             i
@@ -205,7 +203,7 @@ impl Walk<'_> {
         let shared = self.kin.shared[i] as usize;
         let parted = z.1 - z.0 - shared;
         let end = self.z(i ^ 1).1;
-        if s.begins(&self.text[z.0..z.0 + parted]) && !(0..parted).any(|g| self.ready.clean_front(s.skip(g)).is_some()) {
+        if self.begins(s, (z.0, z.0 + parted)) && !(0..parted).any(|g| self.ready.clean_front(s.skip(g)).is_some()) {
             self.tell(behind.p, i ^ 1, end - shared, sink);
             let q = (z.1 - shared, z.1);
             return State { u: behind.u.skip(parted), p: (0, 0), hint: Some(Hint { q, ..hint }) };
@@ -237,11 +235,10 @@ impl Walk<'_> {
                 None if self.text[q.0] != letter => return false,
                 None => (q, u) = ((q.0 + 1, q.1), u.skip(1)),
                 Some(i) => {
-                    let front = &self.text[q.0..q.1];
-                    if self.x(i).starts_with(front) {
+                    if self.x_begins(i, q) {
                         return true;
                     }
-                    if !self.x(i ^ 1).starts_with(front) {
+                    if !self.x_begins(i ^ 1, q) {
                         return false;
                     }
                     (q, u) = (self.z(i), u.skip(self.xy_length(i)));
@@ -250,10 +247,18 @@ impl Walk<'_> {
         }
     }
 
+    /// A word begins with a part of the text; the first letter is looked at first, since it mostly decides.
     #[inline]
-    fn x(&self, i: usize) -> &[u8] {
+    fn begins(&self, word: Parts, (from, to): Part) -> bool {
+        from == to || (word.first() == Some(self.text[from]) && word.begins(&self.text[from..to]))
+    }
+
+    /// X of relation word i begins with a part of the text. Marks are short, and most differ at once.
+    #[inline]
+    fn x_begins(&self, i: usize, front: Part) -> bool {
         let side = &self.ready.laid.sides[i];
-        &self.text[side.start as usize..side.x_end as usize]
+        let (x, front) = (&self.text[side.start as usize..side.x_end as usize], &self.text[front.0..front.1]);
+        front.len() <= x.len() && front.iter().zip(x).all(|(a, b)| a == b)
     }
 
     #[inline]
