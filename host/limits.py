@@ -36,10 +36,11 @@ LIMITS = {
     "Word::NEXT": "NEXT_RUN",
     "Word::MARK ": "NEXT_MARK",
     "Output::MOST": "OUTPUT",
+    "Word::LEAST": "LEAST",
 }
 
 # the header's name where it is another
-HEADER_NAMES = {"SHEET": "SHEET_MOST"}
+HEADER_NAMES = {"SHEET": "SHEET_MOST", "LEAST": "LEAST_MOST"}
 
 # the specification's word for a case of `Refusal` whose name is another; the macro and the reason are named by the word
 WORDS = {"UnknownLetter": "unknown step", "TooMany": "thick", "Repeated": "twice"}

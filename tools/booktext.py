@@ -1,7 +1,7 @@
 #!/usr/bin/env python3
-"""The readable form of books and comparisons, for people who write them.
+"""The readable form of books, comparisons and least runs, for people who write them.
 
-This tool is a convenience outside the proved part: it only turns text into the program's input bytes and back,
+This tool is a convenience outside the proved part: it only turns text into a program's input and back,
 and puts the program's output into the words of the text. What the program answers is decided by the program alone.
 
 The text has one item a line; # begins a comment.
@@ -19,9 +19,11 @@ The text may say more than the program accepts (such as 70 letters); the program
 import argparse
 import re
 import struct
+import subprocess
 import sys
 
 HEAD, RULE, COMPARISON = 1, 2, 3
+GIVEN = 0  # no record: a run that is given beside the text
 BYTE, TWO_BYTES, FOUR_BYTES = 0xFF, 0xFFFF, 0xFFFFFFFF
 RUN_STEP = 5000  # places of 9 and 10 count 5,000 for each run
 OUTSIDE = "A convenience outside the proved part: it only translates; the program alone decides."
@@ -46,13 +48,21 @@ class BytesError(Exception):
         self.place, self.message = place, message
 
 
+class GivenError(Exception):
+    """A run given beside the text that is no run."""
+
+
+class AnswerError(Exception):
+    """A program whose answer is none that it should give."""
+
+
 class Record:
     """One record: its kind, the runs in it, its number (the letters or the allowance), and where it stands in the text and in the bytes."""
 
     def __init__(self, kind, number, runs, line, columns):
         self.kind, self.number, self.runs, self.line, self.columns = kind, number, runs, line, columns
         self.place = None
-        self.index = None  # rules and comparisons count from 1, each by themselves
+        self.index = None  # rules, comparisons and given runs count from 1, each by themselves
 
     def to_bytes(self):
         if self.kind == HEAD:
@@ -370,8 +380,10 @@ class Explainer:
         return f"loose: {where}, is a product of three or fewer pieces: {', '.join(map(run_text, parts))}"
 
     def run_place(self, place, of):
-        """The run of a comparison that a place speaks of, and where it stands."""
+        """The run that a place speaks of, and where it stands."""
         run = place // RUN_STEP
+        if of is not None and of.kind == GIVEN:
+            return given_place(of)
         if run > 1:
             return f"{self.of_comparison(of)}, run {run}, which a comparison does not have"
         column = "" if of is None else f", column {of.columns[run]}"
@@ -379,13 +391,13 @@ class Explainer:
 
     def refusal_9(self, place, of):
         run = place // RUN_STEP
-        length = "" if of is None or run > 1 else f" with {len(of.runs[run])} steps"
-        return f"long: {self.run_place(place, of)}{length}: a compared run has at most 4,096 steps"
+        length = "" if of is None or run >= len(of.runs) else f" with {len(of.runs[run])} steps"
+        return f"long: {self.run_place(place, of)}{length}: a run has at most 4,096 steps"
 
     def refusal_10(self, place, of):
         run, at = divmod(place, RUN_STEP)
         letters = self.records[0].number
-        if of is None or run > 1 or at >= len(of.runs[run]):
+        if of is None or run >= len(of.runs) or at >= len(of.runs[run]):
             return f"stranger: {self.run_place(place, of)}, position {at}: a letter that the book does not have"
         return f"stranger: {self.run_place(place, of)}, has the letter {letter_text(of.runs[run][at])} at position {at}; the book has {self.count(letters, 'letter')}"
 
@@ -397,6 +409,97 @@ class Explainer:
 
     def refusal_13(self, place, of):
         return f"heavy: the text makes {self.size:,} bytes of input, and the program takes at most 60,000"
+
+    def refusal_14(self, place, of):
+        return "no space: a buffer lent to the library has no room for the least run; neither program prints this of a text"
+
+
+# --- least runs ---
+
+ROOM = 262144  # the most steps of a least run
+BOOK_TOLD, RUN_TOLD = 8192, 4097  # the bytes that the program is told: a longer book or run is refused for what stands in these
+BATCH = 100  # lines for one start of the program
+OF_BOOK = 8  # refusals up to this number are the book's
+LEAST_LINE = re.compile(r"least (\d+) (-|(?:[0-9a-f]{2})+)\Z|refused (\d+) (\d+)\Z")
+
+
+def given_run(word, index, line, column):
+    """A run that is given beside the text, on a line of standard input or as an argument, which has no line."""
+    given = Record(GIVEN, None, [run_at(word, line, column)], line, [column])
+    given.index = index
+    return given
+
+
+def given_place(of):
+    return f"run {of.index}" if of.line is None else f"the run on line {of.line} of standard input"
+
+
+def given_arguments(words):
+    """Runs given as arguments."""
+    given = []
+    for index, word in enumerate(words, 1):
+        if not word:
+            raise GivenError(f"run {index} has no letters; the empty run is -")
+        try:
+            given.append(given_run(word, index, None, 1))
+        except TextError as error:
+            raise GivenError(f"run {index}, column {error.column}: {error.message}") from None
+    return given
+
+
+def given_lines(text):
+    """Runs given one a line; blank lines and comments are passed over."""
+    given = []
+    for line, content in enumerate(text.split("\n"), 1):
+        tokens = [(match.group(), match.start() + 1) for match in TOKEN.finditer(content.split("#", 1)[0])]
+        try:
+            if tokens:
+                expect(tokens, 1, line, 1, "RUN")
+                given.append(given_run(tokens[0][0], len(given) + 1, line, tokens[0][1]))
+        except TextError as error:
+            raise GivenError(f"standard input:{error}") from None
+    return given
+
+
+def least_line(book, run):
+    """The line that asks the program for one least run."""
+    return f"least {book[:BOOK_TOLD].hex()} {run[:RUN_TOLD].hex() or '-'} {ROOM} 0\n"
+
+
+def ask(program, lines):
+    """What a program answers to some lines, a line for each."""
+    done = subprocess.run([program], input="".join(lines).encode("ascii"), capture_output=True, check=False)
+    answers = done.stdout.decode("ascii", "replace").splitlines()
+    if done.returncode != 0 or len(answers) != len(lines):
+        raise AnswerError(f"{program}: {len(answers)} answers to {len(lines)} lines, status {done.returncode}")
+    return answers
+
+
+def least_answer(program, answer):
+    """The run that an answer tells, or else the number and place of its refusal."""
+    match = LEAST_LINE.match(answer)
+    if match and match.group(3):
+        return None, (int(match.group(3)), int(match.group(4)))
+    run = bytes.fromhex(match.group(2).strip("-")) if match else None
+    if run is None or len(run) != int(match.group(1)):
+        raise AnswerError(f"{program}: '{answer[:40]}' is no answer to a line 'least'; a program that was built before it had one is built anew by: rt check cases")
+    return run, None
+
+
+def least_runs(text, given, program):
+    """A line for each given run: its least run, or why it is refused. A refusal of the book is the only line."""
+    explainer = Explainer(text)
+    book = b"".join(record.to_bytes() for record in explainer.records if record.kind != COMPARISON)
+    for start in range(0, len(given), BATCH):
+        batch = given[start : start + BATCH]
+        for of, answer in zip(batch, ask(program, [least_line(book, of.runs[0]) for of in batch])):
+            run, refused = least_answer(program, answer)
+            if refused is None:
+                yield run_text(run)
+                continue
+            yield f"{answer}: {explainer.refusal(*refused, of)}"
+            if refused[0] <= OF_BOOK:
+                return
 
 
 # --- the command ---
@@ -445,6 +548,10 @@ def arguments():
     command = commands.add_parser("explain", help="the program's output in the terms of the text", epilog=OUTSIDE)
     command.add_argument("file", metavar="FILE.txt", help="the text")
     command.add_argument("program_output", metavar="OUTPUT", help="what the program printed: a file, - for standard input, or a line such as 'refused 8 3'")
+    command = commands.add_parser("least", help="the least run of each run, or why it is refused", epilog=OUTSIDE)
+    command.add_argument("--program", metavar="PROGRAM", required=True, help="the program that answers a line 'least BOOK RUN LENGTH OFFSET': target/bin/cases")
+    command.add_argument("file", metavar="FILE.txt", help="the text; its comparisons are passed over")
+    command.add_argument("runs", metavar="RUN", nargs="*", help="a run; where there is none, runs are read from standard input, one a line")
     return parser
 
 
@@ -456,12 +563,20 @@ def main(argv=None):
             write_bytes(options.output, encode(read_text(options.file)))
         elif options.command == "decode":
             write_bytes(options.output, decode(read_bytes(options.file)).encode("ascii"))
+        elif options.command == "least":
+            text = read_text(options.file)
+            given = given_arguments(options.runs) if options.runs else given_lines(read_text("-"))
+            for line in least_runs(text, given, options.program):
+                print(line)
         else:
             explainer = Explainer(read_text(options.file))
             for line in explainer.explain(read_output(options.program_output)):
                 print(line)
     except (TextError, BytesError) as error:
         print(f"{options.file}:{error}", file=sys.stderr)
+        return 1
+    except (GivenError, AnswerError) as error:
+        print(error, file=sys.stderr)
         return 1
     except OSError as error:
         print(f"{error.filename}: {error.strerror}", file=sys.stderr)

@@ -1,4 +1,5 @@
-"""Tests of the readable form of books (booktext.py): the specification's example, round trips, every error, every explanation; and of ./compare on a text with an error."""
+"""Tests of the readable form of books (booktext.py): the specification's example, round trips, every error, every explanation, least runs; and of ./compare and ./least on a
+text with an error."""
 
 import glob
 import os
@@ -11,10 +12,11 @@ import unittest
 sys.path.insert(0, os.path.dirname(os.path.abspath(__file__)))
 
 import booktext
-from booktext import BytesError, Explainer, TextError, decode, encode
+from booktext import AnswerError, BytesError, Explainer, GivenError, TextError, decode, encode
 
 TOOL = os.path.join(os.path.dirname(os.path.abspath(__file__)), "booktext.py")
 COMPARE = os.path.join(os.path.dirname(os.path.dirname(TOOL)), "compare")
+LEAST = os.path.join(os.path.dirname(os.path.dirname(TOOL)), "least")
 
 # docs/SPECIFICATION.md, "The program"
 EXAMPLE_TEXT = "letters 4\nabdc = cadb\ncompare abdc cadb 100\n"
@@ -227,13 +229,14 @@ class Explaining(unittest.TestCase):
 
     def test_the_rest(self):
         self.check(self.TEXT, "refused 12 0\n", "never prints")
+        self.check(self.TEXT, "refused 14 0\n", "no space", "neither program prints")
         self.check("letters 4\n" + "compare - - 1\n" * 5000, "refused 13 60000\n", "60,005 bytes")
         self.check(self.TEXT, "refused 99 0\n", "no refusal")
         self.check(self.TEXT, "hello\n", "no line of the program's output")
         self.assertEqual(self.explained(self.TEXT, ""), [])
 
 
-class Command(unittest.TestCase):
+class InFolder(unittest.TestCase):
     def setUp(self):
         self.folder = tempfile.TemporaryDirectory()
         self.addCleanup(self.folder.cleanup)
@@ -244,6 +247,81 @@ class Command(unittest.TestCase):
             file.write(data)
         return path
 
+
+class LeastRuns(InFolder):
+    """Least runs by a program that stands in for the proved one: it knows these lines, and what they must be answered by."""
+
+    Q = EXAMPLE_BYTES[:19].hex()
+    ANSWERS = {
+        f"least {Q} 02000301 262144 0": "least 4 00010302",
+        f"least {Q} 02000301000301 262144 0": "least 7 00010300010302",
+        f"least {Q} - 262144 0": "least 0 -",
+        f"least {Q} 000104 262144 0": "refused 10 2",
+        f"least {Q} {'00' * 4097} 262144 0": "refused 9 0",
+        "least 01000100400400020001011f20 1f 262144 0": "least 1 20",
+        "least 0100010004050002000102000000 00 262144 0": "refused 8 0",
+        "least 0100010004 03 262144 0": "touched least 1 03",
+        "least 0100010004 02 262144 0": "least 2 02",
+    }
+
+    def setUp(self):
+        super().setUp()
+        self.program = self.file("program", f"#!{sys.executable}\nimport sys\nfor line in sys.stdin:\n    print({self.ANSWERS!r}.get(line[:-1], line[:-1]))\n".encode())
+        os.chmod(self.program, 0o755)
+
+    def least(self, text, *runs):
+        return list(booktext.least_runs(text, booktext.given_arguments(runs), self.program))
+
+    def test_each_run_has_a_line(self):
+        self.assertEqual(self.least(EXAMPLE_TEXT, "cadb", "cadbadb", "-"), ["abdc", "abdabdc", "-"])
+        self.assertEqual(self.least("letters 64\n31 = 32\n", "31"), ["32"])
+        self.assertEqual(self.least(EXAMPLE_TEXT), [])
+        self.assertEqual(self.least(EXAMPLE_TEXT, *["cadb"] * 250), ["abdc"] * 250)
+
+    def test_refusals_are_told_in_the_terms_of_the_text(self):
+        stranger = "refused 10 2: stranger: run 2, has the letter e (code 4) at position 2; the book has 4 letters"
+        self.assertEqual(self.least(EXAMPLE_TEXT, "cadb", "abe", "-"), ["abdc", stranger, "-"])
+        self.assertEqual(self.least(EXAMPLE_TEXT, "a" * 9000), ["refused 9 0: long: run 1 with 9000 steps: a run has at most 4,096 steps"])
+        loose = "refused 8 0: loose: rule 1, left side, on line 2, column 1, is a product of three or fewer pieces: a"
+        self.assertEqual(self.least("letters 4\na = aa\n", "a", "a"), [loose])
+
+    def test_runs_on_standard_input(self):
+        given = booktext.given_lines("cadb\n\n  - # the empty run\n# nothing\nabe")
+        lines = list(booktext.least_runs(EXAMPLE_TEXT, given, self.program))
+        stranger = "refused 10 2: stranger: the run on line 5 of standard input, has the letter e (code 4) at position 2; the book has 4 letters"
+        self.assertEqual(lines, ["abdc", "-", stranger])
+
+    def test_what_is_no_run(self):
+        for words, part in [(["a", "aBc"], "run 2, column 2: 'B' is no letter"), (["1..2"], "run 1, column 3: a number is missing"), ([""], "run 1 has no letters")]:
+            with self.subTest(words=words), self.assertRaisesRegex(GivenError, part):
+                booktext.given_arguments(words)
+        for text, part in [("a\n aBc\n", "standard input:2:3: 'B' is no letter"), ("a\nb c\n", "standard input:2:3: 'c' is too much"), ("a = b", "'=' is too much")]:
+            with self.subTest(text=text), self.assertRaisesRegex(GivenError, part):
+                booktext.given_lines(text)
+
+    def test_what_is_no_answer(self):
+        # a line that the program gives back, a byte that it should have kept, a length that is another
+        for run in ("a", "d", "c"):
+            with self.subTest(run=run), self.assertRaisesRegex(AnswerError, "is no answer"):
+                self.least("letters 4\n", run)
+        silent = self.file("silent", b"#!/bin/sh\n")
+        os.chmod(silent, 0o755)
+        with self.assertRaisesRegex(AnswerError, "0 answers to 1 lines"):
+            list(booktext.least_runs(EXAMPLE_TEXT, booktext.given_arguments(["a"]), silent))
+
+    def test_the_command(self):
+        text = self.file("book.txt", EXAMPLE_TEXT.encode())
+        self.assertEqual(run_tool("least", "--program", self.program, text, "cadb", "-"), (0, b"abdc\n-\n", ""))
+        self.assertEqual(run_tool("least", "--program", self.program, text, data=b"cadb\r\n-\n"), (0, b"abdc\n-\n", ""))
+        self.assertEqual(run_tool("least", "--program", self.program, text, data=b""), (0, b"", ""))
+        code, output, error = run_tool("least", "--program", self.program, text, "cadb", "B")
+        self.assertEqual((code, output), (1, b""))
+        self.assertIn("run 2, column 1: 'B' is no letter", error)
+        self.assertEqual(run_tool("least", "--program", self.program + "s", text, "a")[0], 1)
+        self.assertEqual(run_tool("least", text, "a")[0], 2)
+
+
+class Command(InFolder):
     def test_encode_and_decode(self):
         text = self.file("book.txt", EXAMPLE_TEXT.encode())
         self.assertEqual(run_tool("encode", text), (0, EXAMPLE_BYTES, ""))
@@ -281,6 +359,19 @@ class Command(unittest.TestCase):
         missing = os.path.join(self.folder.name, "nothing.txt")
         self.assertEqual(run(COMPARE, missing), (1, b"", f"{missing}: No such file or directory\n"))
 
+    def test_least_ends_at_an_error_in_the_text(self):
+        text = self.file("bad.txt", b"letters 4\nabdc = caDb\n")
+        error = f"{text}:2:10: 'D' is no letter from a to z; a run is letters, numbers with dots between them, or -\n"
+        self.assertEqual(run(LEAST, text, "a"), (1, b"", error))
+        missing = os.path.join(self.folder.name, "nothing.txt")
+        self.assertEqual(run(LEAST, missing, "a"), (1, b"", f"{missing}: No such file or directory\n"))
+
+    def test_least_called_wrongly(self):
+        for arguments in ([], ["--explain", "a.txt"], ["-"]):
+            code, output, error = run(LEAST, *arguments)
+            self.assertEqual((code, output), (2, b""))
+            self.assertNotEqual(error, "")
+
     def test_compare_called_wrongly(self):
         for arguments in (["--explain"], ["--explain", "a.txt", "b.txt"], ["--exmaple"]):
             code, output, error = run(COMPARE, *arguments)
@@ -288,7 +379,7 @@ class Command(unittest.TestCase):
             self.assertNotEqual(error, "")
 
     def test_the_help_says_that_it_is_outside_the_proved_part(self):
-        for arguments in (["--help"], ["encode", "--help"], ["decode", "--help"], ["explain", "--help"]):
+        for arguments in (["--help"], ["encode", "--help"], ["decode", "--help"], ["explain", "--help"], ["least", "--help"]):
             self.assertIn(b"outside the proved part", run_tool(*arguments)[1])
 
 

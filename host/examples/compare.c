@@ -82,6 +82,23 @@ static void follow(const char *first, const char *second)
     }
 }
 
+/* the least run of a run at an offset of a buffer, and the whole buffer then; it is filled with z before */
+static void least(const char *letters, size_t room, size_t offset)
+{
+    uint8_t run[16], buffer[16];
+    size_t length = run_of(letters, run, sizeof run);
+    memset(buffer, 'z' - 'a', sizeof buffer);
+    vanecitron_least_result r = vanecitron_least(book.bytes, book.length, run, length, buffer, room, offset);
+    printf("least '%s' at %zu of %zu: ", letters, offset, room);
+    if (r.refusal == VANECITRON_ACCEPTED) {
+        printf("%llu steps,", (unsigned long long)r.length);
+    } else {
+        printf("refused %u %llu (%s),", r.refusal, (unsigned long long)r.place, vanecitron_refusal_text(r.refusal));
+    }
+    print_run("buffer", buffer, room);
+    printf("\n");
+}
+
 /* the program on its example, on no bytes, and with a buffer that is one byte short */
 static void program(void)
 {
@@ -118,6 +135,8 @@ static void empty_buffers(void)
     printf("compare of empty runs: refused %u, outcome %u, rounds %llu\n", m.refusal, m.outcome, (unsigned long long)m.rounds);
     vanecitron_round_result r = vanecitron_round(book.bytes, book.length, NULL, 0, NULL, 0, NULL, 0, NULL, 0, nowhere, 0, NULL, 0);
     printf("round in no bytes: refused %u %llu\n", r.refusal, (unsigned long long)r.place);
+    vanecitron_least_result l = vanecitron_least(book.bytes, book.length, NULL, 0, nowhere, 0, 0);
+    printf("least of an empty run in no bytes: refused %u, length %llu\n", l.refusal, (unsigned long long)l.length);
 }
 
 int main(void)
@@ -155,6 +174,15 @@ int main(void)
     compare("abd", "abde", 100);
 
     follow("cadbadb", "abdabdc");
+
+    least("abdc", 4, 0);
+    least("cadb", 8, 2);
+    least("cadbadb", 7, 0);
+    least("abdcadb", 9, 1);
+    least("cadb", 8, 5);
+    least("", 4, 4);
+    least("", 4, 5);
+    least("abde", 8, 0);
 
     uint8_t lent[VANECITRON_BOOK_MOST];
     vanecitron_book loose = book_of(lent, sizeof lent, "a", "aa");

@@ -1,5 +1,5 @@
 /*
- * vanecitron: does a chain of exchanges join two runs of steps under a book of exchange rules?
+ * vanecitron: does a chain of exchanges join two runs of steps under a book of exchange rules, and which is the least run that one reaches?
  *
  * The functions of the archive are proved against their contracts (crates/vanecitron and crates/entries of this tree; docs/AUDIT.md says what that
  * means). This header is written by hand: host/limits.py compares its numbers, words and structs with those of the proved sources. The functions that
@@ -29,14 +29,14 @@
  *   A lent buffer must overlap no other buffer of the same call, whether that is read or lent. Buffers that are only read may overlap each other, or
  *   be the same.
  *   A refusal, and a round that ends, leave every lent byte as it was. Otherwise what is written stands at the start of the lent buffer, and the bytes
- *   behind it are as they were.
+ *   behind it are as they were. The least run alone stands at an offset of the caller's choosing; the bytes before it are as they were too.
  *
  * Results
  *   Each result has a refusal and a place. The refusal is 0 where the call was not refused; else it is one of the numbers below, and everything but
  *   refusal and place is 0. Where the call was not refused the place is 0. An outcome of 0 says nothing: a refused result, and one filled with zeros,
  *   reads as no answer, so that a caller who looks at the outcome alone is never told 'same' or 'different' by a refusal.
  *   If several refusals could apply, the one that is given is fixed: records of the book in turn, each in the order 1, 2, 6, 3, 4, 5; then 7, then 8;
- *   then 9 and 10 for u, for v, for p; then 12; 11 last.
+ *   then 9 and 10 for u, for v, for p; then 12, or 14 of the least run; 11 last.
  */
 #ifndef VANECITRON_H
 #define VANECITRON_H
@@ -50,16 +50,16 @@ extern "C" {
 
 /* The version of this header; vanecitron_version gives that of the archive. */
 #define VANECITRON_VERSION_MAJOR 0u
-#define VANECITRON_VERSION_MINOR 2u
+#define VANECITRON_VERSION_MINOR 3u
 #define VANECITRON_VERSION_PATCH 0u
 #define VANECITRON_VERSION (10000u * VANECITRON_VERSION_MAJOR + 100u * VANECITRON_VERSION_MINOR + VANECITRON_VERSION_PATCH)
-#define VANECITRON_VERSION_TEXT "0.2.0"
+#define VANECITRON_VERSION_TEXT "0.3.0"
 
 /* Limits: more than these is refused. */
 #define VANECITRON_LETTERS 64u           /* the most letters of a book; at least 1 */
 #define VANECITRON_RULES 32u             /* the most rules of a book; there may be none */
 #define VANECITRON_SIDE 64u              /* the most steps of a side; at least 1 */
-#define VANECITRON_RUN 4096u             /* the most steps of a run that is compared */
+#define VANECITRON_RUN 4096u             /* the most steps of a run that is compared, or whose least run is asked for */
 #define VANECITRON_ROUND_RUN 4160u       /* the most steps of the u and the v of a single round */
 #define VANECITRON_ROUND_MARK 64u        /* the most steps of the p of a single round */
 #define VANECITRON_ALLOWANCE 4294967295u /* the most rounds that an allowance can give */
@@ -71,6 +71,9 @@ extern "C" {
 #define VANECITRON_NEXT_RUN 4224u        /* the next u and the next v of a single round */
 #define VANECITRON_NEXT_MARK 64u         /* the next p of a single round */
 #define VANECITRON_OUTPUT 110022u        /* the program's output: no input has a longer one */
+
+/* The most steps of a least run: 64 for each step of the given run. A buffer with so many bytes behind the offset is enough for every one. */
+#define VANECITRON_LEAST_MOST 262144u
 
 /* Enough stack for a call, in bytes: no measured call needs more (see "Calls" above). */
 #define VANECITRON_STACK 32768u
@@ -98,6 +101,7 @@ extern "C" {
 #define VANECITRON_NARROW 12u       /* a lent buffer is too small; place: its number: the sheet 0; next u 0, next v 1, next p 2, lowest first;
                                        the program's output 0 */
 #define VANECITRON_HEAVY 13u        /* the program's input is over its limit; place: 60000. Only printed by the program, as a line of its output */
+#define VANECITRON_NO_SPACE 14u     /* the offset lies past the buffer's end, or the least run is longer than what follows it; place: 0 */
 
 #define VANECITRON_PLACE_SPACING 5000u /* how far apart the places of the given runs lie in 9 and 10 */
 #define VANECITRON_PLACE_RUN(place) ((place) / VANECITRON_PLACE_SPACING)
@@ -134,6 +138,13 @@ typedef struct {
     uint64_t rounds;    /* how many rounds the comparison took */
 } vanecitron_compare_result;
 
+/* Of the least run. */
+typedef struct {
+    uint32_t refusal;
+    uint64_t place;
+    uint64_t length; /* the steps of the least run; 0 of a refused one and of the empty run, so look at its refusal first */
+} vanecitron_least_result;
+
 /* Of the program. */
 typedef struct {
     uint32_t refusal;
@@ -167,6 +178,10 @@ VANECITRON_AT(vanecitron_compare_result, refusal, 0);
 VANECITRON_AT(vanecitron_compare_result, place, 8);
 VANECITRON_AT(vanecitron_compare_result, outcome, 16);
 VANECITRON_AT(vanecitron_compare_result, rounds, 24);
+VANECITRON_ASSERT(least_result, sizeof(vanecitron_least_result) == 24);
+VANECITRON_AT(vanecitron_least_result, refusal, 0);
+VANECITRON_AT(vanecitron_least_result, place, 8);
+VANECITRON_AT(vanecitron_least_result, length, 16);
 VANECITRON_ASSERT(program_result, sizeof(vanecitron_program_result) == 24);
 VANECITRON_AT(vanecitron_program_result, refusal, 0);
 VANECITRON_AT(vanecitron_program_result, place, 8);
@@ -221,6 +236,22 @@ vanecitron_compare_result vanecitron_compare(
     uint32_t allowance);
 
 /*
+ * Writes the least run of a run (the specification, "The least equal run"): of all runs that a chain of exchanges joins to it, the first in dictionary
+ * order. A proper front comes before the longer run; else the first steps that differ decide: 32 to 63 come first in rising order, then 0 to 31.
+ * Two runs have the same least run exactly when a chain joins them, so that it names them all: what is filed under it is found under any of them.
+ *
+ * It is written into `buffer` from `offset` on, and its length is the answer; the bytes before and behind it are as they were. What follows the offset
+ * has room for it, or the call is refused; VANECITRON_LEAST_MOST bytes are always enough. An offset equal to the buffer's length is fine for the empty
+ * run, which is the least run of itself alone. Time grows with the number of steps, beside the check of the book.
+ * Refusals 1 to 10, 14. Those of the run have the number 0 in their places.
+ */
+vanecitron_least_result vanecitron_least(
+    const uint8_t *book, size_t book_length,
+    const uint8_t *run, size_t run_length,
+    uint8_t *buffer, size_t buffer_length,
+    size_t offset);
+
+/*
  * The whole program (the specification, "The program") from its input to what it prints: `input` holds the records of a book and then those of comparisons;
  * `output` is lent, has at least VANECITRON_OUTPUT bytes, and receives the lines, each ended by a newline. Refusals of the book, of a comparison's
  * record and of an input over VANECITRON_INPUT bytes are lines `refused N P` of the output, and not refusals of the call.
@@ -264,6 +295,7 @@ static inline const char *vanecitron_refusal_text(uint32_t refusal)
     case VANECITRON_SPENT: return "spent: another round was due and the allowance was used up";
     case VANECITRON_NARROW: return "narrow: a lent buffer is too small";
     case VANECITRON_HEAVY: return "heavy: the program's input is over its limit";
+    case VANECITRON_NO_SPACE: return "no space: the offset lies past the buffer's end, or the least run is longer than what follows it";
     default: return "a refusal that this header does not know";
     }
 }

@@ -1,5 +1,6 @@
 /*
- * Tests of what the C headers add to the archive: outcomes that no refusal has, the version, the texts of refusals, and the writer of books with its bounds.
+ * Tests of what the C headers add to the archive: outcomes that no refusal has, least runs and where they stand, the version, the texts of refusals, and
+ * the writer of books with its bounds.
  * Built and run by host/test. Each claim that fails is printed, and the program then ends with 1.
  */
 #include <stdio.h>
@@ -27,6 +28,18 @@ static const uint8_t example[] = {0x01, 0x00, 0x01, 0x00, 0x04, 0x0a, 0x00, 0x02
                                   0x00, 0x03, 0x00, 0x64, 0x00, 0x00, 0x00, 0x04, 0x00, 0x04, 0x00, 0x00, 0x01, 0x03, 0x02, 0x02, 0x00, 0x03, 0x01};
 #define Q 19u /* the bytes of the book alone */
 
+/* a refused least run says its number and place, and nothing else; its buffer is as it was */
+static void refused_least(const uint8_t *book, size_t book_length, const uint8_t *run, size_t run_length, size_t offset, uint32_t refusal, uint64_t place)
+{
+    uint8_t buffer[8];
+    memset(buffer, 0xa5, sizeof buffer);
+    vanecitron_least_result l = vanecitron_least(book, book_length, run, run_length, buffer, sizeof buffer, offset);
+    CLAIM(l.refusal == refusal && l.place == place && l.length == 0);
+    for (size_t i = 0; i < sizeof buffer; i++) {
+        CLAIM(buffer[i] == 0xa5);
+    }
+}
+
 /* what every refused comparison and round says: its number and place, and nothing else */
 static void refused(const uint8_t *book, size_t book_length, const uint8_t *u, size_t u_length, const uint8_t *v, size_t v_length, uint32_t allowance,
                     uint32_t refusal, uint64_t place)
@@ -35,6 +48,9 @@ static void refused(const uint8_t *book, size_t book_length, const uint8_t *u, s
     vanecitron_compare_result c = vanecitron_compare(book, book_length, u, u_length, v, v_length, allowance);
     CLAIM(c.refusal == refusal && c.place == place);
     CLAIM(c.outcome == VANECITRON_NONE && c.rounds == 0);
+    if (refusal != VANECITRON_SPENT && place < VANECITRON_PLACE_SPACING) {
+        refused_least(book, book_length, u, u_length, 9, refusal, place); /* not past the first run, and before the lack of space */
+    }
     if (refusal == VANECITRON_SPENT || refusal == VANECITRON_LONG) {
         return; /* a round has no allowance, and another limit */
     }
@@ -90,6 +106,30 @@ static void outcomes(void)
     CLAIM(VANECITRON_PLACE_RUN(4095) == 0 && VANECITRON_PLACE_POSITION(4095) == 4095);
 }
 
+/* the least run of each side of book Q is abdc; where it has no space, and where the empty run has */
+static void least_runs(void)
+{
+    static const uint8_t run[VANECITRON_RUN + 1], stranger[] = {0, 4};
+    for (size_t offset = 0; offset <= 4; offset++) {
+        uint8_t buffer[8], expected[8];
+        memset(buffer, 0xa5, sizeof buffer);
+        memset(expected, 0xa5, sizeof expected);
+        memcpy(expected + offset, left, sizeof left);
+        vanecitron_least_result l = vanecitron_least(example, Q, offset % 2 ? left : right, 4, buffer, sizeof buffer, offset);
+        CLAIM(l.refusal == VANECITRON_ACCEPTED && l.place == 0 && l.length == 4);
+        CLAIM(memcmp(buffer, expected, sizeof buffer) == 0);
+    }
+    refused_least(example, Q, right, 4, 5, VANECITRON_NO_SPACE, 0);
+    refused_least(example, Q, right, 4, 8, VANECITRON_NO_SPACE, 0);
+    refused_least(example, Q, right, 4, SIZE_MAX, VANECITRON_NO_SPACE, 0);
+    refused_least(example, Q, right, 0, 9, VANECITRON_NO_SPACE, 0);
+    refused_least(example, Q, run, sizeof run, 9, VANECITRON_LONG, 0);
+    refused_least(example, Q, stranger, 2, 9, VANECITRON_STRANGER, 1);
+    vanecitron_least_result l = vanecitron_least(example, Q, NULL, 0, NULL, 0, 0);
+    CLAIM(l.refusal == VANECITRON_ACCEPTED && l.place == 0 && l.length == 0);
+    CLAIM(VANECITRON_LEAST_MOST == VANECITRON_RUN * VANECITRON_SIDE);
+}
+
 static void version(void)
 {
     char text[32];
@@ -102,13 +142,13 @@ static void version(void)
 static void texts(void)
 {
     const char *unknown = vanecitron_refusal_text(UINT32_MAX);
-    for (uint32_t refusal = VANECITRON_ACCEPTED; refusal <= VANECITRON_HEAVY; refusal++) {
+    for (uint32_t refusal = VANECITRON_ACCEPTED; refusal <= VANECITRON_NO_SPACE; refusal++) {
         CLAIM(strcmp(vanecitron_refusal_text(refusal), unknown) != 0);
         for (uint32_t earlier = 0; earlier < refusal; earlier++) {
             CLAIM(strcmp(vanecitron_refusal_text(refusal), vanecitron_refusal_text(earlier)) != 0);
         }
     }
-    CLAIM(strcmp(vanecitron_refusal_text(VANECITRON_HEAVY + 1), unknown) == 0);
+    CLAIM(strcmp(vanecitron_refusal_text(VANECITRON_NO_SPACE + 1), unknown) == 0);
 }
 
 /* the example written into a buffer of this size, between guards: byte for byte where it fits, else no book at all */
@@ -164,6 +204,7 @@ static void allowances(void)
 int main(void)
 {
     outcomes();
+    least_runs();
     version();
     texts();
     writer();

@@ -29,13 +29,15 @@ static uint32_t allowance;
 
 /* what it is lent, and how much of that */
 static uint8_t sheet[VANECITRON_SHEET_MOST], next_u[VANECITRON_NEXT_RUN], next_v[VANECITRON_NEXT_RUN], next_p[VANECITRON_NEXT_MARK];
-static uint8_t output[VANECITRON_OUTPUT];
-static size_t sheet_room, next_u_room, next_v_room, next_p_room, output_room;
+static uint8_t least[VANECITRON_LEAST_MOST], output[VANECITRON_OUTPUT];
+static size_t sheet_room, next_u_room, next_v_room, next_p_room, least_room, output_room;
+static size_t offset;
 
 /* what it answers */
 static vanecitron_check_result checked;
 static vanecitron_round_result rounded;
 static vanecitron_compare_result compared;
+static vanecitron_least_result written;
 static vanecitron_program_result printed;
 
 static void nothing(void) {}
@@ -58,6 +60,11 @@ static void call_round(void)
 static void call_compare(void)
 {
     compared = vanecitron_compare(book, book_length, u, u_length, v, v_length, allowance);
+}
+
+static void call_least(void)
+{
+    written = vanecitron_least(book, book_length, u, u_length, least, least_room, offset);
 }
 
 static void call_program(void)
@@ -133,6 +140,15 @@ static void tell_compared(void)
     }
 }
 
+static void tell_written(void)
+{
+    if (tell_refusal(written.refusal, written.place)) {
+        return;
+    }
+    strcpy(answer, "least");
+    tell_run(least + offset, written.length);
+}
+
 /* the last line of the output */
 static void tell_printed(void)
 {
@@ -160,8 +176,9 @@ static struct function check = {"check", call_check, tell_checked, 0, 0};
 static struct function cut_sheet = {"cut_sheet", call_cut_sheet, tell_checked, 0, 0};
 static struct function single_round = {"round", call_round, tell_rounded, 0, 0};
 static struct function compare = {"compare", call_compare, tell_compared, 0, 0};
+static struct function least_run = {"least", call_least, tell_written, 0, 0};
 static struct function program = {"program", call_program, tell_printed, 0, 0};
-static struct function *const functions[] = {&check, &cut_sheet, &single_round, &compare, &program};
+static struct function *const functions[] = {&check, &cut_sheet, &single_round, &compare, &least_run, &program};
 static int failed;
 
 /* the bytes of a painted stack that a call has written to, from its end down to the lowest */
@@ -284,7 +301,9 @@ static void begin_call(void)
     next_u_room = sizeof next_u;
     next_v_room = sizeof next_v;
     next_p_room = sizeof next_p;
+    least_room = sizeof least;
     output_room = sizeof output;
+    offset = 0;
     allowance = VANECITRON_ALLOWANCE;
     u_length = v_length = p_length = 0;
 }
@@ -409,6 +428,36 @@ static void comparisons(void)
     }
 }
 
+/*
+ * least runs that between them go each way: steps that no rule begins with; a side that stands in full, with what follows active for the next tail, for the
+ * other one, and for none; a side kept because its tail is no possible front of what follows; and one exchanged that does not stand there in full, with
+ * the tails' own parts told apart from what follows, and not
+ */
+static void least_runs(void)
+{
+    static const char q[] = "abdc=cadb", ends[] = "acfe=bdge,em=no,gep=qr";
+    static const struct {
+        const char *rules, *u, *expected;
+    } cases[] = {
+        {"", "", "least -"},
+        {"", "ba", "least ba"},
+        {q, "cadb", "least abdc"},
+        {q, "cadbadb", "least abdabdc"},
+        {q, "cad", "least cad"},
+        {q, "cadcadb", "least cadabdc"},
+        {"ba=bcb", "bacb", "least baa"},
+        {ends, "bdge", "least acfe"},
+        {ends, "bdgno", "least acfem"},
+        {ends, "bdqr", "least acfep"},
+        {ends, "bdqs", "least bdqs"},
+    };
+    for (size_t i = 0; i < sizeof cases / sizeof cases[0]; i++) {
+        book_of(cases[i].rules);
+        runs_of(cases[i].u, "", "");
+        measure(&least_run, cases[i].expected);
+    }
+}
+
 /* rows 4 to 8 between the sides of the second rule of the full book with the longest pieces, by the lengths of the fronts of sides that u and v are */
 static void rows_of_full_book(void)
 {
@@ -443,6 +492,7 @@ static void full_calls(void (*make_book)(void), const char *next, const char *sa
     measure(&single_round, next);
     runs_through_sides(VANECITRON_RUN);
     measure(&compare, same);
+    measure(&least_run, "least 4096");
     begin_input();
     while (ask()) {
     }
@@ -484,6 +534,17 @@ static void limits(void)
     measure(&single_round, "next 4222 4222 -");
     runs_of_step(0, VANECITRON_RUN, VANECITRON_RUN, 0);
     measure_comparison("same 262144");
+
+    begin_book(5);
+    add_rule(sides[1], 1, sides[0], VANECITRON_SIDE);
+    add_rule(sides[3], 1, sides[2], VANECITRON_SIDE);
+    runs_of_step(1, VANECITRON_RUN, 0, 0);
+    measure(&least_run, "least 262144");
+    offset = 1;
+    measure(&least_run, "refused 14 0");
+    runs_of_step(1, VANECITRON_RUN - 1, 0, 0);
+    offset = VANECITRON_SIDE;
+    measure(&least_run, "least 262080");
 }
 
 /* a full book whose last rule, or the side that ends it, is at fault; the place of the rule is 4159, and the side is the last of 64 */
@@ -531,11 +592,13 @@ static void refused_runs(void)
     measure(&single_round, "refused 9 10000");
     runs_of_step(0, VANECITRON_RUN + 1, 0, 0);
     measure_comparison("refused 9 0");
+    measure(&least_run, "refused 9 0");
     runs_of_step(0, VANECITRON_RUN, VANECITRON_RUN + 1, 0);
     measure_comparison("refused 9 5000");
     runs_of("a~", "a", "a");
     measure(&single_round, "refused 10 1");
     measure_comparison("refused 10 1");
+    measure(&least_run, "refused 10 1");
     runs_of("a", "aa~", "a");
     measure(&single_round, "refused 10 5002");
     measure_comparison("refused 10 5002");
@@ -546,7 +609,7 @@ static void refused_runs(void)
     measure_comparison("refused 11 1");
 }
 
-/* refusal 12: each lent buffer one byte short */
+/* refusal 12: each lent buffer one byte short; and 14 */
 static void narrow_buffers(void)
 {
     const struct {
@@ -564,6 +627,11 @@ static void narrow_buffers(void)
         --*buffers[i].room;
         measure(buffers[i].function, buffers[i].expected);
     }
+    runs_through_sides(VANECITRON_RUN);
+    least_room = VANECITRON_RUN - 1;
+    measure(&least_run, "refused 14 0");
+    offset = SIZE_MAX;
+    measure(&least_run, "refused 14 0");
 }
 
 /* what the program alone refuses: an input over the limit, and records behind the book that are cut off, of another kind, or of a wrong length */
@@ -594,6 +662,7 @@ int main(void)
     rows();
     rows_of_full_book();
     comparisons();
+    least_runs();
     full_calls(full_random_book, "next 4098 4098 -", "same 176");
     full_calls(full_shared_book, "next 4126 4126 -", "same 1988");
     limits();

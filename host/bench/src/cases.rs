@@ -1,8 +1,9 @@
-//! The cases: worst books for the check, worst words for the comparison, and how the cost grows.
+//! The cases: worst books for the check, worst words for the comparison and for the least word, and how the cost grows.
 
 use std::cell::RefCell;
 
 use difftest::entries::{Compared, Entries, Refused, Rounded};
+use difftest::trial::LEAST;
 use gen::{books, inputs, words, Book, Chance};
 
 /// Something to run with the entries of either; the numbers it gives are only there to be equal for both.
@@ -56,6 +57,14 @@ fn compare(group: &'static str, name: impl Into<String>, book: &Book, u: Vec<u8>
     Case { group, name: name.into(), run: Box::new(move |entries| numbers(entries.compare(&bytes, &u, &v, u32::MAX), rounds)) }
 }
 
+/// The least word in a buffer that has room for every one.
+fn least(group: &'static str, name: impl Into<String>, book: &Book, word: Vec<u8>) -> Case {
+    let bytes = book.bytes();
+    let buffer = RefCell::new(vec![0; LEAST]);
+    let run = move |entries: &dyn Entries| numbers(entries.least(&bytes, &word, &mut buffer.borrow_mut(), 0), |length| length);
+    Case { group, name: name.into(), run: Box::new(run) }
+}
+
 /// Document 01's book Q.
 fn q() -> Book {
     Book::new(4, vec![vec![0, 1, 3, 2], vec![2, 0, 3, 1]])
@@ -79,6 +88,8 @@ const COMPARISONS: &str = "the comparison alone: many in one input, or far more 
 const CALLS: &str = "the comparison as one call, which checks its book";
 const GROWTH_BY_LENGTH: &str = "the comparison, by length of words";
 const GROWTH_BY_RELATIONS: &str = "the comparison, by number of relations";
+const LEASTS: &str = "the least word as one call, which checks its book";
+const GROWTH_OF_LEAST: &str = "the least word, by length of words";
 const PROGRAM: &str = "the program on 60,000 bytes";
 
 pub fn all() -> Vec<Case> {
@@ -88,6 +99,7 @@ pub fn all() -> Vec<Case> {
     sheet_and_round(&mut all, &mut chance);
     comparisons(&mut all, &mut chance);
     growth(&mut all, &mut chance);
+    least_words(&mut all, &mut chance);
     programs(&mut all, &mut chance);
     all
 }
@@ -170,6 +182,33 @@ fn growth(all: &mut Vec<Case>, chance: &mut Chance) {
         let book = books::long_random(chance, relations);
         let (word, other) = (sides(&book, 4_096), exchanged_sides(&book, 4_096));
         all.push(compare_many(GROWTH_BY_RELATIONS, format!("{relations} relations, words of 4,096"), &book, &word, &other, 7));
+    }
+}
+
+fn least_words(all: &mut Vec<Case>, chance: &mut Chance) {
+    all.push(least(LEASTS, "book Q, a word of 4", &q(), vec![2, 0, 3, 1]));
+    all.push(least(LEASTS, "book Q, sides one after the other, 4,096 letters", &q(), sides(&q(), 4_096)));
+    all.push(least(LEASTS, "the longest: 262,144 letters from 4,096", &books::longest_least(), vec![books::LONGEST_LEAST_LETTER; 4_096]));
+    all.push(least(LEASTS, "ad = de among 32 relations, a repeated 4,096 times", &books::far_sight(), vec![books::FAR_SIGHT_LETTER; 4_096]));
+    let most = books::most_rounds();
+    all.push(least(LEASTS, "the letters of most rounds, 4,096", &most, books::most_rounds_word(4_096)));
+    all.push(least(LEASTS, "the sides of most rounds, 4,096 letters", &most, sides(&most, 4_096)));
+    let periodic = books::full_periodic(&[0]);
+    all.push(least(LEASTS, "longest overlaps: sides of period 1, 4,096 letters", &periodic, sides(&periodic, 4_096)));
+    let random = books::full_random(chance, 64);
+    all.push(least(LEASTS, "random sides, 4,096 letters", &random, sides(&random, 4_096)));
+    all.push(check(GROWTH_OF_LEAST, "for measure: the check of ad = de among 32 relations alone", &books::far_sight()));
+    for n in [64, 256, 1_024, 4_096] {
+        all.push(least(
+            GROWTH_OF_LEAST,
+            format!("ad = de among 32 relations, a repeated {n} times"),
+            &books::far_sight(),
+            vec![books::FAR_SIGHT_LETTER; n],
+        ));
+    }
+    for n in [64, 256, 1_024, 4_096] {
+        let word = vec![books::LONGEST_LEAST_LETTER; n];
+        all.push(least(GROWTH_OF_LEAST, format!("the longest: {} letters from {n}", 64 * n), &books::longest_least(), word));
     }
 }
 

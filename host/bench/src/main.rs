@@ -1,10 +1,12 @@
 //! The entries beside the fast unverified version of the same design: same inputs, same process, ratios printed.
 //!
 //! `bench [PART ..] [--limit RATIO]` times the cases whose name has one of the parts in it, or all; with a limit it fails where a ratio is above it.
+//! In the groups that show how the cost grows, the last column has the time by that of the case before it in its series.
 
 mod cases;
 mod clock;
 
+use std::collections::HashMap;
 use std::process::ExitCode;
 use std::time::Duration;
 
@@ -61,6 +63,19 @@ fn shown(seconds: f64) -> String {
     }
 }
 
+/// Cases whose names differ in numbers alone are one series.
+fn series(case: &Case) -> String {
+    case.name.chars().filter(|letter| !letter.is_ascii_digit()).collect()
+}
+
+/// How a case has grown since the one before it in its series, if its group shows that.
+fn growth(before: &mut HashMap<String, f64>, case: &Case, seconds: f64) -> String {
+    match case.group.contains(", by ").then(|| before.insert(series(case), seconds)).flatten() {
+        Some(earlier) => format!("x {:.2}", seconds / earlier),
+        None => String::new(),
+    }
+}
+
 fn main() -> ExitCode {
     let (mut parts, mut limit) = (Vec::new(), f64::INFINITY);
     let mut arguments = std::env::args().skip(1);
@@ -72,8 +87,8 @@ fn main() -> ExitCode {
         }
     }
     let (fast, entries) = (Fast, chosen());
-    println!("{:<66} {:>12} {:>12} {:>7}", "case", fast.name(), entries.name(), "ratio");
-    let (mut group, mut worst) = ("", 0.0f64);
+    println!("{:<66} {:>12} {:>12} {:>7} {:>8}", "case", fast.name(), entries.name(), "ratio", "growth");
+    let (mut group, mut worst, mut before) = ("", 0.0f64, HashMap::new());
     for case in all() {
         if !parts.is_empty() && !parts.iter().any(|part| case.group.contains(&part[..]) || case.name.contains(&part[..])) {
             continue;
@@ -86,7 +101,8 @@ fn main() -> ExitCode {
         let (of_fast, of_tried) = timed(&fast, &entries, &case);
         let ratio = of_tried / of_fast;
         worst = worst.max(ratio);
-        println!("  {:<64} {:>12} {:>12} {:>7.2}", case.name, shown(of_fast), shown(of_tried), ratio);
+        let grown = growth(&mut before, &case, of_tried);
+        println!("  {:<64} {:>12} {:>12} {:>7.2} {:>8}", case.name, shown(of_fast), shown(of_tried), ratio, grown);
     }
     println!("worst ratio {worst:.2}");
     if worst > limit {

@@ -1,4 +1,4 @@
-//! What can be tried: the five entries as a trait, the fast version, and the proved library through its wrapper.
+//! What can be tried: the six entries as a trait, the fast version, and the proved library through its wrapper.
 
 /// A refusal's number and place.
 pub type Refused = (u32, u64);
@@ -18,7 +18,7 @@ pub enum Rounded {
     Next([u64; 3]),
 }
 
-/// The five entries.
+/// The six entries.
 pub trait Entries {
     fn name(&self) -> &'static str;
     /// the least size of the program's output buffer
@@ -27,6 +27,7 @@ pub trait Entries {
     fn cut_sheet(&self, book: &[u8], sheet: &mut [u8]) -> Result<u64, Refused>;
     fn round(&self, book: &[u8], words: [&[u8]; 3], next: [&mut [u8]; 3]) -> Result<Rounded, Refused>;
     fn compare(&self, book: &[u8], u: &[u8], v: &[u8], allowance: u32) -> Result<Compared, Refused>;
+    fn least(&self, book: &[u8], word: &[u8], buffer: &mut [u8], offset: usize) -> Result<u64, Refused>;
     fn program(&self, input: &[u8], output: &mut [u8]) -> Result<usize, Refused>;
 }
 
@@ -67,6 +68,10 @@ impl Entries for Fast {
             fast::Comparison::Same(rounds) => Ok(Compared::Same(rounds)),
             fast::Comparison::Different(rounds) => Ok(Compared::Different(rounds)),
         }
+    }
+
+    fn least(&self, book: &[u8], word: &[u8], buffer: &mut [u8], offset: usize) -> Result<u64, Refused> {
+        fast::least(book, word, buffer, offset).map_err(of_fast)
     }
 
     fn program(&self, input: &[u8], output: &mut [u8]) -> Result<usize, Refused> {
@@ -114,6 +119,10 @@ impl Entries for Proved {
             vanecitron::Comparison::Same { rounds } => Ok(Compared::Same(rounds)),
             vanecitron::Comparison::Different { rounds } => Ok(Compared::Different(rounds)),
         }
+    }
+
+    fn least(&self, book: &[u8], word: &[u8], buffer: &mut [u8], offset: usize) -> Result<u64, Refused> {
+        vanecitron::least_into(book, word, buffer, offset).map(|length| length as u64).map_err(of_proved)
     }
 
     fn program(&self, input: &[u8], output: &mut [u8]) -> Result<usize, Refused> {

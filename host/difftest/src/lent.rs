@@ -30,7 +30,12 @@ impl Lent {
 
     /// The first place, counted from the buffer's start, of a byte that is not as it should be: `written`, and behind it and before it what was there.
     pub fn fault(&self, written: &[u8]) -> Option<isize> {
-        let expected = |at: usize| match at.checked_sub(GUARD) {
+        self.fault_at(0, written)
+    }
+
+    /// The same for what is written at an offset.
+    pub fn fault_at(&self, offset: usize, written: &[u8]) -> Option<isize> {
+        let expected = |at: usize| match at.checked_sub(GUARD).and_then(|place| place.checked_sub(offset)) {
             Some(place) if place < written.len() => written[place],
             _ => pattern(at),
         };

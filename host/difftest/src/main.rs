@@ -8,7 +8,7 @@ use gen::Chance;
 /// A trial by name.
 type Named = (&'static str, fn(&mut Trial, &mut Chance));
 
-const TRIALS: [Named; 13] = [
+const TRIALS: [Named; 17] = [
     ("generated books", |trial, chance| trials::generated_books(trial, chance, 1_000)),
     ("damaged books", |trial, chance| trials::damaged_books(trial, chance, 1_000)),
     ("every byte", |trial, chance| trials::every_byte(trial, chance, 4)),
@@ -22,6 +22,10 @@ const TRIALS: [Named; 13] = [
     ("programs", |trial, chance| trials::programs(trial, chance, 1_000)),
     ("chains", |trial, chance| trials::chains(trial, chance, 40, 700)),
     ("classes", |trial, chance| trials::classes(trial, chance, 1_000)),
+    ("least words", |trial, chance| trials::least_words(trial, chance, 500)),
+    ("least of all words", |trial, chance| trials::least_of_all_words(trial, chance, 40, 1_000)),
+    ("least of joined words", |trial, chance| trials::least_of_joined_words(trial, chance, 40, 200, 2_000)),
+    ("least at the limits", trials::least_at_the_limits),
 ];
 
 fn main() {
@@ -37,6 +41,7 @@ fn main() {
     trials::longest_next(&mut trial);
     trials::heavy_programs(&mut trial);
     trials::two_letters(&mut trial, 9, 9);
+    trials::least_of_two_letters(&mut trial, &mut Chance::new(seed), 9, 11);
     sum.add(&trial.tally);
     while Instant::now() < end {
         for (name, run) in TRIALS {

@@ -12,9 +12,11 @@ pub struct Tally {
     /// rounds by the row that fitted
     pub rows: [u64; 9],
     /// refusals by number
-    pub refused: [u64; 14],
+    pub refused: [u64; 15],
     /// pairs of words that breadth-first search judged
     pub searched: u64,
+    /// least words: those that are the given word, that are longer, that are shorter, and others
+    pub least: [u64; 4],
 }
 
 impl Tally {
@@ -30,12 +32,17 @@ impl Tally {
         for (sum, more) in self.refused.iter_mut().zip(other.refused) {
             *sum += more;
         }
+        for (sum, more) in self.least.iter_mut().zip(other.least) {
+            *sum += more;
+        }
     }
 }
 
 impl fmt::Display for Tally {
     fn fmt(&self, f: &mut fmt::Formatter<'_>) -> fmt::Result {
         write!(f, "{} calls; books accepted {}; same {}, different {}", self.calls, self.accepted, self.same, self.different)?;
-        write!(f, "; rounds by row {:?}; refusals by number {:?}; pairs searched {}", &self.rows[1..], &self.refused[1..], self.searched)
+        write!(f, "; rounds by row {:?}; refusals by number {:?}; pairs searched {}", &self.rows[1..], &self.refused[1..], self.searched)?;
+        let [kept, longer, shorter, other] = self.least;
+        write!(f, "; least words: {kept} the given one, {longer} longer, {shorter} shorter, {other} others")
     }
 }

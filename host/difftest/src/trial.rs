@@ -1,17 +1,25 @@
 //! One call of an entry beside the reference, for each entry. A difference ends the trial with the call as it is recorded in vectors/entries.txt.
 
+use std::cmp::Ordering;
+
 use reference::{Accepted, Refusal};
 use vectors::hex;
 
-use crate::entries::{Compared, Entries, Refused, Rounded};
+use crate::entries::{Compared, Entries, Fast, Refused, Rounded};
 use crate::lent::Lent;
 use crate::tally::Tally;
 
 /// The sizes that the single round's buffers need.
 pub const NEXT: [usize; 3] = [4_224, 4_224, 64];
 
+/// The most letters of a least word.
+pub const LEAST: usize = 262_144;
+
 /// What the reference says of a book.
 pub type Known = Result<Accepted, Refusal>;
+
+/// What is known of a least word: the word itself, or the refusal of the book or of the given word.
+pub type KnownLeast = Result<Vec<u8>, Refused>;
 
 fn of_reference(refusal: Refusal) -> Refused {
     (refusal.number, refusal.place)
@@ -118,6 +126,44 @@ impl<'a> Trial<'a> {
             }
         }
         None
+    }
+
+    /// What the reference says of a least word; nothing where a chain reaches more than `most` words.
+    pub fn search_least(&mut self, known: &Known, word: &[u8], most: usize) -> Option<KnownLeast> {
+        match known {
+            Err(refusal) => Some(Err(of_reference(*refusal))),
+            Ok(accepted) => reference::entries::find_least(accepted, word, most).map_err(of_reference).transpose(),
+        }
+    }
+
+    /// The least word, which is known, at an offset of a buffer of this size.
+    pub fn least(&mut self, book: &[u8], known: &KnownLeast, word: &[u8], size: usize, offset: usize) {
+        let fits = |least: &Vec<u8>| offset <= size && least.len() <= size - offset;
+        let expected = known.as_ref().map_err(|refused| *refused).and_then(|least| if fits(least) { Ok(&least[..]) } else { Err((14, 0)) });
+        let mut lent = Lent::new(size);
+        let result = self.entries.least(book, word, lent.slice(), offset);
+        let call = || format!("least {} {} {size} {offset}", hex(book), hex(word));
+        assert_eq!(result, expected.map(|least| least.len() as u64), "{}", call());
+        assert_eq!(lent.fault_at(offset, expected.unwrap_or(&[])), None, "a byte of the buffer: {}", call());
+        self.met(&expected);
+        if let Ok(least) = expected {
+            let kind = match least.len().cmp(&word.len()) {
+                _ if least == word => 0,
+                Ordering::Greater => 1,
+                Ordering::Less => 2,
+                Ordering::Equal => 3,
+            };
+            self.tally.least[kind] += 1;
+        }
+    }
+
+    /// The least word in a buffer with room for every one, where no search could find it: the fast version is asked beside the one under trial.
+    pub fn least_in_ample_buffer(&mut self, book: &[u8], word: &[u8]) -> Vec<u8> {
+        let mut buffer = vec![0; LEAST];
+        let length = Fast.least(book, word, &mut buffer, 0).expect("an accepted book, a word under it, and room enough");
+        buffer.truncate(length as usize);
+        self.least(book, &Ok(buffer.clone()), word, LEAST, 0);
+        buffer
     }
 
     /// The program, with an output buffer of the size it needs and some bytes more; gives its lines.

@@ -2,11 +2,12 @@
 
 use std::collections::HashMap;
 
+use gen::books::{renamed, Renaming};
 use gen::{books, damage, inputs, words, Book, Chance};
 use reference::pieces::longest_tail;
 
 use crate::entries::Compared;
-use crate::trial::{Known, Trial, NEXT};
+use crate::trial::{Known, KnownLeast, Trial, LEAST, NEXT};
 
 /// A book that the reference accepts, with its bytes.
 fn accepted(chance: &mut Chance, make: fn(&mut Chance) -> Book) -> (Book, Vec<u8>, Known) {
@@ -52,6 +53,9 @@ fn every_entry(trial: &mut Trial, bytes: &[u8], known: &Known, u: &[u8], v: &[u8
     trial.cut_sheet(bytes, known, 192);
     let _ = trial.compare(bytes, known, u, v, u32::MAX);
     trial.round(bytes, known, [u, v, &[]], NEXT);
+    if let Some(least) = trial.search_least(known, u, 100) {
+        trial.least(bytes, &least, u, 40, 3);
+    }
 }
 
 /// Small books and inputs of the program cut off at every byte, and with every byte changed.
@@ -443,5 +447,162 @@ pub fn classes(trial: &mut Trial, chance: &mut Chance, cases: usize) {
             assert_eq!(same, reached.contains(&near), "{u:?} {near:?} {book:?}");
             trial.tally.searched += 3;
         }
+    }
+}
+
+/// An accepted book for least words: words are made under its first names, and renamed, so that its letters lie on both sides of the house table's middle.
+struct Ranked {
+    book: Book,
+    table: Renaming,
+    bytes: Vec<u8>,
+    known: Known,
+}
+
+impl Ranked {
+    fn new(chance: &mut Chance, make: fn(&mut Chance) -> Book) -> Ranked {
+        let (book, _, _) = accepted(chance, make);
+        Ranked::of(book, books::renaming(chance))
+    }
+
+    fn of(book: Book, table: Renaming) -> Ranked {
+        let bytes = book.renamed(&table).bytes();
+        let known = reference::accept(&bytes);
+        assert!(known.is_ok(), "names do not matter to the check: {book:?}");
+        Ranked { book, table, bytes, known }
+    }
+}
+
+const RANKED_KINDS: [fn(&mut Chance) -> Book; 5] = [books::any, books::few_letters, books::overlapping, books::linked, books::tangled];
+
+/// Least words by breadth-first search over whole classes, in buffers of every size near theirs, at offsets from the start to one past the end; and strangers.
+pub fn least_words(trial: &mut Trial, chance: &mut Chance, cases: usize) {
+    for case in 0..cases {
+        let ranked = Ranked::new(chance, RANKED_KINDS[case % RANKED_KINDS.len()]);
+        for _ in 0..4 {
+            let mut word = renamed(&words::pair(chance, &ranked.book, 40).0, &ranked.table);
+            if let Some(least) = trial.search_least(&ranked.known, &word, 300) {
+                least_in_many_buffers(trial, &ranked.bytes, &least, &word);
+            }
+            if !word.is_empty() && chance.once_in(4) {
+                let at = chance.below(word.len());
+                word[at] = chance.between(64, 255) as u8;
+                trial.least(&ranked.bytes, &Err((10, at as u64)), &word, chance.below(50), chance.below(60));
+            }
+        }
+    }
+}
+
+/// A least word in buffers that have its length, up to three bytes less or more, at the offsets 0, in the middle, at the end, one past it, and as far as can be.
+fn least_in_many_buffers(trial: &mut Trial, bytes: &[u8], least: &KnownLeast, word: &[u8]) {
+    let length = least.as_ref().map_or(0, Vec::len);
+    for size in length.saturating_sub(3)..=length + 3 {
+        for offset in [0, size - length.min(size), size / 2, size, size + 1, usize::MAX] {
+            trial.least(bytes, least, word, size, offset);
+        }
+    }
+    for (before, behind) in [(1, 0), (7, 2), (40, 0), (0, 40)] {
+        trial.least(bytes, least, word, before + length + behind, before);
+    }
+}
+
+/// Least words of all words of a length and below under small books, for about `count` words each.
+pub fn least_of_all_words(trial: &mut Trial, chance: &mut Chance, cases: usize, count: usize) {
+    let kinds = [books::small, small_marked];
+    for case in 0..cases {
+        let ranked = Ranked::new(chance, kinds[case % kinds.len()]);
+        let most = length_for(ranked.book.letters, count);
+        least_of_words_up_to(trial, &ranked, most);
+    }
+}
+
+/// The same under the first books of one relation over two letters, up to a length of the longer side, with the letters in either order.
+pub fn least_of_two_letters(trial: &mut Trial, chance: &mut Chance, most: usize, words_of: usize) {
+    for n in 1..=most {
+        for book in books::of_two_letters(n).filter(|book| reference::accept(&book.bytes()).is_ok()).take(26) {
+            let mut table = books::renaming(chance);
+            for _ in 0..2 {
+                table.swap(0, 1);
+                least_of_words_up_to(trial, &Ranked::of(book.clone(), table), words_of);
+            }
+        }
+    }
+}
+
+/// All words of at most so many letters; those of one class have one least word, which one search finds for them all.
+fn least_of_words_up_to(trial: &mut Trial, ranked: &Ranked, most: usize) {
+    let sides = ranked.known.as_ref().expect("accepted").words();
+    let mut least_of: HashMap<Vec<u8>, Vec<u8>> = HashMap::new();
+    for word in all_words(ranked.book.letters, most) {
+        let word = renamed(&word, &ranked.table);
+        if !least_of.contains_key(&word) {
+            let class = reference::chains::reached(&sides, &word, 1_000_000).expect("few words are reached");
+            let least = class.iter().min_by(|a, b| reference::least::order(a, b)).expect("the word itself").clone();
+            least_of.extend(class.into_iter().map(|word| (word, least.clone())));
+        }
+        let least = least_of[&word].clone();
+        let size = least.len();
+        trial.least(&ranked.bytes, &Ok(least), &word, size, 0);
+        trial.tally.searched += 1;
+    }
+}
+
+/// Words that many exchanges join have one least word, which is the least word of itself and joined to them;
+/// and two words compare 'same' just where their least words are equal.
+pub fn least_of_joined_words(trial: &mut Trial, chance: &mut Chance, cases: usize, most: usize, exchanges: usize) {
+    for case in 0..cases {
+        let Ranked { book, table, bytes, known } = Ranked::new(chance, RANKED_KINDS[case % RANKED_KINDS.len()]);
+        let u = words::linked(chance, &book, most);
+        let v = words::exchanged(chance, &book, &u, exchanges, 2 * most);
+        let [u, v] = [u, v].map(|word| renamed(&word, &table));
+        let least = trial.least_in_ample_buffer(&bytes, &u);
+        assert_eq!(trial.least_in_ample_buffer(&bytes, &v), least, "{u:?} {v:?} {book:?}");
+        assert!(reference::least::order(&least, &u).is_le() && reference::least::order(&least, &v).is_le(), "{u:?} {v:?} {book:?}");
+        if least.len() <= 2 * most {
+            assert_eq!(trial.least_in_ample_buffer(&bytes, &least), least, "{least:?} {book:?}");
+            assert!(matches!(trial.compare(&bytes, &known, &u, &least, u32::MAX), Ok(Compared::Same(_))), "{u:?} {least:?} {book:?}");
+        }
+        for _ in 0..4 {
+            let (u, v) = words::pair(chance, &book, most);
+            let [u, v] = [u, v].map(|word| renamed(&word, &table));
+            let same = matches!(trial.compare(&bytes, &known, &u, &v, u32::MAX), Ok(Compared::Same(_)));
+            let equal = trial.least_in_ample_buffer(&bytes, &u) == trial.least_in_ample_buffer(&bytes, &v);
+            assert_eq!(same, equal, "{u:?} {v:?} {book:?}");
+        }
+    }
+}
+
+/// Least words at the limits: the longest of all, with just enough room and a byte less; those that depend on the last letter of the longest word;
+/// words that are too long; full books.
+pub fn least_at_the_limits(trial: &mut Trial, chance: &mut Chance) {
+    let book = books::longest_least();
+    let bytes = book.bytes();
+    for n in [1, 1_000, 4_096] {
+        let word = vec![books::LONGEST_LEAST_LETTER; n];
+        let known = Ok(book.words[1].repeat(n));
+        for (size, offset) in [(64 * n, 0), (64 * n - 1, 0), (64 * n + 5, 5), (64 * n + 5, 6), (LEAST, LEAST - 64 * n)] {
+            trial.least(&bytes, &known, &word, size, offset);
+        }
+    }
+    for over in [4_097, 5_000, 70_000] {
+        trial.least(&bytes, &Err((9, 0)), &vec![255; over], 0, 1);
+    }
+    let bytes = books::far_sight().bytes();
+    let (d, a, e) = (0, books::FAR_SIGHT_LETTER, 2);
+    let long = vec![a; 4_095];
+    let exchanged = [&[d][..], &[e; 4_095]].concat();
+    for (last, least) in [(a, None), (e, None), (d, Some(exchanged))] {
+        let word = [&long[..], &[last]].concat();
+        trial.least(&bytes, &Ok(least.unwrap_or_else(|| word.clone())), &word, 4_096, 0);
+    }
+    for number in 0..7 {
+        let book = books::at_the_limits(chance, number);
+        let bytes = book.bytes();
+        let mut u = words::of_sides(chance, &book, 4_096);
+        while u.len() < 4_000 {
+            words::overlap(&mut u, chance.pick(&book.words).as_slice());
+        }
+        u.truncate(4_096);
+        let v = words::exchanged(chance, &book, &u, 6, 4_096);
+        assert_eq!(trial.least_in_ample_buffer(&bytes, &u), trial.least_in_ample_buffer(&bytes, &v), "book {number} at the limits");
     }
 }

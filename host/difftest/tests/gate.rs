@@ -90,3 +90,29 @@ fn classes() {
     let tally = tried(15, |trial, chance| trials::classes(trial, chance, 2_000));
     assert!(tally.same > 1_000 && tally.different > 100);
 }
+
+#[test]
+fn least_words() {
+    let tally = tried(17, |trial, chance| trials::least_words(trial, chance, 500));
+    assert!(tally.least.iter().all(|&met| met > 500) && tally.refused[10] > 100 && tally.refused[14] > 2_000);
+}
+
+#[test]
+fn least_of_all_words() {
+    let tally = tried(18, |trial, chance| trials::least_of_all_words(trial, chance, 60, 800));
+    assert!(tally.least.iter().all(|&met| met > 100) && tally.searched > 10_000);
+    tried(19, |trial, chance| trials::least_of_two_letters(trial, chance, 8, 9));
+}
+
+#[test]
+fn least_of_joined_words() {
+    let tally = tried(20, |trial, chance| trials::least_of_joined_words(trial, chance, 100, 120, 1_000));
+    assert!(tally.same > 200 && tally.different > 50);
+    tried(21, |trial, chance| trials::least_of_joined_words(trial, chance, 5, 400, 5_000));
+}
+
+#[test]
+fn least_at_the_limits() {
+    let tally = tried(22, trials::least_at_the_limits);
+    assert!(tally.refused[9] > 2 && tally.refused[14] > 5);
+}

@@ -37,6 +37,11 @@ fn answer(entries: &dyn Entries, call: &Call) -> String {
                 Err(refusal) => refused(refusal),
             }
         }
+        Call::Least { book, word, size, offset } => {
+            let mut buffer = vec![0xaa; *size];
+            let length = entries.least(book, word, &mut buffer, *offset);
+            length.map_or_else(refused, |length| format!("least {length} {}", hex(&buffer[*offset..][..length as usize])))
+        }
     }
 }
 
@@ -121,6 +126,33 @@ fn bench_cases_of_comparisons() {
     for (rules, u, v, allowance, expected) in cases {
         assert_eq!(compared(chosen().compare(&book(rules), &word(u), &word(v), allowance)), expected, "{u} {v} under {rules}");
     }
+}
+
+#[test]
+fn bench_cases_of_least_runs() {
+    let q = "abdc = cadb";
+    let cases = [
+        ("", "dcba", "dcba"),
+        ("a = b", "bcabd", "acaad"),
+        (q, "", ""),
+        (q, "abdc", "abdc"),
+        (q, "cadb", "abdc"),
+        (q, "cadbadb", "abdabdc"),
+        (q, "abdcadb", "abdabdc"),
+        (q, "cadcadb", "cadabdc"),
+        ("ba = bcb", "bacb", "baa"),
+        ("a = bcdc", "bcdcbcdca", "aaa"),
+        ("b = acdc", "bab", "acdcaacdc"),
+    ];
+    for (rules, run, expected) in cases {
+        let mut buffer = [0; 16];
+        let length = chosen().least(&book(rules), &word(run), &mut buffer, 0).expect("room enough");
+        assert_eq!(buffer[..length as usize], word(expected), "{run} under {rules}");
+    }
+    // the house table: 31 is the last of all, 32 the first
+    let pair = Book::new(64, vec![vec![31], vec![32]]).bytes();
+    let mut buffer = [0; 2];
+    assert_eq!((chosen().least(&pair, &[31, 32], &mut buffer, 0), buffer), (Ok(2), [32, 32]));
 }
 
 #[test]

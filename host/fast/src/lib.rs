@@ -2,16 +2,18 @@
 //!
 //! All relation words lie in one text, word number i followed by its fence, the code 64 + i. One row of common fronts, updated in place, gives the
 //! longest piece that starts at each place of the text; C(4) and the cuts are read off that table. A comparison finds relation words by an index and
-//! holds each of its words as a part of the text followed by the rest of a given word, in three numbers, and copies nothing.
+//! holds each of its words as a part of the text followed by the rest of a given word, in three numbers, and copies nothing; so does the least word.
 //!
 //! Document 01's words: a step is a letter, a run a word, a side a relation word, a rule a relation, a book a presentation.
 
 mod index;
+mod least;
 mod pieces;
 mod program;
 mod reader;
 mod rounds;
 
+pub use least::least;
 pub use program::{program, OUTPUT};
 pub use rounds::{compare, round, Comparison, RoundEnd};
 

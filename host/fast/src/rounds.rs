@@ -5,16 +5,16 @@ use crate::reader::Laid;
 use crate::{accept, refuse, Refusal};
 
 /// Most letters of a compared word, of the round's u and v, and of its p; the least sizes of the three lent buffers.
-const COMPARED: usize = 4_096;
+pub const COMPARED: usize = 4_096;
 const ROUND_WORD: usize = 4_160;
 const ROUND_MARK: usize = 64;
 const NEXT: [usize; 3] = [4_224, 4_224, 64];
 
 /// A word in two parts, one behind the other.
 #[derive(Clone, Copy)]
-struct Parts<'a> {
-    a: &'a [u8],
-    b: &'a [u8],
+pub struct Parts<'a> {
+    pub a: &'a [u8],
+    pub b: &'a [u8],
 }
 
 impl<'a> Parts<'a> {
@@ -24,12 +24,12 @@ impl<'a> Parts<'a> {
     }
 
     #[inline]
-    fn first(self) -> Option<u8> {
+    pub fn first(self) -> Option<u8> {
         self.a.first().or(self.b.first()).copied()
     }
 
     #[inline]
-    fn begins(self, front: &[u8]) -> bool {
+    pub fn begins(self, front: &[u8]) -> bool {
         if front.len() <= self.a.len() {
             return &self.a[..front.len()] == front;
         }
@@ -39,7 +39,7 @@ impl<'a> Parts<'a> {
 
     /// The word without its first n letters; it has as many.
     #[inline]
-    fn skip(self, n: usize) -> Parts<'a> {
+    pub fn skip(self, n: usize) -> Parts<'a> {
         if n <= self.a.len() {
             Parts { a: &self.a[n..], b: self.b }
         } else {
@@ -65,13 +65,13 @@ enum Plan {
 }
 
 /// What every round works on.
-struct Ready {
-    laid: Laid,
+pub struct Ready {
+    pub laid: Laid,
     index: Index,
 }
 
 impl Ready {
-    fn new(book: &[u8]) -> Result<Ready, Refusal> {
+    pub fn new(book: &[u8]) -> Result<Ready, Refusal> {
         let mut laid = Laid::empty();
         accept(book, &mut laid)?;
         let index = Index::new(&laid);
@@ -80,7 +80,7 @@ impl Ready {
 
     /// Some XY stands in the word at a place from lo on and below hi.
     #[inline]
-    fn crowded(&self, u: Parts, lo: usize, hi: usize) -> bool {
+    pub fn crowded(&self, u: Parts, lo: usize, hi: usize) -> bool {
         (lo..hi).any(|q| {
             let rest = u.skip(q);
             self.index.find(&self.laid, rest.a, rest.b).is_some()
@@ -89,7 +89,7 @@ impl Ready {
 
     /// The relation word whose XY is a clean front of u. At most one XY begins u, clean or not.
     #[inline]
-    fn clean_front(&self, u: Parts) -> Option<usize> {
+    pub fn clean_front(&self, u: Parts) -> Option<usize> {
         let i = self.index.find(&self.laid, u.a, u.b)?;
         let side = &self.laid.sides[i];
         let (x, xy) = ((side.x_end - side.start) as usize, (side.z_start - side.start) as usize);
@@ -187,15 +187,15 @@ impl Ready {
 
 /// A word of a comparison: the text from `at` to `to`, then the given word from `from` on.
 #[derive(Clone, Copy, Default)]
-struct Held {
-    at: usize,
-    to: usize,
-    from: usize,
+pub struct Held {
+    pub at: usize,
+    pub to: usize,
+    pub from: usize,
 }
 
 impl Held {
     #[inline]
-    fn parts<'a>(self, text: &'a [u8], given: &'a [u8]) -> Parts<'a> {
+    pub fn parts<'a>(self, text: &'a [u8], given: &'a [u8]) -> Parts<'a> {
         Parts { a: &text[self.at..self.to], b: &given[self.from..] }
     }
 
@@ -210,9 +210,15 @@ impl Held {
         Held { at: change.from, to: change.to, from: self.from + change.cut - tail }
     }
 
+    /// The word without its first n letters; it has as many.
+    #[inline]
+    pub fn skip(self, n: usize) -> Held {
+        self.advance(Change { cut: n, ..Change::default() })
+    }
+
     /// The word without its first letter, which it has.
     #[inline]
-    fn drop_first(self) -> Held {
+    pub fn drop_first(self) -> Held {
         if self.at < self.to {
             Held { at: self.at + 1, ..self }
         } else {
@@ -222,7 +228,7 @@ impl Held {
 }
 
 /// 9 and then 10 of one given word.
-fn check_word(word: &[u8], number: usize, limit: usize, letters: u8) -> Result<(), Refusal> {
+pub fn check_word(word: &[u8], number: usize, limit: usize, letters: u8) -> Result<(), Refusal> {
     if word.len() > limit {
         return refuse(9, 5_000 * number);
     }

@@ -1,4 +1,4 @@
-//! Agrees with the reference on generated books, words, rounds, damage and program inputs, and on the recorded vectors.
+//! Agrees with the reference on generated books, words, rounds, least words, damage and program inputs, and on the recorded vectors.
 
 use gen::{books, damage, inputs, words, Chance};
 use vectors::Call;
@@ -50,6 +50,18 @@ fn round(book: &[u8], accepted: &reference::Accepted, state: [&[u8]; 3]) -> Opti
     Some(two)
 }
 
+/// The least word at an offset of a buffer, if the class has few words. The answer, and every byte of the buffer, are as they should be.
+fn least(book: &[u8], accepted: &reference::Accepted, word: &[u8], offset: usize, spare: isize) -> Option<Vec<u8>> {
+    let least = reference::least::least_word(&accepted.words(), word, 300)?;
+    let room = (offset + least.len()).saturating_add_signed(spare);
+    let mut one = vec![170; room];
+    let mut two = one.clone();
+    let expected = reference::entries::write_at(&least, &mut two, offset).map_err(theirs);
+    assert_eq!(fast::least(book, word, &mut one, offset).map_err(ours), expected, "{book:?} {word:?}");
+    assert_eq!(one, two, "{book:?} {word:?}");
+    Some(least)
+}
+
 fn program(input: &[u8]) {
     let mut output = vec![0; fast::OUTPUT];
     let length = fast::program(input, &mut output).expect("room enough");
@@ -98,6 +110,48 @@ fn on_rounds_with_marks() {
         }
     }
     assert!(next > 5_000, "{next} rounds went on");
+}
+
+#[test]
+fn on_least_words() {
+    let mut chance = Chance::new(6);
+    let kinds = [books::any, books::few_letters, books::overlapping, books::linked, books::tangled, books::small];
+    let (mut longer, mut shorter, mut kept) = (0, 0, 0);
+    for case in 0..6_000 {
+        let book = kinds[case % kinds.len()](&mut chance);
+        let table = books::renaming(&mut chance);
+        let bytes = book.renamed(&table).bytes();
+        let Some(accepted) = check(&bytes) else { continue };
+        for _ in 0..4 {
+            let word = books::renamed(&words::pair(&mut chance, &book, 40).0, &table);
+            let (offset, spare) = (chance.below(9), chance.below(5) as isize - 1);
+            let Some(least) = least(&bytes, &accepted, &word, offset, spare) else { continue };
+            longer += (least.len() > word.len()) as usize;
+            shorter += (least.len() < word.len()) as usize;
+            kept += (least == word) as usize;
+        }
+    }
+    assert!(longer > 1_000 && shorter > 1_000 && kept > 1_000, "{longer} longer, {shorter} shorter, {kept} kept");
+}
+
+#[test]
+fn on_refused_least_words() {
+    let refused = |book: &[u8], word: &[u8], room: usize, offset: usize| {
+        let (mut one, mut two) = (vec![170; room], vec![170; room]);
+        let expected = reference::least(book, word, &mut two, offset).map_err(theirs);
+        assert_eq!(fast::least(book, word, &mut one, offset).map_err(ours), expected, "{book:?} {word:?} {room} {offset}");
+        assert_eq!(one, two);
+        expected.is_err()
+    };
+    let mut chance = Chance::new(7);
+    for _ in 0..2_000 {
+        let book = books::any(&mut chance);
+        let bytes = damage::damaged(&mut chance, &book.bytes());
+        refused(&bytes, &[book.letters], 3, 4);
+    }
+    let q = books::Book::new(4, vec![vec![0, 1, 3, 2], vec![2, 0, 3, 1]]).bytes();
+    assert!(refused(&q, &[0; 4_097], 0, 1) && refused(&q, &[0, 4], 0, 1) && refused(&q, &[2, 0, 3, 1], 4, 1) && refused(&q, &[], 4, 5));
+    assert!(!refused(&q, &[], 4, 4) && !refused(&q, &[0; 4_096], 4_096, 0));
 }
 
 #[test]
@@ -153,7 +207,7 @@ fn on_recorded_vectors() {
         program(&run.input);
     }
     for recorded in vectors::calls() {
-        let (Call::Compare { book, .. } | Call::Sheet { book, .. } | Call::Round { book, .. }) = &recorded.call;
+        let book = recorded.call.book();
         sheet(book);
         let Some(accepted) = check(book) else { continue };
         match &recorded.call {
@@ -161,6 +215,12 @@ fn on_recorded_vectors() {
                 assert_eq!(compare(book, &accepted, u, v, *allowance), recorded.answer.starts_with("same"), "{}", recorded.line)
             }
             Call::Round { words, .. } => drop(round(book, &accepted, words.each_ref().map(|word| &word[..]))),
+            Call::Least { word, size, offset, .. } => {
+                let mut buffer = vec![170; *size];
+                let length = fast::least(book, word, &mut buffer, *offset).map_err(ours);
+                let answer = length.map(|length| format!("least {length} {}", vectors::hex(&buffer[*offset..][..length as usize])));
+                assert_eq!(answer.unwrap_or_else(|(number, place)| format!("refused {number} {place}")), recorded.answer, "{}", recorded.line)
+            }
             Call::Sheet { .. } => {}
         }
     }

@@ -28,6 +28,28 @@ impl Book {
         }
         bytes
     }
+
+    /// The same book with its letters renamed, among 64.
+    pub fn renamed(&self, table: &Renaming) -> Book {
+        Book::new(64, self.words.iter().map(|word| renamed(word, table)).collect())
+    }
+}
+
+/// Other codes for the letters: a code for each from 0 to 63, none twice.
+pub type Renaming = [u8; 64];
+
+/// A renaming at random, so that few letters lie anywhere among the 64.
+pub fn renaming(chance: &mut Chance) -> Renaming {
+    let mut table: Renaming = std::array::from_fn(|code| code as u8);
+    for i in (1..64).rev() {
+        table.swap(i, chance.below(i + 1));
+    }
+    table
+}
+
+/// A word with its letters renamed.
+pub fn renamed(word: &[u8], table: &Renaming) -> Vec<u8> {
+    word.iter().map(|&code| table[code as usize]).collect()
 }
 
 /// A record of kind 1.
@@ -160,6 +182,27 @@ pub fn linked(chance: &mut Chance) -> Book {
     with_own_letters(chance, common, relations, |chance, own| [&chance.pick(&stock)[..], &[own], &chance.pick(&stock)[..]].concat())
 }
 
+/// As `linked`, with more relations, middles that have a front or end inside them, and fronts that both sides of a relation have in common often:
+/// whether a side can be exchanged depends on what follows it, over many sides.
+pub fn tangled(chance: &mut Chance) -> Book {
+    let common = chance.between(1, 3) as u8;
+    let relations = chance.between(1, 5);
+    let length = chance.between(1, 2);
+    let end = chance.word(length, common);
+    let count = chance.between(1, 4);
+    let mut stock: Vec<Vec<u8>> = chance.words(count, 0, 3, common).into_iter().map(|front| [front, end.clone()].concat()).collect();
+    if chance.once_in(2) {
+        stock.push(Vec::new());
+    }
+    let fronts: Vec<Vec<u8>> = (0..relations).map(|_| chance.pick(&stock).clone()).collect();
+    with_own_letters(chance, common, relations, |chance, own| {
+        let shared = &fronts[(own - common) as usize / 2];
+        let front = if chance.once_in(2) { shared } else { chance.pick(&stock) };
+        let middle = if chance.once_in(3) { [&[own], &chance.pick(&stock)[..], &[own]].concat() } else { vec![own] };
+        [&front[..], &middle, &chance.pick(&stock)[..]].concat()
+    })
+}
+
 /// One or two short relations over two to six letters, for breadth-first search.
 pub fn small(chance: &mut Chance) -> Book {
     let letters = chance.between(2, 6) as u8;
@@ -231,6 +274,25 @@ pub fn most_rounds() -> Book {
 pub fn most_rounds_word(n: usize) -> Vec<u8> {
     (0..n).map(|i| 2 * (i % 31) as u8).collect()
 }
+
+/// 32 relations, one of which is `ad = de` with d before a: whether the a of a run can be exchanged depends on all that follows it.
+/// Those who look ahead anew at each step of `a` repeated take as many steps as there are pairs of letters.
+pub fn far_sight() -> Book {
+    let [d, a, e] = [0, 1, 2];
+    let others = own_letters(62, 3);
+    Book::new(64, [vec![a, d], vec![d, e]].into_iter().chain(others.iter().map(|own| own.to_vec())).collect())
+}
+
+/// The letter of `far_sight` that is repeated.
+pub const FAR_SIGHT_LETTER: u8 = 1;
+
+/// The book with the longest least words: a letter and a side of 64 that comes before it, so that the least word of n such letters has 64 n.
+pub fn longest_least() -> Book {
+    Book::new(3, vec![vec![LONGEST_LEAST_LETTER], [&[0], &[2; 63][..]].concat()])
+}
+
+/// The letter of `longest_least` that is repeated.
+pub const LONGEST_LEAST_LETTER: u8 = 1;
 
 /// 31 relations whose sides have long middles that begin alike, so that each test for a clean front tries many places.
 pub fn long_middles(chance: &mut Chance) -> Book {

@@ -98,6 +98,11 @@ impl Accepted {
     pub fn relations(&self) -> usize {
         self.cuts.len() / 2
     }
+
+    /// The relation words, uncut.
+    pub fn words(&self) -> Vec<Word> {
+        self.cuts.iter().map(|cut| cut.xyz().to_vec()).collect()
+    }
 }
 
 /// Reads a book and checks it: 1 to 6 record by record, then 7 over the whole book, then 8.

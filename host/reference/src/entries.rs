@@ -1,10 +1,11 @@
-//! The entries over slices: check, cut sheet, single round, comparison (document 01, with the order of refusals that it fixes).
+//! The entries over slices: check, cut sheet, single round, comparison, least word (document 01, with the order of refusals that it fixes).
 
 use crate::book::{accept, Accepted};
+use crate::least::least_word;
 use crate::rows::{self, Answer, Next};
-use crate::{refuse, Refusal};
+use crate::{refuse, Refusal, Word};
 
-/// The most letters of a word that is compared.
+/// The most letters of a word that is compared, and of one whose least word is asked for.
 pub const COMPARED: usize = 4_096;
 /// The most letters of the single round's u and v.
 pub const ROUND_WORD: usize = 4_160;
@@ -98,4 +99,30 @@ pub fn compare_under(book: &Accepted, u: &[u8], v: &[u8], allowance: u32) -> Res
         Answer::Different(count) => Ok(Comparison::Different(count)),
         Answer::Spent(done) => refuse(11, done as usize),
     }
+}
+
+/// Writes the least word of a word under a book at an offset of a lent buffer, and gives its length.
+pub fn least(book: &[u8], word: &[u8], buffer: &mut [u8], offset: usize) -> Result<u64, Refusal> {
+    least_under(&accept(book)?, word, buffer, offset)
+}
+
+/// The same under a book that is accepted already.
+pub fn least_under(book: &Accepted, word: &[u8], buffer: &mut [u8], offset: usize) -> Result<u64, Refusal> {
+    let least = find_least(book, word, usize::MAX)?.expect("a search without a limit ends");
+    write_at(&least, buffer, offset)
+}
+
+/// 9 and 10 of the word, and then its least word; none where a chain reaches more than `most` words.
+pub fn find_least(book: &Accepted, word: &[u8], most: usize) -> Result<Option<Word>, Refusal> {
+    check_word(word, 0, COMPARED, book.letters)?;
+    Ok(least_word(&book.words(), word, most))
+}
+
+/// Writes a least word at an offset: 14 where the offset lies past the buffer's end, or the word is longer than what follows the offset.
+pub fn write_at(least: &[u8], buffer: &mut [u8], offset: usize) -> Result<u64, Refusal> {
+    if offset > buffer.len() || least.len() > buffer.len() - offset {
+        return refuse(14, 0);
+    }
+    buffer[offset..offset + least.len()].copy_from_slice(least);
+    Ok(least.len() as u64)
 }

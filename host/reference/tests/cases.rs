@@ -1,9 +1,12 @@
-//! The bench cases of document 01, the presentations of document 000, section 1, each refusal number, and chains on small cases.
+//! The bench cases of document 01, the presentations of document 000, section 1, each refusal number, and chains and least words on small cases.
 //! The answers are worked out from the papers.
 
+use std::cmp::Ordering::{Equal, Greater, Less};
+
 use reference::chains::{exchanges, reached};
+use reference::least::{order, rank};
 use reference::pieces::{cuts, is_loose, longest_tail, pieces};
-use reference::{check, compare, cut_sheet, program, round, Comparison, Refusal, RoundEnd};
+use reference::{check, compare, cut_sheet, least, program, round, Comparison, Refusal, RoundEnd};
 use Comparison::{Different, Same};
 
 /// The codes of a word written with the letters from a on.
@@ -286,4 +289,96 @@ fn the_rounds_agree_with_the_chains() {
             }
         }
     }
+}
+
+/// The least word in a buffer of `room` bytes, filled with 170, at an offset; with the whole buffer after it.
+fn least_in(bytes: &[u8], run: &[u8], room: usize, offset: usize) -> (Result<u64, Refusal>, Vec<u8>) {
+    let mut buffer = vec![170; room];
+    let length = least(bytes, run, &mut buffer, offset);
+    (length, buffer)
+}
+
+/// The least word, in a buffer with room enough.
+fn least_of(bytes: &[u8], run: &[u8]) -> Vec<u8> {
+    let (length, mut buffer) = least_in(bytes, run, 1_000, 0);
+    buffer.truncate(length.expect("room enough") as usize);
+    buffer
+}
+
+#[test]
+fn the_house_table_ranks_cleaning_steps_first() {
+    assert_eq!([32, 33, 63, 0, 1, 31].map(rank), [0, 1, 31, 32, 33, 63]);
+    assert_eq!(order(&[], &[32]), Less);
+    assert_eq!(order(&[0, 32], &[0, 31]), Less);
+    assert_eq!(order(&[0], &[63]), Greater);
+    assert_eq!(order(&[5, 0], &[5]), Greater);
+    assert_eq!(order(&[5, 0, 9], &[5, 0, 9]), Equal);
+}
+
+#[test]
+fn least_words_of_small_books() {
+    // no rules: every word is alone
+    for text in ["", "a", "dcba"] {
+        assert_eq!(least_of(&head(4), &word(text)), word(text));
+    }
+    // a = b: every b becomes an a
+    assert_eq!(least_of(&book(4, &[("a", "b")]), &word("bcabd")), word("acaad"));
+    // Q: cadb becomes abdc; cadbadb, abdcadb and abdabdc are one class
+    assert_eq!(least_of(&q(), &word("abdc")), word("abdc"));
+    assert_eq!(least_of(&q(), &word("cadb")), word("abdc"));
+    for text in ["cadbadb", "abdcadb", "abdabdc"] {
+        assert_eq!(least_of(&q(), &word(text)), word("abdabdc"));
+    }
+    // ba = bcb: one class of four
+    for text in ["bacb", "bcbcb", "bcba", "baa"] {
+        assert_eq!(least_of(&book(3, &[("ba", "bcb")]), &word(text)), word("baa"));
+    }
+    // a = bcde: the short side comes first
+    let short = book(5, &[("a", "bcde")]);
+    assert_eq!(least_of(&short, &word("bcdebcdeabcde")), word("aaaa"));
+    // b = acde: the long side comes first
+    assert_eq!(least_of(&book(5, &[("b", "acde")]), &word("bab")), word("acdeaacde"));
+}
+
+#[test]
+fn least_words_at_the_bounds_of_the_table() {
+    let pair = |left: u8, right: u8| [head(64), rule(&[left], &[right])].concat();
+    // 31 is the last of all and 32 the first
+    assert_eq!(least_of(&pair(31, 32), &[31, 32, 31]), [32, 32, 32]);
+    assert_eq!(least_of(&pair(32, 33), &[33, 32]), [32, 32]);
+    assert_eq!(least_of(&pair(30, 31), &[31, 30]), [30, 30]);
+    assert_eq!(least_of(&pair(0, 63), &[0, 63]), [63, 63]);
+    assert_eq!(least_of(&pair(0, 31), &[31, 0]), [0, 0]);
+}
+
+#[test]
+fn least_words_keep_to_their_part_of_the_buffer() {
+    let abdc = word("abdc");
+    assert_eq!(least_in(&q(), &word("cadb"), 4, 0), (Ok(4), abdc.clone()));
+    assert_eq!(least_in(&q(), &word("cadb"), 9, 3), (Ok(4), [&[170; 3][..], &abdc, &[170; 2]].concat()));
+    assert_eq!(least_in(&q(), &word("cadb"), 7, 3), (Ok(4), [&[170; 3][..], &abdc].concat()));
+    // one byte short, by the buffer and by the offset
+    assert_eq!(least_in(&q(), &word("cadb"), 3, 0), (refused(14, 0), vec![170; 3]));
+    assert_eq!(least_in(&q(), &word("cadb"), 7, 4), (refused(14, 0), vec![170; 7]));
+    assert_eq!(least_in(&q(), &word("cadb"), 7, 8), (refused(14, 0), vec![170; 7]));
+    assert_eq!(least_in(&q(), &word("cadb"), 7, usize::MAX), (refused(14, 0), vec![170; 7]));
+    // the empty word has room at the end, and none past it
+    assert_eq!(least_in(&q(), &[], 0, 0), (Ok(0), vec![]));
+    assert_eq!(least_in(&q(), &[], 5, 5), (Ok(0), vec![170; 5]));
+    assert_eq!(least_in(&q(), &[], 5, 6), (refused(14, 0), vec![170; 5]));
+    assert_eq!(least_in(&q(), &[], 0, 1), (refused(14, 0), vec![]));
+    // room is judged by the least word: the word itself would fit, or would not
+    assert_eq!(least_in(&book(5, &[("b", "acde")]), &word("b"), 3, 0).0, refused(14, 0));
+    assert_eq!(least_in(&book(5, &[("a", "bcde")]), &word("bcde"), 1, 0).0, Ok(1));
+}
+
+#[test]
+fn least_words_are_refused_in_the_order_of_the_paper() {
+    // the book comes first, then the word, and room last
+    assert_eq!(least_in(&[], &[9], 0, 1).0, refused(1, 0));
+    assert_eq!(least_in(&book(4, &[("a", "aa")]), &[9], 0, 1).0, refused(8, 0));
+    assert_eq!(least_in(&q(), &vec![9; 4_097], 0, 1).0, refused(9, 0));
+    assert_eq!(least_in(&q(), &[0, 1, 4], 0, 1).0, refused(10, 2));
+    assert_eq!(least_in(&q(), &[0, 1, 3], 0, 1).0, refused(14, 0));
+    assert_eq!(least_in(&q(), &vec![0; 4_096], 4_096, 0).0, Ok(4_096));
 }

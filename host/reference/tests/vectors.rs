@@ -1,6 +1,6 @@
 //! Every recorded call and every recorded input of the program.
 
-use reference::{compare, cut_sheet, program, round, Comparison, Refusal, RoundEnd};
+use reference::{compare, cut_sheet, least, program, round, Comparison, Refusal, RoundEnd};
 use vectors::{hex, Call};
 
 fn refused(refusal: Refusal) -> String {
@@ -29,6 +29,11 @@ fn answer(call: &Call) -> String {
                 }
                 Err(refusal) => refused(refusal),
             }
+        }
+        Call::Least { book, word, size, offset } => {
+            let mut buffer = vec![0xaa; *size];
+            least(book, word, &mut buffer, *offset)
+                .map_or_else(refused, |length| format!("least {length} {}", hex(&buffer[*offset..][..length as usize])))
         }
     }
 }

@@ -2,7 +2,7 @@
 
 use std::error::Error;
 
-use vanecitron::{ample_allowance, check, compare, cut_sheet, cut_sheet_into, program, round, BookWriter, BOOK, SHEET};
+use vanecitron::{ample_allowance, check, compare, cut_sheet, cut_sheet_into, least, least_into, program, round, BookWriter, BOOK, SHEET};
 
 fn main() -> Result<(), Box<dyn Error>> {
     // abdc and cadb over four letters
@@ -23,6 +23,15 @@ fn main() -> Result<(), Box<dyn Error>> {
     match compare(book, &u, &v, 1) {
         Err(refusal) => println!("with an allowance of 1: {refusal}"),
         Ok(answer) => println!("with an allowance of 1: {answer:?}"),
+    }
+
+    println!("least runs: {:?} and {:?}", least(book, &u)?, least(book, &v)?);
+    let mut filed = [9; 8];
+    let length = least_into(book, &v, &mut filed, 3)?;
+    println!("at an offset of 3: {length} steps in {filed:?}");
+    match least_into(book, &v, &mut filed, 5) {
+        Err(refusal) => println!("at an offset of 5: {refusal}"),
+        Ok(length) => println!("at an offset of 5: {length}"),
     }
 
     writer.comparison(100, &u, &v)?;

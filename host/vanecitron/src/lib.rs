@@ -1,5 +1,5 @@
-//! Safe Rust functions over the proved library: the C(4) check of a book, its cut sheet, the comparison of two runs, one single round of it, and the
-//! whole program as bytes to bytes.
+//! Safe Rust functions over the proved library: the C(4) check of a book, its cut sheet, the comparison of two runs, one single round of it, the least
+//! run that exchanges make of a run, and the whole program as bytes to bytes.
 //!
 //! A step is a byte below the book's number of letters; a run is a slice of steps; a rule has two sides, which are runs. A book is given as bytes
 //! (docs/SPECIFICATION.md, "Book bytes"), which [`BookWriter`] writes.
@@ -45,7 +45,7 @@ mod refusal;
 
 pub use book::{BookWriter, NoRoom, BOOK};
 #[cfg(feature = "alloc")]
-pub use owned::{cut_sheet, program, round, Cut, Round};
+pub use owned::{cut_sheet, least, program, round, Cut, Round};
 pub use refusal::{Place, Reason, Refusal, Run, PLACE_SPACING};
 
 /// The most letters of a book.
@@ -54,7 +54,7 @@ pub const LETTERS: usize = 64;
 pub const RULES: usize = 32;
 /// The most steps of a side.
 pub const SIDE: usize = 64;
-/// The most steps of a run that is compared.
+/// The most steps of a run that is compared, or whose least run is asked for.
 pub const RUN: usize = 4_096;
 /// The most steps of the single round's u and v.
 pub const ROUND_RUN: usize = 4_160;
@@ -68,6 +68,8 @@ pub const SHEET: usize = 192;
 pub const NEXT_RUN: usize = 4_224;
 /// The least size of the buffer lent for the next p.
 pub const NEXT_MARK: usize = 64;
+/// The most steps of a least run, 64 for each step of the given run: a buffer with so many bytes behind the offset is enough for every one.
+pub const LEAST: usize = 262_144;
 /// The most bytes of the program's input.
 pub const INPUT: usize = 60_000;
 /// The least size of the buffer lent for the program's output.
@@ -173,6 +175,27 @@ pub fn round_into(
         raw::NEXT => Ok(RoundLengths::Next { u: result.u_length as usize, v: result.v_length as usize, p: result.p_length as usize }),
         other => another_archive(other),
     }
+}
+
+/// Writes the least run of a run into the buffer from the offset on, and gives its length: of all runs that a chain of exchanges joins to it, the first in
+/// dictionary order. A proper front comes before the longer run; else the first steps that differ decide: 32 to 63 come first in rising order, then 0 to 31.
+/// Two runs have the same least run exactly when a chain joins them. The bytes before and behind it are untouched; [`LEAST`] bytes are always enough room.
+///
+/// ```
+/// use vanecitron::{least_into, Reason};
+///
+/// // a = b over two letters; the least run of bab is aaa
+/// let book = [1, 0, 1, 0, 2, 4, 0, 2, 0, 1, 1, 0, 1];
+/// let mut buffer = [9; 6];
+/// assert_eq!(least_into(&book, &[1, 0, 1], &mut buffer, 2)?, 3);
+/// assert_eq!(buffer, [9, 9, 0, 0, 0, 9]);
+/// assert_eq!(least_into(&book, &[1, 0, 1], &mut buffer, 4).unwrap_err().reason, Reason::NoSpace);
+/// # Ok::<(), vanecitron::Refusal>(())
+/// ```
+pub fn least_into(book: &[u8], run: &[u8], buffer: &mut [u8], offset: usize) -> Result<usize, Refusal> {
+    let result = raw::least(book, run, buffer, offset);
+    refusal::none(result.refusal, result.place)?;
+    Ok(result.length as usize)
 }
 
 /// Writes the program's whole output for an input and gives its length. The buffer has at least [`OUTPUT`] bytes.

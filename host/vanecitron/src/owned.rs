@@ -3,7 +3,7 @@
 use alloc::vec;
 use alloc::vec::Vec;
 
-use crate::{cut_sheet_into, program_into, round_into, Refusal, RoundLengths, NEXT_MARK, NEXT_RUN, OUTPUT, SHEET};
+use crate::{cut_sheet_into, least_into, program_into, round_into, Refusal, RoundLengths, NEXT_MARK, NEXT_RUN, OUTPUT, RUN, SHEET, SIDE};
 
 /// The lengths of the three parts of a side: X, its longest front that is a piece, Z, its longest end that is a piece, and Y, the rest.
 #[derive(Debug, Clone, Copy, PartialEq, Eq, Hash)]
@@ -61,6 +61,28 @@ pub fn round(book: &[u8], u: &[u8], v: &[u8], p: &[u8]) -> Result<Round, Refusal
             Ok(Round::Next { u: next_u, v: next_v, p: next_p })
         }
     }
+}
+
+/// The least run of a run, as [`least_into`] writes it.
+///
+/// ```
+/// use vanecitron::{least, BookWriter, BOOK};
+///
+/// // four letters, and the rule abdc = cadb: cadbadb and abdcadb have the least run abdabdc
+/// let mut bytes = [0; BOOK];
+/// let mut book = BookWriter::new(&mut bytes, 4)?;
+/// book.rule(&[0, 1, 3, 2], &[2, 0, 3, 1])?;
+/// assert_eq!(least(book.bytes(), &[2, 0, 3, 1, 0, 3, 1])?, [0, 1, 3, 0, 1, 3, 2]);
+/// assert_eq!(least(book.bytes(), &[0, 1, 3, 2, 0, 3, 1])?, [0, 1, 3, 0, 1, 3, 2]);
+/// assert_eq!(least(book.bytes(), &[])?, []);
+/// # Ok::<(), Box<dyn std::error::Error>>(())
+/// ```
+pub fn least(book: &[u8], run: &[u8]) -> Result<Vec<u8>, Refusal> {
+    // no step comes to more than a side's; a run over its limit is refused
+    let mut least = vec![0; SIDE * run.len().min(RUN)];
+    let length = least_into(book, run, &mut least, 0)?;
+    least.truncate(length);
+    Ok(least)
 }
 
 /// The program's whole output for an input.

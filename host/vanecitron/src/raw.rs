@@ -36,6 +36,14 @@ pub struct CompareResult {
     pub rounds: u64,
 }
 
+/// Of the least run.
+#[repr(C)]
+pub struct LeastResult {
+    pub refusal: u32,
+    pub place: u64,
+    pub length: u64,
+}
+
 /// Of the program.
 #[repr(C)]
 pub struct ProgramResult {
@@ -63,6 +71,10 @@ const _: () = {
     assert!(offset_of!(CompareResult, place) == 8);
     assert!(offset_of!(CompareResult, outcome) == 16);
     assert!(offset_of!(CompareResult, rounds) == 24);
+    assert!(size_of::<LeastResult>() == 24);
+    assert!(offset_of!(LeastResult, refusal) == 0);
+    assert!(offset_of!(LeastResult, place) == 8);
+    assert!(offset_of!(LeastResult, length) == 16);
     assert!(size_of::<ProgramResult>() == 24);
     assert!(offset_of!(ProgramResult, refusal) == 0);
     assert!(offset_of!(ProgramResult, place) == 8);
@@ -98,6 +110,15 @@ extern "C" {
         v_length: usize,
         allowance: u32,
     ) -> CompareResult;
+    fn vanecitron_least(
+        book: *const u8,
+        book_length: usize,
+        run: *const u8,
+        run_length: usize,
+        buffer: *mut u8,
+        buffer_length: usize,
+        offset: usize,
+    ) -> LeastResult;
     fn vanecitron_program(input: *const u8, input_length: usize, output: *mut u8, output_length: usize) -> ProgramResult;
 }
 
@@ -144,6 +165,11 @@ pub fn round(book: &[u8], u: &[u8], v: &[u8], p: &[u8], next_u: &mut [u8], next_
 pub fn compare(book: &[u8], u: &[u8], v: &[u8], allowance: u32) -> CompareResult {
     // SAFETY: as said above
     unsafe { vanecitron_compare(book.as_ptr(), book.len(), u.as_ptr(), u.len(), v.as_ptr(), v.len(), allowance) }
+}
+
+pub fn least(book: &[u8], run: &[u8], buffer: &mut [u8], offset: usize) -> LeastResult {
+    // SAFETY: as said above
+    unsafe { vanecitron_least(book.as_ptr(), book.len(), run.as_ptr(), run.len(), buffer.as_mut_ptr(), buffer.len(), offset) }
 }
 
 pub fn program(input: &[u8], output: &mut [u8]) -> ProgramResult {

@@ -35,12 +35,14 @@ pub enum Reason {
     Narrow,
     /// 13: the program's input is over its limit
     Heavy,
+    /// 14: the offset lies past the buffer's end, or the least run is longer than what follows it
+    NoSpace,
     /// a number that this version does not know
     Other(u32),
 }
 
 /// Each reason with the specification's word for it and an explanation, by number from 1 on; the C header has the same.
-const KNOWN: [(Reason, &str, &str); 13] = [
+const KNOWN: [(Reason, &str, &str); 14] = [
     (Reason::Short, "short", "the bytes end inside a record, or there is no book"),
     (Reason::Kind, "kind", "the first record is no head, or a later one is no rule"),
     (Reason::Length, "length", "a record's length does not fit it"),
@@ -54,6 +56,7 @@ const KNOWN: [(Reason, &str, &str); 13] = [
     (Reason::Spent, "spent", "another round was due and the allowance was used up"),
     (Reason::Narrow, "narrow", "a lent buffer is too small"),
     (Reason::Heavy, "heavy", "the program's input is over its limit"),
+    (Reason::NoSpace, "no space", "the offset lies past the buffer's end, or the least run is longer than what follows it"),
 ];
 
 impl Reason {
@@ -111,7 +114,7 @@ pub enum Place {
     Step { run: Run, position: usize },
     /// Reason 11: the rounds done.
     Rounds(u64),
-    /// Reason 12: the buffer that is too small, counted from 0 in the order of the call.
+    /// Reasons 12 and 14: the buffer that is too small, counted from 0 in the order of the call; where 14 applies there is but one.
     Buffer(usize),
     /// Reason 13: the most bytes of an input.
     Limit(usize),
@@ -135,7 +138,7 @@ impl Place {
             (Reason::Long, Some(run)) => Place::Run(run),
             (Reason::Stranger, Some(run)) => Place::Step { run, position },
             (Reason::Spent, _) => Place::Rounds(place),
-            (Reason::Narrow, _) => Place::Buffer(number),
+            (Reason::Narrow | Reason::NoSpace, _) => Place::Buffer(number),
             (Reason::Heavy, _) => Place::Limit(number),
             (Reason::Long | Reason::Stranger | Reason::Other(_), _) => Place::Other(place),
         }

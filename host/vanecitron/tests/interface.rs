@@ -1,6 +1,6 @@
-//! What the wrapper adds to the archive: typed places and reasons, and the writer of books with its bounds.
+//! What the wrapper adds to the archive: typed places and reasons, the writer of books with its bounds, and room enough for a least run.
 
-use vanecitron::{check, BookWriter, NoRoom, Place, Reason, Run, BOOK, RULES, SIDE};
+use vanecitron::{check, least, least_into, BookWriter, NoRoom, Place, Reason, Run, BOOK, LEAST, RULES, RUN, SIDE};
 
 /// Book Q and the comparison abdc, cadb with the allowance 100, as the specification writes their bytes ("The program").
 const EXAMPLE: [u8; 39] = [
@@ -66,7 +66,7 @@ fn reasons_and_places_have_their_numbers() {
     for number in 0..40 {
         let reason = Reason::from_number(number);
         assert_eq!(reason.number(), number);
-        assert_eq!(matches!(reason, Reason::Other(_)), !(1..=13).contains(&number), "{number}");
+        assert_eq!(matches!(reason, Reason::Other(_)), !(1..=14).contains(&number), "{number}");
         for place in [0, 1, 4_999, 5_000, 5_003, 10_000, 10_063, 15_000, 60_000, u64::MAX] {
             // the place of 9 is the start of a run
             if reason != Reason::Long || place % 5_000 == 0 {
@@ -81,5 +81,54 @@ fn reasons_and_places_have_their_numbers() {
     assert_eq!(Place::from_number(Reason::Spent, 7), Place::Rounds(7));
     assert_eq!(Place::from_number(Reason::Narrow, 2), Place::Buffer(2));
     assert_eq!(Place::from_number(Reason::Heavy, 60_000), Place::Limit(60_000));
-    assert_eq!(Place::from_number(Reason::Other(14), 7), Place::Other(7));
+    assert_eq!(Place::from_number(Reason::NoSpace, 0), Place::Buffer(0));
+    assert_eq!(Place::from_number(Reason::Other(15), 7), Place::Other(7));
+}
+
+/// Book Q is the front of the example.
+const Q: &[u8] = EXAMPLE.split_at(19).0;
+
+#[test]
+fn a_least_run_stands_at_its_offset() {
+    let cadb = [2, 0, 3, 1];
+    for offset in 0..9 {
+        let mut buffer = [0xa5; 8];
+        let result = least_into(Q, &cadb, &mut buffer, offset);
+        if offset <= 4 {
+            assert_eq!(result, Ok(4));
+            assert_eq!(buffer[offset..offset + 4], [0, 1, 3, 2]);
+            buffer[offset..offset + 4].fill(0xa5);
+        } else {
+            let refusal = result.unwrap_err();
+            assert_eq!((refusal.reason, refusal.place), (Reason::NoSpace, Place::Buffer(0)));
+        }
+        assert_eq!(buffer, [0xa5; 8]);
+    }
+    assert_eq!(least_into(Q, &[], &mut [], 0), Ok(0));
+    let refusal = least_into(Q, &[], &mut [], 1).unwrap_err();
+    let text = "no space: the offset lies past the buffer's end, or the least run is longer than what follows it (buffer 0)";
+    assert_eq!(refusal.to_string(), text);
+}
+
+#[test]
+fn refusals_of_a_run_are_of_the_first() {
+    let refusal = |run: &[u8]| least(Q, run).unwrap_err();
+    assert_eq!((refusal(&[0, 4]).reason, refusal(&[0, 4]).place), (Reason::Stranger, Place::Step { run: Run::U, position: 1 }));
+    let long = vec![0; RUN + 1];
+    assert_eq!((refusal(&long).reason, refusal(&long).place), (Reason::Long, Place::Run(Run::U)));
+    assert_eq!(least(&[], &[9]).unwrap_err().reason, Reason::Short);
+}
+
+/// One step is exchanged for 64, as often as there are steps.
+#[test]
+fn the_longest_least_run_has_room() {
+    let mut side = [2; SIDE];
+    side[0] = 0;
+    let mut bytes = [0; BOOK];
+    let mut book = BookWriter::new(&mut bytes, 3).unwrap();
+    book.rule(&[1], &side).unwrap();
+    let longest = least(book.bytes(), &[1; RUN]).unwrap();
+    assert_eq!(longest.len(), LEAST);
+    assert!(longest.chunks(SIDE).all(|part| part == side));
+    assert_eq!(least_into(book.bytes(), &[1; RUN], &mut vec![0; LEAST - 1], 0).unwrap_err().reason, Reason::NoSpace);
 }

@@ -1,4 +1,5 @@
-//! The recorded calls of the entries (`entries.txt`) and the recorded inputs and outputs of the program (`program/`), as tests read them.
+//! The recorded calls of the entries (`entries.txt`, and `least.txt` of least words) and the recorded inputs and outputs of the program (`program/`), as
+//! tests read them.
 //! Their answers are written down, so no implementation has a part in this crate.
 
 use std::fs;
@@ -9,9 +10,18 @@ pub enum Call {
     Compare { book: Vec<u8>, u: Vec<u8>, v: Vec<u8>, allowance: u32 },
     Sheet { book: Vec<u8>, size: usize },
     Round { book: Vec<u8>, words: [Vec<u8>; 3], sizes: [usize; 3] },
+    Least { book: Vec<u8>, word: Vec<u8>, size: usize, offset: usize },
 }
 
-/// A line of entries.txt: the call, and the answer as it is written there.
+impl Call {
+    /// The bytes of the book, which every call has.
+    pub fn book(&self) -> &[u8] {
+        let (Call::Compare { book, .. } | Call::Sheet { book, .. } | Call::Round { book, .. } | Call::Least { book, .. }) = self;
+        book
+    }
+}
+
+/// A line of recorded calls: the call, and the answer as it is written there.
 pub struct Recorded {
     pub line: String,
     pub call: Call,
@@ -27,9 +37,14 @@ pub struct Run {
 
 /// All recorded calls.
 pub fn calls() -> Vec<Recorded> {
-    let text = fs::read_to_string(directory().join("entries.txt")).expect("the recorded calls");
+    [calls_of("entries.txt", 381), calls_of("least.txt", 148)].into_iter().flatten().collect()
+}
+
+/// The recorded calls of a file that has so many.
+fn calls_of(name: &str, count: usize) -> Vec<Recorded> {
+    let text = fs::read_to_string(directory().join(name)).expect("the recorded calls");
     let calls: Vec<Recorded> = text.lines().map(recorded).collect();
-    assert_eq!(calls.len(), 381, "recorded calls");
+    assert_eq!(calls.len(), count, "recorded calls of {name}");
     calls
 }
 
@@ -77,6 +92,7 @@ fn recorded(line: &str) -> Recorded {
         "compare" => Call::Compare { book, u: word(2), v: word(3), allowance: fields[4].parse().expect("an allowance") },
         "sheet" => Call::Sheet { book, size: number(2) },
         "round" => Call::Round { book, words: [2, 3, 4].map(word), sizes: [5, 6, 7].map(number) },
+        "least" => Call::Least { book, word: word(2), size: number(3), offset: number(4) },
         other => panic!("no entry {other}"),
     };
     Recorded { line: line.to_string(), call, answer: answer.to_string() }
