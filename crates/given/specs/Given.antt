@@ -25,6 +25,10 @@ abbrev pub onGiven : {A : Type 0} → Given → (Refusal → A) → A → A
 onGiven Fine stop next = next
 onGiven (Refused r) stop next = stop r
 
+-- the word whose least congruent word is asked for
+abbrev pub oneOf : ℕ → Word → Given
+oneOf letters u = givenOf 0 comparedMost letters u
+
 -- the two words of a comparison
 unfoldable pub pairOf : ℕ → Word → Word → Given
 pairOf letters u v = onGiven (givenOf 0 comparedMost letters u) Refused (givenOf 1 comparedMost letters v)

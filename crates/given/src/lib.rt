@@ -2,7 +2,7 @@
 ghost use mathlib.Core.Path.{_≡_};
 ghost use Prim.Native.Nat.{_≤_};
 ghost use lib.ListN.{length};
-ghost use Rattle.given.specs.Given.{givenOf, pairOf, tripleOf, Widened};
+ghost use Rattle.given.specs.Given.{givenOf, oneOf, pairOf, tripleOf, Widened};
 use limits::MadeWord;
 use limits::Word;
 use refusals::Refusal;
@@ -30,6 +30,13 @@ fn check_word(number: u8, most: usize, letters: u8, word: &[u8]) -> Given
         return Given::Refused(Refusal::Stranger(number, at as u16));
     }
     Given::Fine
+}
+
+// The word whose least congruent word is asked for.
+pub fn check_one(letters: u8, u: &[u8]) -> Given
+    ensures { λ r. ⌜ r ≡ oneOf letters (now (u .entry)) ⌝ }
+{
+    check_word(0, Word::COMPARED, letters, u)
 }
 
 // The two words of a comparison, in turn.

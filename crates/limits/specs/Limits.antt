@@ -68,6 +68,10 @@ nextRoom = 4224
 abbrev pub markMost : ℕ
 markMost = 64
 
+-- the letters of a least word are at most
+abbrev pub leastMost : ℕ
+leastMost = 262144
+
 -- the step of the places of refusals 9 and 10
 abbrev pub placeSpacing : ℕ
 placeSpacing = 5000
@@ -94,12 +98,12 @@ wordOf most letters = cond (ltb most letters) Words.Long (Words.Good (record { l
 unfoldable pub inputOf : ℕ → MadeInput
 inputOf bytes = cond (ltb inputMost bytes) Inputs.Heavy (Inputs.Good (record { length = bytes }))
 
--- the numbers of the definitions, as the code gives its constants: of the head, of every record, of a relation; of the words of comparisons and rounds; of the
--- program's input
+-- the numbers of the definitions, as the code gives its constants: of the head, of every record, of a relation; of the words of comparisons and rounds, and of
+-- least words; of the program's input
 abbrev pub fixedAmounts : List ℕ
 fixedAmounts =
     headKind ∷ headLength ∷ lettersMost
     ∷ recordPrefix
     ∷ relationKind ∷ relationLength ∷ relationsMost ∷ sideMost
-    ∷ comparisonKind ∷ comparisonLength ∷ comparedMost ∷ allowanceMost ∷ roundMost ∷ nextRoom ∷ markMost ∷ placeSpacing
+    ∷ comparisonKind ∷ comparisonLength ∷ comparedMost ∷ allowanceMost ∷ roundMost ∷ nextRoom ∷ markMost ∷ leastMost ∷ placeSpacing
     ∷ inputMost ∷ []

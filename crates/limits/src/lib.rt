@@ -108,6 +108,9 @@ impl Word {
     // The most letters of the front mark, and the room that a round asks for the next one.
     pub const MARK: usize = 64;
 
+    // The most letters of a least word: as many as a relation word has, for each letter of a word that is given.
+    pub const LEAST: usize = 262144;
+
     // The most rounds that an allowance can give; its field has four bytes.
     pub const ALLOWANCE: usize = 4294967295;
 
@@ -149,7 +152,7 @@ impl Input {
 }
 
 // The constants are the numbers that the definitions write again, in the order of specs/Limits.antt.
-pub fn fixed_amounts() -> [usize; 17]
+pub fn fixed_amounts() -> [usize; 18]
     ensures { λ r. ⌜ r ≡ fixedAmounts ⌝ }
 {
     [
@@ -168,6 +171,7 @@ pub fn fixed_amounts() -> [usize; 17]
         Word::ROUND,
         Word::NEXT,
         Word::MARK,
+        Word::LEAST,
         Word::SPACING,
         Input::MOST,
     ]

@@ -3,9 +3,9 @@ use Prim.Native.Nat.{_+_, _*_}
 use Rattle.limits.specs.Limits.{placeSpacing, inputMost}
 use Rattle.refusals.specs.declared.Numbered.{Numbered}
 use Rattle.refusals.specs.declared.Refusal.{Refusal}
-use Rattle.refusals.specs.declared.Refusal.the-variants.{Short, Kind, Length, Range, UnknownLetter, TooMany, Repeated, Loose, Long, Stranger, Spent, Narrow, Heavy}
+use Rattle.refusals.specs.declared.Refusal.the-variants.{Short, Kind, Length, Range, UnknownLetter, TooMany, Repeated, Loose, Long, Stranger, Spent, Narrow, Heavy, NoSpace}
 
--- the number and the place of each case, in the order of the table
+-- the number and the place of each case, in the order of the table; 14 is of document 02
 abbrev pub numberAndPlace : Refusal → Numbered
 numberAndPlace (Short at) = record { number = 1; place = at }
 numberAndPlace (Kind at) = record { number = 2; place = at }
@@ -20,3 +20,4 @@ numberAndPlace (Stranger word position) = record { number = 10; place = placeSpa
 numberAndPlace (Spent rounds) = record { number = 11; place = rounds }
 numberAndPlace (Narrow buffer) = record { number = 12; place = buffer }
 numberAndPlace Heavy = record { number = 13; place = inputMost }
+numberAndPlace NoSpace = record { number = 14; place = 0 }

@@ -33,6 +33,8 @@ pub enum Refusal {
     Narrow(usize),
     // The program's input is over its limit.
     Heavy,
+    // A lent buffer has no space for a least word behind the offset (document 02: no space).
+    NoSpace,
 }
 
 // A refusal as document 01 writes it.
@@ -97,6 +99,10 @@ pub fn number_and_place(refusal: Refusal) -> Numbered
         Refusal::Heavy => Numbered {
             number: 13,
             place: Input::MOST,
+        },
+        Refusal::NoSpace => Numbered {
+            number: 14,
+            place: 0,
         },
     }
 }
