@@ -2,3 +2,4 @@ pub mod Laws
 pub mod Theorems
 pub mod Rooms
 pub mod Sheets
+pub mod LeastWords

@@ -11,6 +11,8 @@ use Rattle.answers.specs.declared.Round.{Round}
 use Rattle.answers.specs.declared.Round.the-variants as Rounds
 use Rattle.answers.specs.declared.Printed.{Printed}
 use Rattle.answers.specs.declared.Printed.the-variants as Prints
+use Rattle.answers.specs.declared.Least.{Least}
+use Rattle.answers.specs.declared.Least.the-variants as Leasts
 
 pub data Answer : Type 0 where
   -- a book is accepted, with its number of relations (document 01: rules)
@@ -22,7 +24,7 @@ pub data Answer : Type 0 where
   -- a comparison's end, with the count of rounds
   same : ℕ → Answer
   different : ℕ → Answer
-  -- the program's output is written, with its length
+  -- something is written, with its length: the program's output, or a least word
   wrote : ℕ → Answer
   -- a refusal's number and place
   refused : ℕ → ℕ → Answer
@@ -48,3 +50,7 @@ ofComparison (Comparisons.Refused r) = refusal r
 abbrev pub ofPrinted : Printed → Answer
 ofPrinted (Prints.Wrote n) = wrote n
 ofPrinted (Prints.Refused r) = refusal r
+
+abbrev pub ofLeast : Least → Answer
+ofLeast (Leasts.Wrote n) = wrote n
+ofLeast (Leasts.Refused r) = refusal r

@@ -1,11 +1,12 @@
--- What is owed of the entries, said of their answers in the words of the papers: of the check and of the cut sheet (demand 2) and of the comparison (demand 3).
+-- What is owed of the entries, said of their answers in the words of the papers: of the check and of the cut sheet (demand 2), of the comparison (demand 3) and of
+-- the least word (document 02, request 1).
 -- Demand 1 (safety, refusals, lent buffers) has no record here: every function's check and the equalities with specs/Entries.antt are its statement.
 use Prim.Native.Nat.{ℕ, _+_, _*_, _<_, _≤_}
 use mathlib.Core.Bool.{Bool}
 use mathlib.Core.List.{List, [], _++_}
 use mathlib.Core.Logic.{_↔_, _⊎_}
 use mathlib.Core.Path.{_≡_}
-use lib.ListN.{length, getD}
+use lib.ListN.{length, getD, take, drop}
 use Rattle.words.specs.Words.{Word}
 use Rattle.words.specs.Relations.{Relation, relationWords}
 use Rattle.overlap.specs.Pieces.{word, IsPiece, C4}
@@ -14,12 +15,15 @@ use Rattle.overlap.specs.Maximal.{MaximalPiecePrefix, MaximalPieceSuffix}
 use Rattle.overlap.specs.Verdict.{IsRepeated, FewPieces, Lowest, Distinct}
 use Rattle.congruence.specs.Congruence.{Congruent}
 use Rattle.congruence.specs.Rounds.{Rounds}
+use Rattle.least.specs.Order.{houseRank}
+use Rattle.least.specs.Least.{LeastWord}
+use Rattle.limits.specs.Limits.{leastMost}
 use Rattle.format.specs.Book.{Presentation, BookReading, readBook}
 use Rattle.presentation.specs.Loading.{loadBook}
 use Rattle.given.specs.declared.Given.the-variants as Words
-use Rattle.given.specs.Given.{pairOf}
-use Rattle.answers.specs.Answers.{Answer, accepted, same, different, refused}
-use Rattle.answers.specs.Entries.{checkOf, SheetOutcome, sheetOf, compareOf}
+use Rattle.given.specs.Given.{oneOf, pairOf}
+use Rattle.answers.specs.Answers.{Answer, accepted, same, different, wrote, refused}
+use Rattle.answers.specs.Entries.{checkOf, SheetOutcome, sheetOf, compareOf, LeastOutcome, leastOf}
 
 -- demand 2, of a book that is well formed and within the limits: it is accepted exactly when it meets C(4); else it is refused by 7 at the lowest
 -- relation word that equals an earlier one, or by 8 at the lowest that is a product of three or fewer pieces
@@ -85,3 +89,41 @@ pub record Compared (book : List ℕ) (u v : Word) (allowance : ℕ) (answer : A
   pub is : answer ≡ compareOf book u v allowance
   pub decides : (presentation : Presentation) → loadBook book ≡ BookReading.read presentation → pairOf (presentation .letters) u v ≡ Words.Fine
       → Decides (relationWords (presentation .relations)) u v allowance answer
+
+-- request 1, of a word w, a lent buffer and an offset, where there is room: the answer is the length of w, the bytes from the offset on are w, and the buffer's
+-- length and all other bytes are the old ones
+pub record Placed (w : Word) (old : List ℕ) (offset : ℕ) (outcome : LeastOutcome) : Type 0 where
+  pub buffer : List ℕ
+  pub is : outcome ≡ LeastOutcome.after (wrote (length w)) buffer
+  pub there : (j : ℕ) → j < length w → getD buffer (offset + j) 0 ≡ getD w j 0
+  pub kept : length buffer ≡ length old
+  pub before : (j : ℕ) → j < offset → getD buffer j 0 ≡ getD old j 0
+  pub behind : (j : ℕ) → offset + length w ≤ j → getD buffer j 0 ≡ getD old j 0
+
+-- of a word u under relation words B: the least word that is congruent to u, of which there is one and only one, is in the buffer from the offset on, exactly when
+-- there is room for it; else 14 and the old buffer
+pub record WritesLeast (B : List Word) (u : Word) (old : List ℕ) (offset : ℕ) (outcome : LeastOutcome) : Type 0 where
+  pub word : Word
+  pub least : LeastWord B houseRank u word
+  pub only : (w : Word) → LeastWord B houseRank u w → w ≡ word
+  pub roomy : offset + length word ≤ length old → Placed word old offset outcome
+  pub narrow : length old < offset + length word → outcome ≡ LeastOutcome.after (refused 14 0) old
+  pub short : length word ≤ leastMost
+
+-- of every accepted book and every word that is fine
+abbrev pub LeastWritten : Type 0
+LeastWritten = (book : List ℕ) (u : Word) (old : List ℕ) (offset : ℕ) (presentation : Presentation) → loadBook book ≡ BookReading.read presentation
+    → oneOf (presentation .letters) u ≡ Words.Fine → WritesLeast (relationWords (presentation .relations)) u old offset (leastOf book u old offset)
+
+-- the bytes that a call which answers with a length has written: so many, from its offset on
+abbrev pub writtenBytes : ℕ → ℕ → List ℕ → Word
+writtenBytes n offset buffer = take n (drop offset buffer)
+
+-- of an accepted book and two words that are fine, of which each least word found room: a comparison that is allowed the rounds that it can need says 'same'
+-- exactly when what was written for the one word is what was written for the other
+abbrev pub LeastDecides : Type 0
+LeastDecides = (book : List ℕ) (u v : Word) (presentation : Presentation) → loadBook book ≡ BookReading.read presentation → pairOf (presentation .letters) u v ≡ Words.Fine
+    → (old : List ℕ) (offset m : ℕ) (buffer : List ℕ) → leastOf book u old offset ≡ LeastOutcome.after (wrote m) buffer
+    → (old′ : List ℕ) (offset′ m′ : ℕ) (buffer′ : List ℕ) → leastOf book v old′ offset′ ≡ LeastOutcome.after (wrote m′) buffer′
+    → (allowance : ℕ) → (longestSuffixPiece (relationWords (presentation .relations)) + 1) * length u ≤ allowance
+    → ((rounds : ℕ) × (compareOf book u v allowance ≡ same rounds)) ↔ (writtenBytes m offset buffer ≡ writtenBytes m′ offset′ buffer′)

@@ -1,22 +1,25 @@
 -- What each entry answers and leaves in its lent buffers, for every input whatever. Refusals come in the order of document 01, "Refusals by number".
-use Prim.Native.Nat.{ℕ, _*_}
-use mathlib.Core.Bool.{cond}
-use mathlib.Core.List.{List}
+use Prim.Native.Nat.{ℕ, _*_, _-_}
+use mathlib.Core.Bool.{Bool, cond, _||_}
+use mathlib.Core.List.{List, [], _++_}
 use lib.Dec.{ltb}
-use lib.ListN.{length}
+use lib.ListN.{length, take, drop}
 use Rattle.words.specs.Words.{Word}
 use Rattle.writing.specs.Writing.{over}
 use Rattle.words.specs.Relations.{relationWords}
 use Rattle.congruence.specs.Rows.{Next, round}
 use Rattle.congruence.specs.Rows.Next.{end, go}
 use Rattle.refusals.specs.declared.Refusal.{Refusal}
-use Rattle.refusals.specs.declared.Refusal.the-variants.{Narrow}
+use Rattle.least.specs.Order.{houseRank}
+use Rattle.least.specs.Possible.{relationOf}
+use Rattle.least.specs.Writing.{wordOf, leastBehind}
+use Rattle.refusals.specs.declared.Refusal.the-variants.{Narrow, NoSpace}
 use Rattle.limits.specs.Limits.{nextRoom, markMost}
 use Rattle.format.specs.Book.{Presentation, BookReading}
 use Rattle.presentation.specs.Loading.{loadBook}
 use Rattle.given.specs.declared.Given.{Given}
 use Rattle.given.specs.declared.Given.the-variants as Words
-use Rattle.given.specs.Given.{onGiven, tripleOf}
+use Rattle.given.specs.Given.{onGiven, oneOf, tripleOf}
 use Rattle.sheet.specs.Sheet.{cutSheet}
 use Rattle.comparison.specs.Comparing.{comparisonOf}
 use Rattle.output.specs.Program.{programOf}
@@ -79,6 +82,34 @@ roundOf book u v p nextU nextV nextP =
 unfoldable pub compareOf : List ℕ → Word → Word → ℕ → Answer
 compareOf book u v allowance =
     onLoaded (loadBook book) refusal (λ presentation. ofComparison (comparisonOf (presentation .letters) (relationWords (presentation .relations)) u v allowance))
+
+-- the outcome of a least word: an answer, and the lent buffer after it
+pub data LeastOutcome : Type 0 where
+  after : Answer → List ℕ → LeastOutcome
+
+-- the least congruent word of u under relation words B, letters by the house table: what the rounds write from the empty mark
+unfoldable pub leastFor : List Word → Word → Word
+leastFor B u = wordOf (leastBehind B relationOf houseRank [] u)
+
+-- 14: the offset lies past the end of a buffer, or a word is longer than what follows the offset; by the lengths of the buffer and of the word
+unfoldable pub lacksSpace : ℕ → ℕ → ℕ → Bool
+lacksSpace room offset long = ltb room offset || ltb (room - offset) long
+
+-- a word in a buffer from an offset on; the bytes before it and behind it are kept
+unfoldable pub placedAt : ℕ → Word → List ℕ → LeastOutcome
+placedAt offset w buffer =
+    cond (lacksSpace (length buffer) offset (length w)) (LeastOutcome.after (refusal NoSpace) buffer)
+    (LeastOutcome.after (wrote (length w)) (take offset buffer ++ over w (drop offset buffer)))
+
+-- the least word under relation words B of so many letters
+unfoldable pub loadedLeast : ℕ → List Word → Word → List ℕ → ℕ → LeastOutcome
+loadedLeast letters B u buffer offset = onGiven (oneOf letters u) (λ r. LeastOutcome.after (refusal r) buffer) (placedAt offset (leastFor B u) buffer)
+
+-- the least word
+unfoldable pub leastOf : List ℕ → Word → List ℕ → ℕ → LeastOutcome
+leastOf book u buffer offset =
+    onLoaded (loadBook book) (λ r. LeastOutcome.after (refusal r) buffer) (λ presentation.
+    loadedLeast (presentation .letters) (relationWords (presentation .relations)) u buffer offset)
 
 -- the outcome of the program: an answer, and the lent buffer after it
 pub data OutputOutcome : Type 0 where

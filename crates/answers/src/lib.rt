@@ -22,6 +22,12 @@ pub enum Printed {
     Refused(Refusal),
 }
 
+// The least congruent word is written, with its length, or its call is refused.
+pub enum Least {
+    Wrote(usize),
+    Refused(Refusal),
+}
+
 // The demands on acceptance, as a theorem on the check's definition.
 pub fn acceptance_is_c4()
     ensures { λ _. ⌜ Acceptance ⌝ }

@@ -7,7 +7,7 @@ use native.Mathlib.Omega.{arith}
 use borrow.Author.Needs.{needs}
 use borrow.Author.Tests.{lt-ltb, le-ltb, ltb-true, ltb-false}
 use lib.Dec.{ltb}
-use lib.ListN.{length}
+use lib.ListN.{length, getD}
 use mir.Val.{Fits}
 use mir.Syntax.{w16}
 use Rattle.words.specs.Words.{Word}
@@ -20,6 +20,7 @@ use Rattle.limits.specs.declared.MadeWord.the-variants as Made
 use Rattle.limits.specs.declared.Word.{Word as Record}
 use Rattle.limits.specs.Limits.{comparedMost, roundMost, markMost, wordOf}
 use Rattle.letters.specs.Letters.{firstUnknown}
+use Rattle.letters.proofs.Letters.{known-of}
 use Rattle.given.specs.declared.Given.{Given}
 use Rattle.given.specs.declared.Given.the-variants.{Fine, Refused}
 use Rattle.given.specs.Given.{givenOf, onGiven, pairOf, tripleOf, Widened}
@@ -110,6 +111,29 @@ fine-short number most letters w e = go (ltb most (length w)) refl
         let z : _≡_ {A = ℕ} 0 1 = cc in
         absurd (omega arith)
     go false q = ltb-false most (length w) q
+
+-- and has only letters that the head has
+pub fine-known : (number most letters : ℕ) (w : Word) → givenOf number most letters w ≡ Fine → (i : ℕ) → i < length w → getD w i 0 < letters
+unfolding givenOf
+fine-known number most letters w e = go (ltb most (length w)) refl (ltb (firstUnknown letters w) (length w)) refl
+  where
+    go : (s : Bool) → ltb most (length w) ≡ s → (t : Bool) → ltb (firstUnknown letters w) (length w) ≡ t → (i : ℕ) → i < length w → getD w i 0 < letters
+    go true q t r = let d : Refused (Long number) ≡ Fine = rw q at e in let z : _≡_ {A = ℕ} 0 1 = cc in absurd (omega arith)
+    go false q true r =
+        let d : Refused (Stranger number (firstUnknown letters w)) ≡ Fine = rw (q, r) at e in
+        let z : _≡_ {A = ℕ} 0 1 = cc in
+        absurd (omega arith)
+    go false q false r = known-of letters w (ltb-false (firstUnknown letters w) (length w) r)
+
+-- whether a word is fine is not a matter of its number
+pub fine-again : (m n most letters : ℕ) (w : Word) → givenOf m most letters w ≡ Fine → givenOf n most letters w ≡ Fine
+unfolding givenOf
+fine-again m n most letters w e = go (ltb most (length w)) refl (ltb (firstUnknown letters w) (length w)) refl
+  where
+    go : (s : Bool) → ltb most (length w) ≡ s → (t : Bool) → ltb (firstUnknown letters w) (length w) ≡ t → givenOf n most letters w ≡ Fine
+    go true q t r = let d : Refused (Long m) ≡ Fine = rw q at e in let z : _≡_ {A = ℕ} 0 1 = cc in absurd (omega arith)
+    go false q true r = let d : Refused (Stranger m (firstUnknown letters w)) ≡ Fine = rw (q, r) at e in let z : _≡_ {A = ℕ} 0 1 = cc in absurd (omega arith)
+    go false q false r = rw (q, r)
 
 -- where both are fine, each is
 pub fine-both : (g h : Given) → onGiven g Refused h ≡ Fine → (g ≡ Fine) × (h ≡ Fine)

@@ -1,7 +1,7 @@
 -- The relation words of relations come in twos, and each has its other one.
 use Prim.Native.Nat.{ℕ, _*_, _<_, _%_}
 use mathlib.Core.List.{List, [], _∷_}
-use mathlib.Core.Path.{_≡_, refl}
+use mathlib.Core.Path.{_≡_, refl, ap}
 use native.Mathlib.Omega.{arith}
 use lib.ListN.{length}
 use Rattle.words.specs.Words.{Word}
@@ -21,6 +21,15 @@ pub length-words : (relations : List Relation) → length (relationWords relatio
 unfolding relationWords
 length-words [] = refl
 length-words (r ∷ rs) = omega (arith, length-words rs)
+
+-- words that come in twos are the relation words of relations
+pub relations-of : (B : List Word) → Even B → (relations : List Relation) × (relationWords relations ≡ B)
+unfolding relationWords
+relations-of [] e = ([], refl)
+relations-of (u ∷ []) e = absurd (omega arith)
+relations-of (u ∷ v ∷ B) e =
+    let r = relations-of B (omega arith) in
+    (record { left = u; right = v } ∷ r .0, ap (λ (C : List Word). u ∷ v ∷ C) (r .1))
 
 pub other-there : (n i : ℕ) → n % 2 ≡ 0 → i < n → other i < n
 other-there n i e h = omega arith

@@ -1,0 +1,195 @@
+-- The demands on least words, from the theorems of crate `least`: what the rounds write is the least word, and least words decide congruence.
+use Prim.Native.Nat.{ℕ, zero, suc, _+_, _*_, _-_, _≤_, _<_, max}
+use mathlib.Core.Bool.{Bool, true, false, _||_}
+use mathlib.Core.List.{List, [], _∷_, _++_}
+use mathlib.Core.Logic.{_↔_, _⊎_, inl, inr}
+use mathlib.Core.Path.{_≡_, refl, sym, ap, _∙_, subst}
+use native.Mathlib.Omega.{arith}
+use native.Mathlib.Nat.{mul-le-mul}
+use borrow.Author.Tests.{lt-ltb, le-ltb, ltb-true, ltb-false}
+use lib.Dec.{ltb}
+use lib.ListN.{length, getD, take, drop, length-append, length-drop, List·getD-append}
+use lib.Seq.{length-take-le, getD-take, getD-append-add, getD-drop, drop-at, take-at}
+use Rattle.words.specs.Words.{Word}
+use Rattle.words.specs.Relations.{Relation, relationWords}
+use Rattle.overlap.specs.Pieces.{word, C4}
+use Rattle.overlap.specs.Cuts.{len, longestSuffixPiece}
+use Rattle.congruence.specs.Congruence.{Congruent}
+use Rattle.congruence.proofs.Theorem.{rows-decide}
+use Rattle.least.specs.Order.{Injective, houseRank}
+use Rattle.least.specs.Least.{LeastWord}
+use Rattle.least.specs.Possible.{relationOf}
+use Rattle.least.specs.Writing.{Found, found, wordOf, leastBehind}
+use Rattle.least.specs.Theorem.{longestOf, longestWord, LeastWords, LeastWordsDecide}
+use Rattle.limits.specs.Limits.{comparedMost, sideMost, leastMost}
+use Rattle.refusals.specs.declared.Refusal.the-variants.{NoSpace}
+use Rattle.format.specs.Book.{Presentation, BookReading, readBook}
+use Rattle.format.specs.Bytes.{Within, AllWithin, none, more}
+use Rattle.format.proofs.Readings.{read-within}
+use Rattle.presentation.specs.Loading.{loadBook, byVerdict}
+use Rattle.overlap.specs.Verdict.{Verdict, judge}
+use Rattle.given.specs.declared.Given.the-variants as Words
+use Rattle.given.specs.Given.{givenOf, oneOf, pairOf}
+use Rattle.given.proofs.Laws.{fine-short, fine-both, fine-again}
+use Rattle.writing.specs.Writing.{over}
+use Rattle.writing.proofs.Writing.{over-prefix, over-behind, over-kept}
+use Rattle.answers.specs.Answers.{Answer, same, different, wrote, refused, refusal}
+use Rattle.answers.specs.Entries.{LeastOutcome, compareOf, leastFor, lacksSpace, placedAt, loadedLeast, leastOf}
+use Rattle.answers.specs.Demands.{Decides, Placed, WritesLeast, LeastWritten, writtenBytes, LeastDecides}
+use Rattle.answers.proofs.Theorems.{loaded-c4, compared}
+
+-- relation words within the limits are short
+words-short : (letters : ℕ) (rs : List Relation) → AllWithin letters rs → (i : ℕ) → len (relationWords rs) i ≤ sideMost
+unfolding relationWords
+words-short letters [] none i = omega arith
+words-short letters (r ∷ rs) (more w ws) zero = w .left .short
+words-short letters (r ∷ rs) (more w ws) (suc zero) = w .right .short
+words-short letters (r ∷ rs) (more w ws) (suc (suc i)) = words-short letters rs ws i
+
+longest-short : (B : List Word) (n : ℕ) → ((i : ℕ) → len B i ≤ sideMost) → longestOf B n ≤ sideMost
+unfolding longestOf
+longest-short B zero h = omega arith
+longest-short B (suc n) h = omega (arith, longest-short B n h, h n)
+
+-- what is loaded was read
+by-verdict-read : (p q : Presentation) (v : Verdict) → byVerdict q v ≡ BookReading.read p → q ≡ p
+by-verdict-read p q Verdict.accepted e = cc
+by-verdict-read p q (Verdict.repeated i) e = let z : _≡_ {A = ℕ} 0 1 = cc in absurd (omega arith)
+by-verdict-read p q (Verdict.loose i) e = let z : _≡_ {A = ℕ} 0 1 = cc in absurd (omega arith)
+
+loaded-within : (book : List ℕ) (p : Presentation) → loadBook book ≡ BookReading.read p → Within p
+unfolding loadBook
+loaded-within book p e = go (readBook book) refl
+  where
+    go : (x : BookReading) → readBook book ≡ x → Within p
+    go (BookReading.read q) f = subst Within (by-verdict-read p q (judge (relationWords (q .relations))) (rw f at e)) (read-within book q f)
+    go (BookReading.refused r) f =
+        let d : BookReading.refused r ≡ BookReading.read p = rw f at e in
+        let z : _≡_ {A = ℕ} 0 1 = cc in
+        absurd (omega arith)
+
+-- a word in a buffer that has room for it
+module _ (w old : List ℕ) (offset : ℕ) (h : offset + length w ≤ length old) where
+  before-long : length (take offset old) ≡ offset
+  before-long = length-take-le offset old (omega arith)
+
+  behind-long : length (drop offset old) ≡ length old - offset
+  behind-long = length-drop offset old
+
+  placed-at : placedAt offset w old ≡ LeastOutcome.after (wrote (length w)) (take offset old ++ over w (drop offset old))
+  unfolding placedAt lacksSpace
+  placed-at = rw (le-ltb (length old) offset (omega arith), le-ltb (length old - offset) (length w) (omega arith))
+
+  -- a byte from the offset on
+  from-offset : (j : ℕ) → getD (take offset old ++ over w (drop offset old)) (offset + j) 0 ≡ getD (over w (drop offset old)) j 0
+  from-offset j =
+      ap (λ (n : ℕ). getD (take offset old ++ over w (drop offset old)) (n + j) 0) (sym before-long)
+      ∙ getD-append-add (take offset old) (over w (drop offset old)) j 0
+
+  pub placed-word : Placed w old offset (placedAt offset w old)
+  placed-word =
+      let b = before-long in
+      let d = behind-long in
+      let k = over-kept w (drop offset old) (omega arith) in
+      record {
+        buffer = take offset old ++ over w (drop offset old);
+        is = placed-at;
+        there = λ j l. from-offset j ∙ over-prefix w (drop offset old) j l;
+        kept = omega (arith, length-append (take offset old) (over w (drop offset old)));
+        before = λ j l. List·getD-append (take offset old) (over w (drop offset old)) 0 j (omega arith) ∙ getD-take offset old j 0 l;
+        behind = λ j l.
+            let n : j ≡ offset + (j - offset) = omega arith in
+            ap (λ (n : ℕ). getD (take offset old ++ over w (drop offset old)) n 0) n ∙ from-offset (j - offset) ∙ over-behind w (drop offset old) (j - offset) (omega arith)
+            ∙ getD-drop offset old (j - offset) 0 ∙ ap (λ (n : ℕ). getD old n 0) (sym n);
+      }
+
+-- where there is none, the outcome is 14
+placed-nowhere : (w old : List ℕ) (offset : ℕ) → length old < offset + length w → placedAt offset w old ≡ LeastOutcome.after (refused 14 0) old
+unfolding placedAt lacksSpace
+placed-nowhere w old offset h = go (ltb (length old) offset) refl
+  where
+    go : (t : Bool) → ltb (length old) offset ≡ t → placedAt offset w old ≡ LeastOutcome.after (refused 14 0) old
+    go true q = rw q
+    go false q = rw (q, lt-ltb (length old - offset) (length w) (omega (arith, ltb-false (length old) offset q)))
+
+-- what is told to be written can be read again
+written-back : (w old : List ℕ) (offset m : ℕ) (buffer : List ℕ) → placedAt offset w old ≡ LeastOutcome.after (wrote m) buffer → writtenBytes m offset buffer ≡ w
+unfolding placedAt lacksSpace
+written-back w old offset m buffer e = go (ltb (length old) offset) refl (ltb (length old - offset) (length w)) refl
+  where
+    go : (t : Bool) → ltb (length old) offset ≡ t → (r : Bool) → ltb (length old - offset) (length w) ≡ r → writtenBytes m offset buffer ≡ w
+    go true q r f =
+        let d : LeastOutcome.after (refusal NoSpace) old ≡ LeastOutcome.after (wrote m) buffer = rw q at e in
+        let z : _≡_ {A = ℕ} 0 1 = cc in
+        absurd (omega arith)
+    go false q true f =
+        let d : LeastOutcome.after (refusal NoSpace) old ≡ LeastOutcome.after (wrote m) buffer = rw (q, f) at e in
+        let z : _≡_ {A = ℕ} 0 1 = cc in
+        absurd (omega arith)
+    go false q false f =
+        let d : LeastOutcome.after (wrote (length w)) (take offset old ++ over w (drop offset old)) ≡ LeastOutcome.after (wrote m) buffer = rw (q, f) at e in
+        let n : length w ≡ m = cc in
+        let b : take offset old ++ over w (drop offset old) ≡ buffer = cc in
+        let a = before-long w old offset (omega (arith, ltb-false (length old) offset q, ltb-false (length old - offset) (length w) f)) in
+        rw (← n, ← b, drop-at (take offset old) (over w (drop offset old)) offset a) (take-at w (drop (length w) (drop offset old)) (length w) refl)
+
+-- under relation words of which least words exist
+module _ (B : List Word) (l : LeastWords B houseRank) where
+  pub least-for : (u : Word) → LeastWord B houseRank u (leastFor B u)
+  unfolding leastFor
+  least-for u =
+      let w = l .exists u in
+      let e : leastBehind B relationOf houseRank [] u ≡ found (w .0) = l .computed u (w .0) .1 (w .1) in
+      let f : wordOf (leastBehind B relationOf houseRank [] u) ≡ w .0 = rw e in
+      subst (λ (x : Word). LeastWord B houseRank u x) (sym f) (w .1)
+
+  writes-least : (u : Word) → longestWord B ≤ sideMost → length u ≤ comparedMost → (old : List ℕ) (offset : ℕ) (outcome : LeastOutcome)
+      → outcome ≡ placedAt offset (leastFor B u) old → WritesLeast B u old offset outcome
+  writes-least u short few old offset outcome e =
+      record {
+        word = leastFor B u;
+        least = least-for u;
+        only = λ w m. l .unique u w (leastFor B u) m (least-for u);
+        roomy = λ h. subst (λ (o : LeastOutcome). Placed (leastFor B u) old offset o) (sym e) (placed-word (leastFor B u) old offset h);
+        narrow = λ h. e ∙ placed-nowhere (leastFor B u) old offset h;
+        short = omega (arith, l .short u (leastFor B u) (least-for u), mul-le-mul short few);
+      }
+
+  -- a comparison that is allowed enough rounds
+  same-when-equal : (u v : Word) (allowance : ℕ) (answer : Answer) → Decides B u v allowance answer → (longestSuffixPiece B + 1) * length u ≤ allowance
+      → ((rounds : ℕ) × (answer ≡ same rounds)) ↔ (leastFor B u ≡ leastFor B v)
+  same-when-equal u v allowance answer d h =
+      let k = l .decides u v (leastFor B u) (leastFor B v) (least-for u) (least-for v) in
+      ((λ a. k .0 (congruent (a .0) (a .1) (d .only))), (λ a. (d .rounds, d .joins .1 (omega (arith, d .closer .0), k .1 a))))
+    where
+      congruent : (n : ℕ) → answer ≡ same n → (answer ≡ refused 11 allowance) ⊎ ((answer ≡ same (d .rounds)) ⊎ (answer ≡ different (d .rounds))) → Congruent B u v
+      congruent n e (inl f) = let z : _≡_ {A = ℕ} 0 1 = cc in absurd (omega arith)
+      congruent n e (inr (inl f)) = d .joins .0 f .1
+      congruent n e (inr (inr f)) = let z : _≡_ {A = ℕ} 0 1 = cc in absurd (omega arith)
+
+-- an accepted book and a word that is fine
+least-words : (book : List ℕ) (u : Word) (old : List ℕ) (offset : ℕ) (p : Presentation) → loadBook book ≡ BookReading.read p → oneOf (p .letters) u ≡ Words.Fine
+    → leastOf book u old offset ≡ placedAt offset (leastFor (relationWords (p .relations)) u) old
+unfolding leastOf loadedLeast
+least-words book u old offset p e f = rw (e, f)
+
+module _ (theory : LeastWordsDecide) (house : Injective houseRank) where
+  loaded-least : (book : List ℕ) (p : Presentation) → loadBook book ≡ BookReading.read p → LeastWords (relationWords (p .relations)) houseRank
+  loaded-least book p e = theory (p .relations) (loaded-c4 book p e) houseRank house
+
+  pub least-written : LeastWritten
+  least-written book u old offset p e f =
+      let B = relationWords (p .relations) in
+      let s = longest-short B (length B) (words-short (p .letters) (p .relations) (loaded-within book p e .all)) in
+      writes-least B (loaded-least book p e) u (omega arith) (fine-short 0 comparedMost (p .letters) u f) old offset (leastOf book u old offset) (least-words book u old offset p e f)
+
+  pub least-decides : LeastDecides
+  unfolding pairOf
+  least-decides book u v p e f old offset m buffer g old′ offset′ m′ buffer′ g′ allowance h =
+      let B = relationWords (p .relations) in
+      let both = fine-both (givenOf 0 comparedMost (p .letters) u) (givenOf 1 comparedMost (p .letters) v) f in
+      let first = written-back (leastFor B u) old offset m buffer (sym (least-words book u old offset p e (both .0)) ∙ g) in
+      let second = written-back (leastFor B v) old′ offset′ m′ buffer′ (sym (least-words book v old′ offset′ p e (fine-again 1 0 comparedMost (p .letters) v (both .1))) ∙ g′) in
+      let d = compared book u v allowance (compareOf book u v allowance) refl .decides p e f in
+      let k = same-when-equal B (loaded-least book p e) u v allowance (compareOf book u v allowance) d h in
+      ((λ a. first ∙ k .0 a ∙ sym second), (λ a. k .1 (sym first ∙ a ∙ second)))
