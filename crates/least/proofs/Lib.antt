@@ -1,1 +1,4 @@
+pub mod Order
+pub mod Marks
+pub mod Possible
 pub mod Examples
