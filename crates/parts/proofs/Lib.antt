@@ -1,0 +1,5 @@
+pub mod Ranks
+pub mod Members
+pub mod Laws
+pub mod Choosing
+pub mod Telling
