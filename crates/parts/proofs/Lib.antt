@@ -3,3 +3,6 @@ pub mod Members
 pub mod Laws
 pub mod Choosing
 pub mod Telling
+pub mod Standing
+pub mod Wholes
+pub mod Others

@@ -359,3 +359,99 @@ fn choose_member(text: &[u16], table: &[u16], n: usize, given: &[u16], s: LeastS
         told: Told::That(b),
     }
 }
+
+// The part where u = XYZ w of relation word i, w is the given word from k on, and the least word begins with X and Y of relation word j.
+fn write_whole(text: &[u16], table: &[u16], n: usize, given: &[u16], s: LeastState, i: usize, j: usize, k: usize) -> Stage
+    requires { ⌜ WholeFound (now text) (now table) n (now given) s i j k ⌝ }
+    ensures { λ r. ⌜ Makes (now (text .entry)) (wordsIn (now (text .entry)) (now (table .entry)) n) (now (given .entry)) s (wholePart (wordsIn (now (text .entry)) (now (table .entry)) n) relationOf i j (placedMark (now (text .entry)) (s .mark)) (drop k (now (given .entry)))) r ⌝ }
+{
+    let own = sites::read_site(table, j);
+    if active_behind(text, table, n, given, j, k) {
+        return Stage::Go(
+            source_behind(own, s.mark, own.tail),
+            LeastState {
+                word: PlacedWord {
+                    at: own.tail,
+                    to: own.stop,
+                    from: k,
+                },
+                mark: Mark {
+                    at: 0,
+                    to: 0,
+                },
+                hint: Hint::Unknown,
+            },
+        );
+    }
+    let z = sites::read_site(table, find_carrier(text, table, n, given, i, k));
+    Stage::Go(
+        source_behind(own, s.mark, own.stop),
+        LeastState {
+            word: PlacedWord {
+                at: z.tail,
+                to: z.stop,
+                from: k,
+            },
+            mark: Mark {
+                at: z.tail,
+                to: z.stop,
+            },
+            hint: Hint::Unknown,
+        },
+    )
+}
+
+// The part where u = XY s of relation word i, s is the given word from k on and does not begin with Z, and the least word begins with X and Y of another relation word j.
+fn write_other(text: &[u16], table: &[u16], n: usize, given: &[u16], s: LeastState, i: usize, j: usize, k: usize) -> Stage
+    requires { ⌜ OtherFound (now text) (now table) n (now given) s i j k ⌝ }
+    ensures { λ r. ⌜ Makes (now (text .entry)) (wordsIn (now (text .entry)) (now (table .entry)) n) (now (given .entry)) s (otherPart (wordsIn (now (text .entry)) (now (table .entry)) n) i j (placedMark (now (text .entry)) (s .mark)) (drop k (now (given .entry)))) r ⌝ }
+{
+    let own = sites::read_site(table, i);
+    let z = sites::read_site(table, j);
+    let l = changes::common_suffix(text, own, z);
+    let cut = own.stop - l;
+    if stands_quiet(text, table, n, given, own.tail, cut, k) {
+        return Stage::Go(
+            source_behind(z, s.mark, z.stop - l),
+            LeastState {
+                word: PlacedWord {
+                    at: 0,
+                    to: 0,
+                    from: k + (cut - own.tail),
+                },
+                mark: Mark {
+                    at: 0,
+                    to: 0,
+                },
+                hint: Hint::Known(
+                    Mark {
+                        at: cut,
+                        to: own.stop,
+                    },
+                    true,
+                ),
+            },
+        );
+    }
+    Stage::Go(
+        source_behind(z, s.mark, z.stop),
+        LeastState {
+            word: PlacedWord {
+                at: 0,
+                to: 0,
+                from: k,
+            },
+            mark: Mark {
+                at: own.tail,
+                to: own.stop,
+            },
+            hint: Hint::Known(
+                Mark {
+                    at: own.tail,
+                    to: own.stop,
+                },
+                true,
+            ),
+        },
+    )
+}
