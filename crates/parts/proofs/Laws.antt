@@ -76,6 +76,7 @@ module _ (h : PlacedWord) where
   letter-rest l = rw (le-ltb _ _ l)
 
 pub ruleset withouts = (letter-at-fits, letter-from-fits, without-part, without-rest, needs)
+
 pub ruleset firstSources = (letter-at-fits, letter-from-fits, letter-part, letter-rest, needs)
 
 -- what is known behind a letter

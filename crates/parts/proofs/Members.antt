@@ -64,6 +64,7 @@ module _ (B : List Word) (i : ℕ) (p : Word) where
           (λ a. and-right (marked B relationOf i p l) _ (subst (λ (k : ℕ). before houseRank (xyOf B k) (xyOf B j) ≡ false) (sym d) (not-back (xyOf B j) (xyOf B g) a)))
           q)
           (λ d. and-left _ _ (apart l e d))))
+
       others : (k : ℕ) → (k ≡ j → ⊥) → best k ≡ false
       others k e = by-cases (ℕ-discrete k g)
           (λ d. ⊎-elim
@@ -86,11 +87,13 @@ module _ (B : List Word) (i : ℕ) (p : Word) where
 
     pub member-none : isPrefix p (xOf B i) ≡ false → isPrefix p (xOf B (other i)) ≡ false → firstMember B relationOf houseRank i p ≡ length B
     unfolding firstMember best
-    member-none a b = least-none (length B) best (record { none = λ k l. and-left _ _ (by-cases (ℕ-discrete k i)
-        (λ e. subst (λ (k : ℕ). marked B relationOf i p k ≡ false) (sym e) (marked-own B i p ∙ a))
-        (λ e. by-cases (ℕ-discrete k (other i))
-        (λ d. subst (λ (k : ℕ). marked B relationOf i p k ≡ false) (sym d) (marked-other B i p ∙ b))
-        (λ d. marked-apart B i p k e d))) })
+    member-none a b = least-none (length B) best (record {
+      none = λ k l. and-left _ _ (by-cases (ℕ-discrete k i)
+          (λ e. subst (λ (k : ℕ). marked B relationOf i p k ≡ false) (sym e) (marked-own B i p ∙ a))
+          (λ e. by-cases (ℕ-discrete k (other i))
+          (λ d. subst (λ (k : ℕ). marked B relationOf i p k ≡ false) (sym d) (marked-other B i p ∙ b))
+          (λ d. marked-apart B i p k e d)));
+    })
 
     -- no XY is a prefix of another, so that one of the two comes first
     pub other-first : Facts B → before houseRank (xyOf B i) (xyOf B (other i)) ≡ false → before houseRank (xyOf B (other i)) (xyOf B i) ≡ true
@@ -173,9 +176,11 @@ module _ (B : List Word) (i : ℕ) (w : Word) (even : length B % 2 ≡ 0) (h : i
         let m : i / 2 ≡ (i - i % 2 + 1) / 2 = omega arith in
         let c : least (length B) carries ≡ i - i % 2 + 1 =
         least-is (length B) carries (i - i % 2 + 1) (omega arith)
-        (record { none = λ k l. by-cases (ℕ-discrete k (i - i % 2))
-            (λ e. and-right (eqb (i / 2) (k / 2)) _ (subst (λ (m : ℕ). active B (zOf B m) w ≡ false) (sym e) a))
-            (λ e. and-left _ _ (ne-eqb (i / 2) (k / 2) (λ d. absurd (omega arith)))) })
+        (record {
+          none = λ k l. by-cases (ℕ-discrete k (i - i % 2))
+              (λ e. and-right (eqb (i / 2) (k / 2)) _ (subst (λ (m : ℕ). active B (zOf B m) w ≡ false) (sym e) a))
+              (λ e. and-left _ _ (ne-eqb (i / 2) (k / 2) (λ d. absurd (omega arith))));
+        })
         (rw (eq-eqb (i / 2) ((i - i % 2 + 1) / 2) m, b)) in
         rw (c, lt-ltb (i - i % 2 + 1) (length B) (omega arith))
 
@@ -184,11 +189,13 @@ module _ (B : List Word) (i : ℕ) (w : Word) (even : length B % 2 ≡ 0) (h : i
     carrier-own b =
         let c : least (length B) carries ≡ length B =
         least-none (length B) carries
-        (record { none = λ k l. by-cases (ℕ-discrete k (i - i % 2))
-            (λ e. and-right (eqb (i / 2) (k / 2)) _ (subst (λ (m : ℕ). active B (zOf B m) w ≡ false) (sym e) a))
-            (λ e. by-cases (ℕ-discrete k (i - i % 2 + 1))
-            (λ d. and-right (eqb (i / 2) (k / 2)) _ (subst (λ (m : ℕ). active B (zOf B m) w ≡ false) (sym d) b))
-            (λ d. and-left _ _ (ne-eqb (i / 2) (k / 2) (λ q. absurd (omega arith))))) }) in
+        (record {
+          none = λ k l. by-cases (ℕ-discrete k (i - i % 2))
+              (λ e. and-right (eqb (i / 2) (k / 2)) _ (subst (λ (m : ℕ). active B (zOf B m) w ≡ false) (sym e) a))
+              (λ e. by-cases (ℕ-discrete k (i - i % 2 + 1))
+              (λ d. and-right (eqb (i / 2) (k / 2)) _ (subst (λ (m : ℕ). active B (zOf B m) w ≡ false) (sym d) b))
+              (λ d. and-left _ _ (ne-eqb (i / 2) (k / 2) (λ q. absurd (omega arith)))));
+        }) in
         rw (c, le-ltb (length B) (length B) (omega arith))
 
   -- it is a relation word

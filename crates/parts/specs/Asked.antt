@@ -85,6 +85,12 @@ pub record ChoiceFound (text table : List ℕ) (n : ℕ) (given : Word) (s : Lea
   pub found : RestFound text table n given s i k
   pub made : ChoiceMade text table n given (s .mark) i k c
 
+-- and there is one, and Z of i does not follow X and Y
+pub record ApartFound (text table : List ℕ) (n : ℕ) (given : Word) (s : LeastState) (i k : ℕ) (c : Choice) : Type 0 where
+  pub choice : ChoiceFound text table n given s i k c
+  pub known : c .member < n
+  pub apart : isPrefix (zOf (wordsIn text table n) i) (drop k given) ≡ false
+
 -- and it is j
 pub record MemberFound (text table : List ℕ) (n : ℕ) (given : Word) (s : LeastState) (i k j : ℕ) : Type 0 where
   pub found : RestFound text table n given s i k

@@ -16,6 +16,8 @@ use Rattle.moves.specs.State.{placedMark}
 use Rattle.parts.specs.declared.Hint.{Hint}
 use Rattle.parts.specs.declared.Hint.the-variants as Hints
 use Rattle.parts.specs.declared.Source.{Source}
+use Rattle.parts.specs.declared.Stage.{Stage}
+use Rattle.parts.specs.declared.Stage.the-variants as Stages
 use Rattle.parts.specs.declared.Told.{Told}
 use Rattle.parts.specs.declared.Told.the-variants as Tolds
 use Rattle.parts.specs.declared.Choice.{Choice}
@@ -61,3 +63,7 @@ applies B given i p from = not (isPrefix p (drop from given)) && markedByAny B r
 -- the chosen member where t is the first that the mark allows, another than i, and b tells whether Z of i is possible
 unfoldable pub settled : List Word → ℕ → ℕ → Word → ℕ → Bool → ℕ
 settled B n i p t b = cond b t (cond (isPrefix p (xOf B i)) i n)
+
+-- the round that writes X and Y of the relation word at s behind the mark, and goes on with the given word from k on
+unfoldable pub ownStage : Site → Mark → ℕ → Told → Stage
+ownStage s m k t = Stages.Go (sourceBehind s m (s .tail)) (record { word = record { at = 0; to = 0; from = k }; mark = record { at = 0; to = 0 }; hint = hintOf s t })

@@ -13,8 +13,8 @@ ghost use Rattle.sites.specs.Sites.{SitesInText};
 ghost use Rattle.moves.specs.State.{placedWord, placedMark};
 ghost use Rattle.parts.specs.State.{LeastReady, Makes, PartMade};
 ghost use Rattle.parts.specs.Letters.{WordSmall, withoutLetter, firstSource, HintLies, hintBehind};
-ghost use Rattle.parts.specs.Members.{firstAt, firstOfTwo, ToldRight, ChoiceMade, hintOf, sourceBehind, quiet, applies, settled};
-ghost use Rattle.parts.specs.Asked.{WordAsked, LetterAsked, MarkAsked, PlacesSmall, RestAsked, QuietAsked, CleanAsked, RestFound, ToldFound, ChoiceFound, MemberFound, WholeFound, OtherFound};
+ghost use Rattle.parts.specs.Members.{firstAt, firstOfTwo, ToldRight, ChoiceMade, hintOf, sourceBehind, quiet, applies, settled, ownStage};
+ghost use Rattle.parts.specs.Asked.{WordAsked, LetterAsked, MarkAsked, PlacesSmall, RestAsked, QuietAsked, CleanAsked, RestFound, ToldFound, ChoiceFound, ApartFound, WholeFound, OtherFound};
 use moves::Mark;
 use moves::PlacedWord;
 use sites::Site;
@@ -90,15 +90,7 @@ fn comes_first(text: &[u16], s: Site, t: Site) -> bool
 }
 
 // Of the relation words i at s and j at t, those with p a prefix of their X, the one whose X and Y come first, or n.
-fn first_of_two(
-    text: &[u16],
-    s: Site,
-    t: Site,
-    p: &[u16],
-    i: usize,
-    j: usize,
-    n: usize,
-) -> usize
+fn first_of_two(text: &[u16], s: Site, t: Site, p: &[u16], i: usize, j: usize, n: usize) -> usize
     requires { ⌜ SitesInText (now text) s t ⌝ }
     ensures { λ r. ⌜ r ≡ firstOfTwo (now (text .entry)) s t (now (p .entry)) i j n ⌝ }
 {
@@ -282,7 +274,15 @@ fn stands_quiet(
 }
 
 // Whether a mark, which is no prefix of the given word from `from` on, lies in X of relation word i or of the other word of its relation.
-fn hint_applies(text: &[u16], table: &[u16], n: usize, given: &[u16], i: usize, q: Mark, from: usize) -> bool
+fn hint_applies(
+    text: &[u16],
+    table: &[u16],
+    n: usize,
+    given: &[u16],
+    i: usize,
+    q: Mark,
+    from: usize,
+) -> bool
     requires { ⌜ MarkAsked (now text) (now table) n i q ⌝ }
     ensures { λ r. ⌜ r ≡ applies (wordsIn (now (text .entry)) (now (table .entry)) n) (now (given .entry)) i (placedMark (now (text .entry)) q) from ⌝ }
 {
@@ -297,7 +297,15 @@ fn hint_applies(text: &[u16], table: &[u16], n: usize, given: &[u16], i: usize, 
 }
 
 // What the hint of a state tells of Z of relation word i, its clean relation prefix, behind X and Y.
-fn carry_hint(text: &[u16], table: &[u16], n: usize, given: &[u16], s: LeastState, i: usize, k: usize) -> Told
+fn carry_hint(
+    text: &[u16],
+    table: &[u16],
+    n: usize,
+    given: &[u16],
+    s: LeastState,
+    i: usize,
+    k: usize,
+) -> Told
     requires { ⌜ RestFound (now text) (now table) n (now given) s i k ⌝ }
     ensures { λ r. ⌜ ToldRight (wordsIn (now (text .entry)) (now (table .entry)) n) (now (given .entry)) i k r ⌝ }
 {
@@ -312,7 +320,16 @@ fn carry_hint(text: &[u16], table: &[u16], n: usize, given: &[u16], s: LeastStat
 }
 
 // Whether Z of relation word i is a possible prefix of the given word from k on: as it is told, or by a walk.
-fn ask_possible(text: &[u16], table: &[u16], n: usize, given: &[u16], s: LeastState, i: usize, k: usize, told: Told) -> bool
+fn ask_possible(
+    text: &[u16],
+    table: &[u16],
+    n: usize,
+    given: &[u16],
+    s: LeastState,
+    i: usize,
+    k: usize,
+    told: Told,
+) -> bool
     requires { ⌜ ToldFound (now text) (now table) n (now given) s i k told ⌝ }
     ensures { λ r. ⌜ r ≡ possible (wordsIn (now (text .entry)) (now (table .entry)) n) relationOf (zOf (wordsIn (now (text .entry)) (now (table .entry)) n) i) (drop k (now (given .entry))) ⌝ }
 {
@@ -324,7 +341,15 @@ fn ask_possible(text: &[u16], table: &[u16], n: usize, given: &[u16], s: LeastSt
 }
 
 // The chosen member of i's relation, where t is the first that the mark allows, another than i, and b tells whether Z of i is possible behind X and Y.
-fn settle_member(text: &[u16], table: &[u16], n: usize, i: usize, mark: Mark, t: usize, b: bool) -> usize
+fn settle_member(
+    text: &[u16],
+    table: &[u16],
+    n: usize,
+    i: usize,
+    mark: Mark,
+    t: usize,
+    b: bool,
+) -> usize
     requires { ⌜ MarkAsked (now text) (now table) n i mark ⌝ }
     ensures { λ r. ⌜ r ≡ settled (wordsIn (now (text .entry)) (now (table .entry)) n) n i (placedMark (now (text .entry)) mark) t b ⌝ }
 {
@@ -341,17 +366,22 @@ fn settle_member(text: &[u16], table: &[u16], n: usize, i: usize, mark: Mark, t:
 }
 
 // The member of i's relation whose X and Y the least word begins with, and what is told of Z of i on the way.
-fn choose_member(text: &[u16], table: &[u16], n: usize, given: &[u16], s: LeastState, i: usize, k: usize) -> Choice
+fn choose_member(
+    text: &[u16],
+    table: &[u16],
+    n: usize,
+    given: &[u16],
+    s: LeastState,
+    i: usize,
+    k: usize,
+) -> Choice
     requires { ⌜ RestFound (now text) (now table) n (now given) s i k ⌝ }
     ensures { λ r. ⌜ ChoiceMade (now (text .entry)) (now (table .entry)) n (now (given .entry)) (s .mark) i k r ⌝ }
 {
     let told = carry_hint(text, table, n, given, s, i, k);
     let t = first_member(text, table, n, i, s.mark);
     if t == i {
-        return Choice {
-            member: i,
-            told,
-        };
+        return Choice { member: i, told };
     }
     let b = ask_possible(text, table, n, given, s, i, k, told);
     Choice {
@@ -361,7 +391,16 @@ fn choose_member(text: &[u16], table: &[u16], n: usize, given: &[u16], s: LeastS
 }
 
 // The part where u = XYZ w of relation word i, w is the given word from k on, and the least word begins with X and Y of relation word j.
-fn write_whole(text: &[u16], table: &[u16], n: usize, given: &[u16], s: LeastState, i: usize, j: usize, k: usize) -> Stage
+fn write_whole(
+    text: &[u16],
+    table: &[u16],
+    n: usize,
+    given: &[u16],
+    s: LeastState,
+    i: usize,
+    j: usize,
+    k: usize,
+) -> Stage
     requires { ⌜ WholeFound (now text) (now table) n (now given) s i j k ⌝ }
     ensures { λ r. ⌜ Makes (now (text .entry)) (wordsIn (now (text .entry)) (now (table .entry)) n) (now (given .entry)) s (wholePart (wordsIn (now (text .entry)) (now (table .entry)) n) relationOf i j (placedMark (now (text .entry)) (s .mark)) (drop k (now (given .entry)))) r ⌝ }
 {
@@ -375,10 +414,7 @@ fn write_whole(text: &[u16], table: &[u16], n: usize, given: &[u16], s: LeastSta
                     to: own.stop,
                     from: k,
                 },
-                mark: Mark {
-                    at: 0,
-                    to: 0,
-                },
+                mark: Mark { at: 0, to: 0 },
                 hint: Hint::Unknown,
             },
         );
@@ -402,7 +438,16 @@ fn write_whole(text: &[u16], table: &[u16], n: usize, given: &[u16], s: LeastSta
 }
 
 // The part where u = XY s of relation word i, s is the given word from k on and does not begin with Z, and the least word begins with X and Y of another relation word j.
-fn write_other(text: &[u16], table: &[u16], n: usize, given: &[u16], s: LeastState, i: usize, j: usize, k: usize) -> Stage
+fn write_other(
+    text: &[u16],
+    table: &[u16],
+    n: usize,
+    given: &[u16],
+    s: LeastState,
+    i: usize,
+    j: usize,
+    k: usize,
+) -> Stage
     requires { ⌜ OtherFound (now text) (now table) n (now given) s i j k ⌝ }
     ensures { λ r. ⌜ Makes (now (text .entry)) (wordsIn (now (text .entry)) (now (table .entry)) n) (now (given .entry)) s (otherPart (wordsIn (now (text .entry)) (now (table .entry)) n) i j (placedMark (now (text .entry)) (s .mark)) (drop k (now (given .entry)))) r ⌝ }
 {
@@ -419,10 +464,7 @@ fn write_other(text: &[u16], table: &[u16], n: usize, given: &[u16], s: LeastSta
                     to: 0,
                     from: k + (cut - own.tail),
                 },
-                mark: Mark {
-                    at: 0,
-                    to: 0,
-                },
+                mark: Mark { at: 0, to: 0 },
                 hint: Hint::Known(
                     Mark {
                         at: cut,
@@ -454,4 +496,165 @@ fn write_other(text: &[u16], table: &[u16], n: usize, given: &[u16], s: LeastSta
             ),
         },
     )
+}
+
+// The part where u = XY s of relation word i, at s, s is the given word from k on and does not begin with Z, and the least word begins with X and Y of i too.
+fn write_own(own: Site, mark: Mark, k: usize, told: Told) -> Stage
+    requires { ⌜ PlacesSmall own mark ⌝ }
+    ensures { λ r. ⌜ r ≡ ownStage own mark k told ⌝ }
+{
+    Stage::Go(
+        source_behind(own, mark, own.tail),
+        LeastState {
+            word: PlacedWord {
+                at: 0,
+                to: 0,
+                from: k,
+            },
+            mark: Mark { at: 0, to: 0 },
+            hint: hint_of(own, told),
+        },
+    )
+}
+
+// The part where u = XY s of relation word i, s is the given word from k on and does not begin with Z, and a member is chosen.
+fn write_apart(
+    text: &[u16],
+    table: &[u16],
+    n: usize,
+    given: &[u16],
+    s: LeastState,
+    i: usize,
+    k: usize,
+    c: Choice,
+) -> Stage
+    requires { ⌜ ApartFound (now text) (now table) n (now given) s i k c ⌝ }
+    ensures { λ r. ⌜ Makes (now (text .entry)) (wordsIn (now (text .entry)) (now (table .entry)) n) (now (given .entry)) s (memberPart (wordsIn (now (text .entry)) (now (table .entry)) n) relationOf i (c .member) (placedMark (now (text .entry)) (s .mark)) (placedWord (now (text .entry)) (now (given .entry)) (s .word))) r ⌝ }
+{
+    let j = c.member;
+    let told = c.told;
+    if j == i {
+        let own = sites::read_site(table, i);
+        return write_own(own, s.mark, k, told);
+    }
+    write_other(text, table, n, given, s, i, j, k)
+}
+
+// The part where relation word i is the clean relation prefix of u, the given word from k on follows its X and Y, and a member is chosen.
+fn write_member(
+    text: &[u16],
+    table: &[u16],
+    n: usize,
+    given: &[u16],
+    s: LeastState,
+    i: usize,
+    k: usize,
+    c: Choice,
+) -> Stage
+    requires { ⌜ ChoiceFound (now text) (now table) n (now given) s i k c ⌝ }
+    ensures { λ r. ⌜ Makes (now (text .entry)) (wordsIn (now (text .entry)) (now (table .entry)) n) (now (given .entry)) s (memberPart (wordsIn (now (text .entry)) (now (table .entry)) n) relationOf i (c .member) (placedMark (now (text .entry)) (s .mark)) (placedWord (now (text .entry)) (now (given .entry)) (s .word))) r ⌝ }
+{
+    let j = c.member;
+    if n <= j {
+        return Stage::None;
+    }
+    let own = sites::read_site(table, i);
+    if joined::begins(text, own.tail, own.stop, &given[0..0], given, k) {
+        return write_whole(text, table, n, given, s, i, j, k + (own.stop - own.tail));
+    }
+    write_apart(text, table, n, given, s, i, k, c)
+}
+
+// The place of the given word behind X and Y of relation word i, the clean relation prefix of u: they reach past u's part of the text.
+fn place_behind(
+    text: &[u16],
+    table: &[u16],
+    n: usize,
+    given: &[u16],
+    s: LeastState,
+    i: usize,
+) -> usize
+    requires { ⌜ CleanAsked (now text) (now table) n (now given) s i ⌝ }
+    ensures { λ r. ⌜ RestFound (now (text .entry)) (now (table .entry)) n (now (given .entry)) s i r ⌝ }
+{
+    let own = sites::read_site(table, i);
+    let word = s.word;
+    word.from + (own.tail - own.start - (word.to - word.at))
+}
+
+// The part where relation word i is the clean relation prefix of u.
+fn write_relation(
+    text: &[u16],
+    table: &[u16],
+    n: usize,
+    given: &[u16],
+    s: LeastState,
+    i: usize,
+) -> Stage
+    requires { ⌜ CleanAsked (now text) (now table) n (now given) s i ⌝ }
+    ensures { λ r. ⌜ PartMade (now (text .entry)) (now (table .entry)) n (now (given .entry)) s r ⌝ }
+{
+    let k = place_behind(text, table, n, given, s, i);
+    let c = choose_member(text, table, n, given, s, i, k);
+    write_member(text, table, n, given, s, i, k, c)
+}
+
+// The part where u has a letter and no clean relation prefix: its first letter stays.
+fn write_letter(text: &[u16], table: &[u16], n: usize, given: &[u16], s: LeastState) -> Stage
+    requires { ⌜ LetterAsked (now text) (now table) n (now given) s ⌝ }
+    ensures { λ r. ⌜ Makes (now (text .entry)) (wordsIn (now (text .entry)) (now (table .entry)) n) (now (given .entry)) s (letterPart (placedMark (now (text .entry)) (s .mark)) (placedWord (now (text .entry)) (now (given .entry)) (s .word))) r ⌝ }
+{
+    let x = moves::first_letter(text, given, s.word);
+    let next = without_letter(s.word);
+    let old = s.hint;
+    let hint = hint_behind(text, old, x);
+    let mark = s.mark;
+    let at = mark.at;
+    if mark.to <= at {
+        return Stage::Go(
+            first_source(s.word),
+            LeastState {
+                word: next,
+                mark,
+                hint,
+            },
+        );
+    }
+    if text[at] == x {
+        return Stage::Go(
+            Source {
+                given: true,
+                from: 0,
+                to: 0,
+            },
+            LeastState {
+                word: next,
+                mark: Mark {
+                    at: at + 1,
+                    to: mark.to,
+                },
+                hint,
+            },
+        );
+    }
+    Stage::None
+}
+
+// One round.
+pub fn make_part(text: &[u16], table: &[u16], n: usize, given: &[u16], s: LeastState) -> Stage
+    requires { ⌜ LeastReady (now text) (now table) n (now given) s ⌝ }
+    ensures { λ r. ⌜ PartMade (now (text .entry)) (now (table .entry)) n (now (given .entry)) s r ⌝ }
+{
+    if moves::held_empty(given, s.word) {
+        let mark = s.mark;
+        if mark.at < mark.to {
+            return Stage::None;
+        }
+        return Stage::End;
+    }
+    let i = clean_of(text, table, n, given, s.word);
+    if n <= i {
+        return write_letter(text, table, n, given, s);
+    }
+    write_relation(text, table, n, given, s, i)
 }
