@@ -1,6 +1,6 @@
 -- Which words may be front marks: the empty word, every piece, every factor of a relation word that does not begin it, and their suffixes. What is asked of them
 -- is that they lie inside X wherever they stand before what begins with XY; so a possible prefix of a word with a clean XY lies inside X of a member.
-use Prim.Native.Nat.{ℕ, suc, _+_, _≤_, _<_}
+use Prim.Native.Nat.{ℕ, suc, _+_, _<_}
 use mathlib.Core.Bool.{true}
 use mathlib.Core.List.{List, [], _++_}
 use mathlib.Core.Path.{_≡_, refl, sym, ap, _∙_, subst}

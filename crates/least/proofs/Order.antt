@@ -1,24 +1,23 @@
 -- Laws of dictionary order (document 000: lexicographic order): the test and the relation say the same, a common prefix counts for nothing, no two words come
 -- before each other, and of two words one comes first. The ranks of letters are any, unless it is said that different letters differ in rank.
 use Prim.Native.Nat.{ℕ, _+_, _-_, _≤_, _<_}
-use mathlib.Core.Bool.{Bool, true, false, true≢false}
+use mathlib.Core.Bool.{true, false, true≢false}
 use mathlib.Core.List.{[], _∷_, _++_, append-assoc, append-nil, append-cancel-left}
-use mathlib.Core.Path.{_≡_, refl, sym, ap, _∙_, subst, subst₂}
-use mathlib.Core.Logic.{by-cases, _⊎_, inl, inr}
+use mathlib.Core.Path.{_≡_, refl, sym, ap, _∙_, subst}
+use mathlib.Core.Logic.{by-cases, ⊎-elim, _⊎_, inl, inr}
 use native.Mathlib.Omega.{arith}
 use native.Mathlib.Decide.{decLt, ℕ-discrete}
-use lib.Dec.{eqb, ltb}
-use borrow.Author.Tests.{eqb-true, eqb-false, eq-eqb, ne-eqb, ltb-true, ltb-false, lt-ltb, le-ltb}
+use lib.Dec.{ltb}
+use borrow.Author.Tests.{eq-eqb, ne-eqb, ltb-true, ltb-false, lt-ltb, le-ltb}
 use Rattle.words.specs.Words.{Word}
-use Rattle.words.proofs.Tests.{true-or-false}
-use Rattle.congruence.specs.Rows.{choose}
 use Rattle.least.specs.Order.{Injective, Before, shorter, lower, AtMost, before, houseRank}
 
--- the test on words that begin with the same letter, and on words that begin with different ones
+-- the test on words that begin with the same letter
 pub before-same : (rank : ℕ → ℕ) (x : ℕ) (u v : Word) → before rank (x ∷ u) (x ∷ v) ≡ before rank u v
 unfolding before
 before-same rank x u v = rw (eq-eqb x x refl)
 
+-- the test on words that begin with different letters
 pub before-unlike : (rank : ℕ → ℕ) (x y : ℕ) (u v : Word) → (x ≡ y → ⊥) → before rank (x ∷ u) (y ∷ v) ≡ ltb (rank x) (rank y)
 unfolding before
 before-unlike rank x y u v n = rw (ne-eqb x y n)
@@ -33,46 +32,44 @@ pub before-behind : {rank : ℕ → ℕ} (a : Word) {u v : Word} → Before rank
 before-behind a {u} {v} (shorter x t e) = shorter x t (ap (a ++_) e ∙ sym (append-assoc a u (x ∷ t)))
 before-behind a {u} {v} (lower b x y s t e f h) = lower (a ++ b) x y s t (ap (a ++_) e ∙ sym (append-assoc a b (x ∷ s))) (ap (a ++_) f ∙ sym (append-assoc a b (y ∷ t))) h
 
--- where the test holds, the first word comes before the second
-pub before-of-test : (rank : ℕ → ℕ) (u v : Word) → before rank u v ≡ true → Before rank u v
-unfolding before
-before-of-test rank [] [] e = absurd (true≢false (sym e))
-before-of-test rank [] (y ∷ v) e = shorter y v refl
-before-of-test rank (x ∷ u) [] e = absurd (true≢false (sym e))
-before-of-test rank (x ∷ u) (y ∷ v) e = go (λ h. before-of-test rank u v h) (ℕ-discrete x y)
-  where
-    go : (before rank u v ≡ true → Before rank u v) → Dec (x ≡ y) → Before rank (x ∷ u) (y ∷ v)
-    go r (yes q) =
-        subst (λ (z : ℕ). Before rank (x ∷ u) (z ∷ v)) q
-        (before-behind (x ∷ []) (r (sym (before-same rank x u v) ∙ ap (λ (z : ℕ). before rank (x ∷ u) (z ∷ v)) q ∙ e)))
-    go r (no n) = lower [] x y u v refl refl (ltb-true (rank x) (rank y) (sym (before-unlike rank x y u v n) ∙ e))
-
--- where the first word comes before the second, the test holds
-pub test-of-before : {rank : ℕ → ℕ} {u v : Word} → Before rank u v → before rank u v ≡ true
-unfolding before
-test-of-before {rank} {u} {v} (shorter x t e) =
-    ap (before rank u) e ∙ ap (λ (w : Word). before rank w (u ++ (x ∷ t))) (sym (append-nil u)) ∙ test-behind rank u [] (x ∷ t)
-test-of-before {rank} {u} {v} (lower a x y s t e f h) =
-    ap (λ (w : Word). before rank w v) e
-    ∙ ap (before rank (a ++ (x ∷ s))) f
-    ∙ test-behind rank a (x ∷ s) (y ∷ t)
-    ∙ before-unlike rank x y s t (λ q. let k : rank x ≡ rank y = ap rank q in absurd (omega (arith, h, k)))
-    ∙ lt-ltb (rank x) (rank y) h
-
--- the test on words with a first letter: the same letters and the rests, or a lower rank
+-- words with a first letter: the same letters and the rests, or a lower rank
 FirstLetters : (ℕ → ℕ) → ℕ → Word → ℕ → Word → Type 0
 FirstLetters rank x u y v = ((x ≡ y) × (before rank u v ≡ true)) ⊎ (rank x < rank y)
 
+-- where the test holds, one of the two does
 first-letters : (rank : ℕ → ℕ) (x : ℕ) (u : Word) (y : ℕ) (v : Word) → before rank (x ∷ u) (y ∷ v) ≡ true → FirstLetters rank x u y v
 unfolding FirstLetters
 first-letters rank x u y v e = by-cases (ℕ-discrete x y)
     (λ q. inl (q, sym (before-same rank x u v) ∙ ap (λ (z : ℕ). before rank (x ∷ u) (z ∷ v)) q ∙ e))
     (λ n. inr (ltb-true (rank x) (rank y) (sym (before-unlike rank x y u v n) ∙ e)))
 
+-- where one of the two does, the test holds
 test-of-first-letters : (rank : ℕ → ℕ) (x : ℕ) (u : Word) (y : ℕ) (v : Word) → FirstLetters rank x u y v → before rank (x ∷ u) (y ∷ v) ≡ true
 unfolding FirstLetters
 test-of-first-letters rank x u y v (inl a) = ap (λ (z : ℕ). before rank (x ∷ u) (z ∷ v)) (sym (a .0)) ∙ before-same rank x u v ∙ a .1
 test-of-first-letters rank x u y v (inr h) = before-unlike rank x y u v (λ q. let k : rank x ≡ rank y = ap rank q in absurd (omega (arith, h, k))) ∙ lt-ltb (rank x) (rank y) h
+
+-- where the test holds, the first word comes before the second
+pub before-of-test : (rank : ℕ → ℕ) (u v : Word) → before rank u v ≡ true → Before rank u v
+unfolding before FirstLetters
+before-of-test rank [] [] e = absurd (true≢false (sym e))
+before-of-test rank [] (y ∷ v) e = shorter y v refl
+before-of-test rank (x ∷ u) [] e = absurd (true≢false (sym e))
+before-of-test rank (x ∷ u) (y ∷ v) e = ⊎-elim
+    (λ a. subst (λ (z : ℕ). Before rank (x ∷ u) (z ∷ v)) (a .0) (before-behind (x ∷ []) (before-of-test rank u v (a .1))))
+    (λ h. lower [] x y u v refl refl h)
+    (first-letters rank x u y v e)
+
+-- where the first word comes before the second, the test holds
+pub test-of-before : {rank : ℕ → ℕ} {u v : Word} → Before rank u v → before rank u v ≡ true
+unfolding before FirstLetters
+test-of-before {rank} {u} {v} (shorter x t e) =
+    ap (before rank u) e ∙ ap (λ (w : Word). before rank w (u ++ (x ∷ t))) (sym (append-nil u)) ∙ test-behind rank u [] (x ∷ t)
+test-of-before {rank} {u} {v} (lower a x y s t e f h) =
+    ap (λ (w : Word). before rank w v) e
+    ∙ ap (before rank (a ++ (x ∷ s))) f
+    ∙ test-behind rank a (x ∷ s) (y ∷ t)
+    ∙ test-of-first-letters rank x s y t (inr h)
 
 -- the test along three words
 test-trans : (rank : ℕ → ℕ) (u v w : Word) → before rank u v ≡ true → before rank v w ≡ true → before rank u w ≡ true
@@ -90,12 +87,13 @@ test-trans rank (x ∷ u) (y ∷ v) (z ∷ w) a b = test-of-first-letters rank x
     go r (inr h) (inl g) = inr (subst (λ (c : ℕ). rank x < rank c) (g .0) h)
     go r (inr h) (inr l) = inr (omega (arith, h, l))
 
--- no word comes before itself
+-- the test fails of a word and itself
 test-itself : (rank : ℕ → ℕ) (u : Word) → before rank u u ≡ false
 unfolding before
 test-itself rank [] = refl
 test-itself rank (x ∷ u) = before-same rank x u u ∙ test-itself rank u
 
+-- no word comes before itself
 pub before-irreflexive : {rank : ℕ → ℕ} (u : Word) → Before rank u u → ⊥
 before-irreflexive {rank} u b = true≢false (sym (test-of-before b) ∙ test-itself rank u)
 
@@ -149,15 +147,17 @@ before-parted x y s t (shorter c r e) n = absurd (n (c ∷ r) e)
 before-parted x y s t (lower a c d k l e f h) n =
     lower a c d (k ++ s) (l ++ t) (ap (_++ s) e ∙ append-assoc a (c ∷ k) s) (ap (_++ t) f ∙ append-assoc a (d ∷ l) t) h
 
--- the house table: ranks by the three ranges of letters
+-- the house table on the letters 0 to 31
 house-low : (c : ℕ) → c < 32 → houseRank c ≡ c + 32
 unfolding houseRank
 house-low c h = rw (lt-ltb c 32 h)
 
+-- on the letters 32 to 63
 house-middle : (c : ℕ) → 32 ≤ c → c < 64 → houseRank c ≡ c - 32
 unfolding houseRank
 house-middle c h l = rw (le-ltb c 32 h, lt-ltb c 64 l)
 
+-- on each further letter
 house-high : (c : ℕ) → 64 ≤ c → houseRank c ≡ c
 unfolding houseRank
 house-high c h = rw (le-ltb c 32 (omega arith), le-ltb c 64 h)

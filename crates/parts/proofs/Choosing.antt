@@ -1,9 +1,9 @@
 -- A law for each way that looking for the clean relation prefix, the carrier and the chosen member can go.
 use Prim.Native.Nat.{ℕ, _+_, _-_, _*_, _%_, _≤_, _<_}
-use mathlib.Core.Bool.{Bool, true, false, _&&_, not}
+use mathlib.Core.Bool.{Bool, true, false}
 use mathlib.Core.Logic.{by-cases}
 use mathlib.Core.List.{List, _++_}
-use mathlib.Core.Path.{_≡_, refl, sym, ap, _∙_, subst}
+use mathlib.Core.Path.{_≡_, sym, ap, _∙_}
 use native.Mathlib.Omega.{arith}
 use native.Mathlib.Decide.{decLt}
 use borrow.Author.Needs.{needs}
@@ -13,18 +13,17 @@ use mir.Val.{Fits}
 use lib.Dec.{eqb, ltb}
 use lib.ListN.{length, getD, take, drop, length-drop}
 use lib.Seq.{drop-drop}
-use Rattle.words.specs.Search.{anyBelow}
 use Rattle.words.specs.Words.{Word, isPrefix, part}
 use Rattle.words.specs.Relations.{other}
 use Rattle.words.proofs.Parts.{part-length}
 use Rattle.words.proofs.Prefixes.{prefix-length}
 use Rattle.words.proofs.Searching.{any-of, any-none}
 use Rattle.words.proofs.Relations.{other-there}
-use Rattle.overlap.specs.Cuts.{xylen, xOf, zOf}
+use Rattle.overlap.specs.Cuts.{zOf}
 use Rattle.overlap.proofs.Facts.{rigid-of-c4}
 use Rattle.congruence.specs.Rows.{cleanRelationPrefix, hasRelationPrefixBetween, active}
 use Rattle.congruence.proofs.Drops.{no-clean-prefix}
-use Rattle.least.specs.Possible.{relationOf, markedByAny, possible}
+use Rattle.least.specs.Possible.{relationOf}
 use Rattle.least.specs.Writing.{carrier, cleanBefore}
 use Rattle.layout.specs.Places.{tableRoom}
 use Rattle.layout.specs.Layout.{Span, wordsIn, Checked}

@@ -1,5 +1,5 @@
 -- A law for each way that a round without a clean relation prefix can go.
-use Prim.Native.Nat.{ℕ, zero, suc, _+_, _-_, _*_, _≤_, _<_}
+use Prim.Native.Nat.{ℕ, _+_, _-_, _≤_, _<_}
 use mathlib.Core.Bool.{Bool, true, false, true≢false}
 use mathlib.Core.Logic.{by-cases, ⊎-elim}
 use mathlib.Core.List.{List, [], _∷_, _++_}
@@ -7,19 +7,18 @@ use mathlib.Core.Path.{_≡_, refl, sym, ap, _∙_, subst}
 use native.Mathlib.Omega.{arith}
 use native.Mathlib.Decide.{decLt}
 use borrow.Author.Needs.{needs}
-use borrow.Author.Tests.{lt-ltb, le-ltb, ltb-true, ltb-false, eq-eqb, ne-eqb, eqb-true}
+use borrow.Author.Tests.{lt-ltb, le-ltb, eq-eqb, ne-eqb, eqb-true}
 use mir.Syntax.{w64}
 use mir.Val.{Fits}
-use lib.Dec.{eqb, ltb}
-use lib.ListN.{length, getD, take, drop, length-append, length-drop, length-take}
+use lib.Dec.{eqb}
+use lib.ListN.{length, getD, take, drop, length-drop, length-take}
 use lib.Seq.{drop-append-le, drop-drop, getD-take}
 use Rattle.words.specs.Words.{Word, isEmpty, isPrefix, commonPrefix, part}
 use Rattle.words.proofs.Tests.{true-or-false}
 use Rattle.words.proofs.Parts.{part-length, part-at, part-none, part-take, part-drop}
 use Rattle.words.proofs.Commons.{common-most}
-use Rattle.overlap.proofs.Facts.{rigid-of-c4}
 use Rattle.congruence.specs.NoRelationPrefix.{NoRelationPrefix}
-use Rattle.congruence.specs.Rows.{cleanRelationPrefix, alike}
+use Rattle.congruence.specs.Rows.{cleanRelationPrefix}
 use Rattle.congruence.proofs.ShapeNoPrefix.{no-prefix-drop}
 use Rattle.least.specs.Possible.{relationOf, possible}
 use Rattle.least.specs.Writing.{letterPart}
@@ -27,7 +26,7 @@ use Rattle.least.proofs.Possible.{possible-front}
 use Rattle.layout.specs.Layout.{wordsIn}
 use Rattle.moves.specs.declared.PlacedWord.{PlacedWord}
 use Rattle.moves.specs.declared.Mark.{Mark}
-use Rattle.moves.specs.State.{placedWord, placedMark, WordFits, MarkFits}
+use Rattle.moves.specs.State.{placedWord, placedMark, WordFits}
 use Rattle.moves.specs.Drops.{HasLetter}
 use Rattle.moves.proofs.Drops.{rest-place}
 use Rattle.walks.proofs.Legs.{prefix-rest, passed}

@@ -1,13 +1,13 @@
 -- The two words of a relation: which of them has the mark in its X and comes first, which one is chosen, and which one carries the next word.
-use Prim.Native.Nat.{ℕ, _+_, _-_, _%_, _/_, _≤_, _<_}
-use mathlib.Core.Bool.{Bool, true, false, _&&_, _||_, not, true≢false, and-eq-true-iff}
+use Prim.Native.Nat.{ℕ, _+_, _-_, _%_, _/_, _<_}
+use mathlib.Core.Bool.{Bool, true, false, _&&_, _||_, not, and-eq-true-iff}
 use mathlib.Core.Logic.{by-cases, _⊎_, inl, inr, ⊎-elim}
 use mathlib.Core.List.{List, [], append-nil}
-use mathlib.Core.Path.{_≡_, refl, sym, ap, _∙_, subst}
+use mathlib.Core.Path.{_≡_, refl, sym, _∙_, subst}
 use native.Mathlib.Omega.{arith}
 use native.Mathlib.Decide.{ℕ-discrete}
 use borrow.Author.Tests.{eq-eqb, ne-eqb, eqb-true, lt-ltb, le-ltb}
-use lib.Dec.{eqb, ltb}
+use lib.Dec.{eqb}
 use lib.ListN.{length}
 use Rattle.words.specs.Search.{anyBelow, least}
 use Rattle.words.specs.Words.{Word, isPrefix}
@@ -16,7 +16,7 @@ use Rattle.words.proofs.Tests.{false-of, true-or-false}
 use Rattle.words.proofs.Picks.{and-left, and-right}
 use Rattle.words.proofs.Prefixes.{prefix-append}
 use Rattle.words.proofs.Relations.{other-there, other-differs}
-use Rattle.words.proofs.Searching.{NoneBelow, any-of, any-none, least-is, least-none, least-passes, least-bound}
+use Rattle.words.proofs.Searching.{any-of, any-none, least-is, least-none, least-passes}
 use Rattle.overlap.specs.Cuts.{xOf, xyOf, zOf}
 use Rattle.congruence.specs.Rows.{active, choose}
 use Rattle.congruence.proofs.Heads.{Facts}

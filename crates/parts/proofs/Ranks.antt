@@ -1,8 +1,8 @@
 -- Dictionary order by the first difference, and a law for each way that the comparison of two X and Y can go.
-use Prim.Native.Nat.{ℕ, suc, _+_, _-_, _≤_, _<_}
+use Prim.Native.Nat.{ℕ, _+_, _-_, _≤_, _<_}
 use mathlib.Core.Bool.{Bool, true, false}
 use mathlib.Core.List.{List, [], _∷_}
-use mathlib.Core.Path.{_≡_, refl, sym, ap, _∙_}
+use mathlib.Core.Path.{_≡_, refl, sym}
 use native.Mathlib.Omega.{arith}
 use borrow.Author.Needs.{needs}
 use borrow.Author.Tests.{lt-ltb, le-ltb}
@@ -12,13 +12,11 @@ use lib.Dec.{eqb, ltb}
 use lib.ListN.{length, getD}
 use Rattle.words.specs.Words.{Word, commonPrefix, part}
 use Rattle.words.proofs.Parts.{part-length, part-at}
-use Rattle.words.proofs.Commons.{common-within}
 use Rattle.congruence.specs.Rows.{choose}
 use Rattle.least.specs.Order.{before, houseRank}
-use Rattle.layout.specs.Layout.{Span}
 use Rattle.joined.specs.Joined.{Agreed}
 use Rattle.sites.specs.declared.Site.{Site}
-use Rattle.sites.specs.Sites.{SiteInText, SitesInText}
+use Rattle.sites.specs.Sites.{SitesInText}
 use Rattle.parts.specs.Members.{firstAt}
 
 -- the rank of a letter

@@ -2,8 +2,8 @@
 use Prim.Native.Nat.{ℕ, _+_, _-_, _*_, _≤_, _<_}
 use mathlib.Core.Bool.{Bool, true, false, true≢false}
 use mathlib.Core.Logic.{by-cases}
-use mathlib.Core.List.{List, [], _∷_, _++_}
-use mathlib.Core.Path.{_≡_, refl, sym, ap, _∙_, subst}
+use mathlib.Core.List.{List, [], _∷_}
+use mathlib.Core.Path.{_≡_, refl, sym, ap, _∙_}
 use native.Mathlib.Omega.{arith}
 use native.Mathlib.Decide.{decLt}
 use borrow.Author.Needs.{needs}
@@ -20,9 +20,8 @@ use Rattle.overlap.specs.Cuts.{len, zlen, xylen, xyOf, zOf}
 use Rattle.overlap.proofs.Facts.{length-xy, z-bound}
 use Rattle.congruence.specs.Rows.{cleanRelationPrefix}
 use Rattle.congruence.proofs.ShapeNoPrefix.{prefix-past-tail}
-use Rattle.least.specs.Order.{houseRank}
 use Rattle.least.specs.Possible.{relationOf}
-use Rattle.least.specs.Writing.{letterPart, chosenMember, wholePart, otherPart, memberPart, writePart}
+use Rattle.least.specs.Writing.{letterPart, wholePart, otherPart, memberPart, writePart}
 use Rattle.layout.specs.Layout.{Span, wordsIn, Checked}
 use Rattle.layout.proofs.Placed.{words-length}
 use Rattle.sites.specs.declared.Site.{Site}
@@ -43,7 +42,7 @@ use Rattle.parts.specs.declared.Choice.{Choice}
 use Rattle.parts.specs.State.{HintRight, LeastReady, Makes, PartMade}
 use Rattle.parts.specs.Members.{ToldRight, ChoiceMade, hintOf, sourceBehind, ownStage}
 use Rattle.parts.specs.Asked.{WordAsked, LetterAsked, PlacesSmall, CleanAsked, RestFound, ChoiceFound, ApartFound, MemberFound, WholeFound, OtherFound}
-use Rattle.parts.proofs.Standing.{facts, site-lies, go-makes, empty-letters, empty-mark, bare-stands, tail-mark, found-small, found-written, found-source, found-lighter}
+use Rattle.parts.proofs.Standing.{facts, site-lies, go-makes, empty-letters, empty-mark, bare-stands, found-small, found-written, found-source, found-lighter}
 
 pub own-made : (s : Site) (m : Mark) (k : ℕ) (t : Told) (c : Source) (o : Hint) → c ≡ sourceBehind s m (s .tail) → o ≡ hintOf s t
     → Stages.Go c (record { word = record { at = 0; to = 0; from = k }; mark = record { at = 0; to = 0 }; hint = o }) ≡ ownStage s m k t

@@ -1,23 +1,22 @@
 -- What a round with a clean relation prefix leaves: letters of relation words that are written, and states that stand.
-use Prim.Native.Nat.{ℕ, _+_, _-_, _*_, _≤_, _<_}
-use mathlib.Core.Bool.{true, false, true≢false}
-use mathlib.Core.List.{List, [], _++_}
-use mathlib.Core.Path.{_≡_, refl, sym, ap, _∙_, subst}
+use Prim.Native.Nat.{ℕ, _+_, _-_, _≤_, _<_}
+use mathlib.Core.Bool.{true≢false}
+use mathlib.Core.List.{List, []}
+use mathlib.Core.Path.{_≡_, sym, ap, _∙_, subst}
 use native.Mathlib.Omega.{arith}
-use lib.ListN.{length, getD, take, drop}
-use Rattle.words.specs.Words.{Word, isPrefix, part}
-use Rattle.words.proofs.Parts.{part-length, part-at, part-none, part-take, part-drop}
+use lib.ListN.{length, take, drop}
+use Rattle.words.specs.Words.{Word, part}
+use Rattle.words.proofs.Parts.{part-length, part-at, part-take, part-drop}
 use Rattle.words.proofs.Prefixes.{prefix-length}
 use Rattle.overlap.specs.Pieces.{word}
-use Rattle.overlap.specs.Cuts.{len, xlen, xylen, xOf, xyOf, zOf}
+use Rattle.overlap.specs.Cuts.{len, xOf}
 use Rattle.overlap.proofs.Facts.{rigid-of-c4, length-x}
 use Rattle.congruence.specs.NoRelationPrefix.{NoRelationPrefix}
 use Rattle.congruence.proofs.Heads.{Facts}
 use Rattle.congruence.proofs.ShapeNoPrefix.{no-prefix-nil, no-prefix-z}
-use Rattle.least.specs.Writing.{Part}
-use Rattle.least.specs.Writing.Part.{end, none, part as writes}
+use Rattle.least.specs.Writing.Part.{part as writes}
 use Rattle.layout.specs.Layout.{wordsIn, Checked}
-use Rattle.layout.proofs.Placed.{words-length, end-inside}
+use Rattle.layout.proofs.Placed.{words-length}
 use Rattle.sites.specs.declared.Site.{Site}
 use Rattle.sites.specs.Sites.{siteOf}
 use Rattle.sites.proofs.Sites.{Lies, lies}
@@ -27,9 +26,9 @@ use Rattle.moves.specs.State.{placedWord, placedMark, WordFits, MarkFits}
 use Rattle.parts.specs.declared.Source.{Source}
 use Rattle.parts.specs.declared.LeastState.{LeastState}
 use Rattle.parts.specs.declared.Stage.the-variants as Stages
-use Rattle.parts.specs.State.{sourceWord, LettersLow, LeastFits, SourceFits, Goes, Makes, weight}
+use Rattle.parts.specs.State.{sourceWord, LettersLow, SourceFits, Goes, Makes, weight}
 use Rattle.parts.specs.Members.{sourceBehind}
-use Rattle.parts.specs.Asked.{PlacesSmall, RestFound, MemberFound}
+use Rattle.parts.specs.Asked.{PlacesSmall, MemberFound}
 use Rattle.parts.proofs.Members.{ChosenFits, chosen-fits}
 
 -- letters of relation words, and words that begin with a Z

@@ -1,7 +1,7 @@
 -- What a hint tells of Z behind X and Y, and a law for each way that the choice of a member can go.
-use Prim.Native.Nat.{ℕ, _+_, _-_, _*_, _%_, _≤_, _<_}
-use mathlib.Core.Bool.{Bool, true, false, _&&_, not, and-eq-true-iff}
-use mathlib.Core.List.{List, [], _++_}
+use Prim.Native.Nat.{ℕ, _+_, _*_, _≤_, _<_}
+use mathlib.Core.Bool.{Bool, true, false, and-eq-true-iff}
+use mathlib.Core.List.{List}
 use mathlib.Core.Path.{_≡_, refl, sym, ap, _∙_, subst}
 use native.Mathlib.Omega.{arith}
 use borrow.Author.Needs.{needs}
@@ -9,12 +9,10 @@ use borrow.Author.Tests.{not-true}
 use lib.ListN.{length, drop}
 use Rattle.words.specs.Words.{Word, isPrefix, part}
 use Rattle.words.proofs.Parts.{part-none}
-use Rattle.words.proofs.Tests.{true-or-false}
-use Rattle.overlap.specs.Cuts.{xylen, xOf, zOf}
+use Rattle.overlap.specs.Cuts.{xOf, zOf}
 use Rattle.overlap.proofs.Facts.{rigid-of-c4}
-use Rattle.congruence.specs.Rows.{cleanRelationPrefix}
 use Rattle.least.specs.Order.{houseRank}
-use Rattle.least.specs.Possible.{relationOf, markedByAny, possible}
+use Rattle.least.specs.Possible.{relationOf, possible}
 use Rattle.least.specs.Writing.{firstMember, chosenMember}
 use Rattle.least.proofs.Possible.{possible-turn}
 use Rattle.layout.specs.Layout.{wordsIn}

@@ -1,15 +1,15 @@
 -- A law for each way that the part of a whole relation word can go.
-use Prim.Native.Nat.{ℕ, _+_, _-_, _*_, _%_, _≤_, _<_}
+use Prim.Native.Nat.{ℕ, _+_, _*_, _%_, _≤_, _<_}
 use mathlib.Core.Bool.{Bool, true, false}
-use mathlib.Core.List.{List, [], _++_}
+use mathlib.Core.List.{List, _++_}
 use mathlib.Core.Path.{_≡_, refl, sym, ap, _∙_}
 use native.Mathlib.Omega.{arith}
 use borrow.Author.Needs.{needs}
 use lib.ListN.{length, drop, length-drop}
-use Rattle.words.specs.Words.{Word, isPrefix, part}
+use Rattle.words.specs.Words.{Word}
 use Rattle.words.proofs.Prefixes.{prefix-length}
 use Rattle.overlap.specs.Pieces.{word}
-use Rattle.overlap.specs.Cuts.{zlen, xyOf, zOf}
+use Rattle.overlap.specs.Cuts.{xyOf, zOf}
 use Rattle.overlap.proofs.Facts.{length-z}
 use Rattle.congruence.specs.Rows.{active}
 use Rattle.least.specs.Possible.{relationOf}
@@ -18,7 +18,6 @@ use Rattle.layout.specs.Layout.{wordsIn}
 use Rattle.layout.proofs.Placed.{words-length}
 use Rattle.sites.specs.declared.Site.{Site}
 use Rattle.sites.specs.Sites.{siteOf}
-use Rattle.sites.proofs.Sites.{Lies}
 use Rattle.moves.specs.State.{placedMark}
 use Rattle.parts.specs.declared.Hint.the-variants as Hints
 use Rattle.parts.specs.declared.Source.{Source}

@@ -15,7 +15,7 @@ use Rattle.rows.specs.Pairs.{Paired}
 use Rattle.sites.specs.declared.Site.{Site}
 use Rattle.moves.specs.declared.PlacedWord.{PlacedWord}
 use Rattle.moves.specs.declared.Mark.{Mark}
-use Rattle.moves.specs.State.{placedWord, placedMark, WordFits, MarkFits, Ready}
+use Rattle.moves.specs.State.{placedWord, placedMark, WordFits, MarkFits}
 use Rattle.moves.specs.Drops.{heldEmpty}
 use Rattle.parts.specs.declared.LeastState.{LeastState}
 use Rattle.parts.specs.declared.Told.{Told}

@@ -5,7 +5,6 @@ use mathlib.Core.List.{List}
 use lib.Dec.{eqb, ltb}
 use lib.ListN.{getD}
 use Rattle.moves.specs.declared.PlacedWord.{PlacedWord}
-use Rattle.moves.specs.declared.Mark.{Mark}
 use Rattle.moves.specs.State.{MarkFits}
 use Rattle.parts.specs.declared.Hint.{Hint}
 use Rattle.parts.specs.declared.Hint.the-variants as Hints

@@ -1,8 +1,7 @@
 // One round of the least word: what is written, and the word and the mark that it goes on with. The word is held as a part of the presentation's text followed by
 // the rest of the given word, and the mark as a part of the text, so that no word is ever copied.
 ghost use mathlib.Core.Path.{_≡_};
-ghost use lib.ListN.{length, drop};
-ghost use Rattle.words.specs.Words.{part};
+ghost use lib.ListN.{drop};
 ghost use Rattle.overlap.specs.Cuts.{zOf};
 ghost use Rattle.congruence.specs.Rows.{cleanRelationPrefix, active};
 ghost use Rattle.least.specs.Order.{houseRank};

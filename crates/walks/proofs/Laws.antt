@@ -1,15 +1,15 @@
 -- A law for each way that a walk can go.
 use Prim.Native.Nat.{ℕ, _+_, _-_, _*_, _%_, _≤_, _<_, min}
-use mathlib.Core.Bool.{Bool, true, false, _||_}
+use mathlib.Core.Bool.{Bool, true, false}
 use mathlib.Core.Logic.{by-cases}
-use mathlib.Core.List.{List, _++_}
+use mathlib.Core.List.{List}
 use mathlib.Core.Path.{_≡_, refl, sym, ap, _∙_, subst}
 use native.Mathlib.Omega.{arith}
 use native.Mathlib.Decide.{decLt}
 use borrow.Author.Needs.{needs}
 use mir.Syntax.{w64}
 use mir.Val.{Fits}
-use lib.ListN.{length, take, drop, length-append, length-drop}
+use lib.ListN.{length, take, drop, length-drop}
 use lib.Seq.{drop-drop}
 use Rattle.words.specs.Words.{Word, isPrefix, commonPrefix, part}
 use Rattle.words.specs.Relations.{other}
@@ -17,24 +17,23 @@ use Rattle.words.proofs.Parts.{part-length, part-drop}
 use Rattle.words.proofs.Prefixes.{prefix-fits}
 use Rattle.words.proofs.Commons.{common-within, common-prefix, common-no-prefix}
 use Rattle.words.proofs.Relations.{other-there}
-use Rattle.overlap.specs.Cuts.{xylen, xOf, xyOf, zOf}
+use Rattle.overlap.specs.Cuts.{xylen, xyOf}
 use Rattle.overlap.proofs.Facts.{length-xy, rigid-of-c4}
 use Rattle.congruence.specs.Rows.{cleanRelationPrefix}
-use Rattle.congruence.proofs.Heads.{Facts}
 use Rattle.least.specs.Possible.{relationOf, markedByAny, possible}
 use Rattle.least.proofs.Possible.{possible-front, possible-turn, possible-unmarked}
-use Rattle.layout.specs.Layout.{Span, wordsIn, Checked}
+use Rattle.layout.specs.Layout.{wordsIn, Checked}
 use Rattle.layout.proofs.Placed.{words-length}
 use Rattle.joined.specs.Joined.{Agreed}
 use Rattle.sites.specs.declared.Site.{Site}
-use Rattle.sites.specs.Sites.{siteOf, SiteInText, SitesInText}
+use Rattle.sites.specs.Sites.{siteOf, SitesInText}
 use Rattle.sites.specs.Prefixes.{markInEitherX}
 use Rattle.sites.proofs.Sites.{Lies, lies, site-in-text}
 use Rattle.sites.proofs.CleanPrefixes.{clean-prefix}
 use Rattle.moves.proofs.Laws.{rest-lent}
 use Rattle.walks.specs.declared.Leg.{Leg}
 use Rattle.walks.specs.declared.Leg.the-variants as Legs
-use Rattle.walks.specs.Walks.{PlaceAsked, PlacesAsked, FirstClean, Walking, Turning, Parting, legPossible, Further, LegStands, LegMade}
+use Rattle.walks.specs.Walks.{PlaceAsked, PlacesAsked, FirstClean, Walking, Turning, Parting, Further, LegStands, LegMade}
 use Rattle.walks.proofs.Pairs.{marked-pair}
 use Rattle.walks.proofs.Legs.{prefix-rest, passed, ends}
 

@@ -1,13 +1,12 @@
 -- A family of two words, those of one relation: a mark lies in the X of a member exactly when it lies in one of the two.
 use Prim.Native.Nat.{ℕ, _%_, _/_, _<_}
-use mathlib.Core.Bool.{Bool, true, false, _&&_, _||_}
+use mathlib.Core.Bool.{Bool, true, false, _||_}
 use mathlib.Core.Logic.{by-cases, _⊎_, inl, inr, ⊎-elim}
 use mathlib.Core.List.{List}
 use mathlib.Core.Path.{_≡_, refl, sym, subst}
 use native.Mathlib.Omega.{arith}
 use native.Mathlib.Decide.{ℕ-discrete}
 use borrow.Author.Tests.{eq-eqb, ne-eqb}
-use lib.Dec.{eqb}
 use lib.ListN.{length}
 use Rattle.words.specs.Search.{anyBelow}
 use Rattle.words.specs.Words.{Word, isPrefix}

@@ -1,6 +1,6 @@
 // Whether a mark is a possible prefix of the rest of the given word: a walk along that rest, which rewrites nothing. The mark is a part of the text.
 ghost use mathlib.Core.Path.{_≡_};
-ghost use lib.ListN.{length, drop};
+ghost use lib.ListN.{drop};
 ghost use Rattle.words.specs.Words.{part};
 ghost use Rattle.congruence.specs.Rows.{cleanRelationPrefix};
 ghost use Rattle.least.specs.Possible.{relationOf, possible};
