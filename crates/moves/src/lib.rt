@@ -131,7 +131,7 @@ fn carry_out(s: State, plan: Plan) -> Move
 }
 
 // Whether a held word has no letter.
-fn held_empty(given: &[u16], h: PlacedWord) -> bool
+pub fn held_empty(given: &[u16], h: PlacedWord) -> bool
     ensures { λ r. ⌜ r ≡ heldEmpty (length (now (given .entry))) h ⌝ }
 {
     if h.at < h.to {
@@ -141,7 +141,7 @@ fn held_empty(given: &[u16], h: PlacedWord) -> bool
 }
 
 // The first letter of a held word.
-fn first_letter(text: &[u16], given: &[u16], h: PlacedWord) -> u16
+pub fn first_letter(text: &[u16], given: &[u16], h: PlacedWord) -> u16
     requires { ⌜ HasLetter (now text) (now given) h ⌝ }
     ensures { λ r. ⌜ r ≡ getD (placedWord (now (text .entry)) (now (given .entry)) h) 0 0 ⌝ }
 {

@@ -1,0 +1,256 @@
+-- A law for each way that looking for the clean relation prefix, the carrier and the chosen member can go.
+use Prim.Native.Nat.{ℕ, _+_, _-_, _*_, _%_, _≤_, _<_}
+use mathlib.Core.Bool.{Bool, true, false}
+use mathlib.Core.Logic.{by-cases}
+use mathlib.Core.List.{List, _++_}
+use mathlib.Core.Path.{_≡_, sym, ap, _∙_}
+use native.Mathlib.Omega.{arith}
+use native.Mathlib.Decide.{decLt}
+use borrow.Author.Needs.{needs}
+use borrow.Author.Tests.{lt-ltb, le-ltb, eq-eqb, ne-eqb}
+use mir.Syntax.{w64}
+use mir.Val.{Fits}
+use lib.Dec.{eqb, ltb}
+use lib.ListN.{length, getD, take, drop, length-drop}
+use lib.Seq.{drop-drop}
+use Rattle.words.specs.Words.{Word, isPrefix, part}
+use Rattle.words.specs.Relations.{other}
+use Rattle.words.proofs.Parts.{part-length}
+use Rattle.words.proofs.Prefixes.{prefix-length}
+use Rattle.words.proofs.Searching.{any-of, any-none}
+use Rattle.words.proofs.Relations.{other-there}
+use Rattle.overlap.specs.Cuts.{zOf}
+use Rattle.overlap.proofs.Facts.{rigid-of-c4}
+use Rattle.congruence.specs.Rows.{cleanRelationPrefix, hasRelationPrefixBetween, active}
+use Rattle.congruence.proofs.Drops.{no-clean-prefix}
+use Rattle.least.specs.Possible.{relationOf}
+use Rattle.least.specs.Writing.{carrier, cleanBefore}
+use Rattle.layout.specs.Places.{tableRoom}
+use Rattle.layout.specs.Layout.{Span, wordsIn, Checked}
+use Rattle.layout.proofs.Placed.{words-length, start-bound}
+use Rattle.sites.specs.declared.Site.{Site}
+use Rattle.sites.specs.Sites.{siteOf, SitesInText}
+use Rattle.sites.specs.Prefixes.{markInEitherX}
+use Rattle.sites.specs.FirstLetters.{emptyList}
+use Rattle.sites.proofs.Sites.{Lies, lies, site-in-text}
+use Rattle.sites.proofs.FirstLetters.{begins-none}
+use Rattle.moves.specs.declared.PlacedWord.{PlacedWord}
+use Rattle.moves.specs.declared.Mark.{Mark}
+use Rattle.moves.specs.State.{placedWord, placedMark}
+use Rattle.moves.specs.Drops.{HasLetter}
+use Rattle.moves.proofs.Laws.{rest-lent}
+use Rattle.walks.specs.Walks.{PlacesAsked, FirstClean}
+use Rattle.walks.proofs.Pairs.{marked-pair}
+use Rattle.parts.specs.Members.{quiet, applies}
+use Rattle.parts.specs.Asked.{WordAsked, MarkAsked, RestAsked, QuietAsked}
+use Rattle.parts.proofs.Members.{carrier-low, carrier-high, carrier-own}
+
+-- the clean relation prefix of a held word
+module _ (text table : List ℕ) (n : ℕ) (given : Word) (h : PlacedWord) (a : WordAsked text table n given h) where
+  pub word-letter : HasLetter text given h
+  word-letter = record { inside = a .fits .inside; some = a .some }
+
+  pub word-table : length table ≡ tableRoom
+  word-table = a .checked .indexed .room
+
+  pub word-checked : Checked text table n
+  word-checked = a .checked
+
+  pub word-up : h .at ≤ h .to
+  word-up = a .fits .up
+
+  pub word-inside : h .to ≤ length text
+  word-inside = a .fits .inside
+
+  pub word-within : h .from ≤ length given
+  word-within = a .fits .within
+
+  pub word-none : (x : ℕ) → x ≡ getD (placedWord text given h) 0 0 → (b : Bool) → b ≡ emptyList table x → b ≡ true → n ≡ cleanRelationPrefix (wordsIn text table n) (placedWord text given h)
+  word-none x e b f t =
+      sym (no-clean-prefix (wordsIn text table n) (rigid-of-c4 (wordsIn text table n) (a .checked .accepted)) (placedWord text given h)
+      (rw e at (begins-none text table n (a .checked) x (sym f ∙ t))) ∙ words-length text table n)
+
+pub word-clean : (text table : List ℕ) (n : ℕ) (given : Word) (h : PlacedWord) (r : ℕ)
+    → r ≡ cleanRelationPrefix (wordsIn text table n) (part text (h .at) (h .to) ++ take (length given - h .from) (drop (h .from) given))
+    → r ≡ cleanRelationPrefix (wordsIn text table n) (placedWord text given h)
+word-clean text table n given h r e = rw (rest-lent given (h .from)) at e
+
+pub ruleset wordsClean = (word-letter, word-table, word-checked, word-up, word-inside, word-within, word-none, word-clean, needs)
+
+-- a rest that is active
+module _ (text table : List ℕ) (n : ℕ) (given : Word) (j k : ℕ) (a : RestAsked text table n given j k) where
+  pub rest-room : 4 * j + 3 < length table
+  rest-room = let l = a .paired .checked .laid .few in let b = a .paired .checked .indexed .room in let c = a .there in omega arith
+
+  pub rest-checked : Checked text table n
+  rest-checked = a .paired .checked
+
+  pub rest-within : k ≤ length given
+  rest-within = a .within
+
+  module _ (s : Site) (e : s ≡ siteOf table j) where
+    rest-lies : Lies text (wordsIn text table n) j s
+    rest-lies = rw e (lies text table n (a .paired .checked) j (a .there))
+
+    pub rest-up : s .tail ≤ s .stop
+    rest-up = rest-lies .third
+
+    pub rest-inside : s .stop ≤ length text
+    rest-inside = rest-lies .inside
+
+    pub rest-fits : Fits w64 (s .tail * 2)
+    unfolding siteOf
+    rest-fits =
+        let l = a .paired .checked .laid in
+        let b = start-bound text table n l j (let t = a .there in omega (arith, t)) in
+        let f = l .few in
+        let r = rest-lies in
+        let d = ap (λ (t : Site). t .start) e in
+        let t = a .there in
+        omega (arith, b, f, t, d, r .third, r .short)
+
+    pub rest-active : (r : Bool) → r ≡ hasRelationPrefixBetween (wordsIn text table n) (part text (s .tail) (s .stop) ++ take (length given - k) (drop k given)) 0 (s .stop - s .tail)
+        → r ≡ active (wordsIn text table n) (zOf (wordsIn text table n) j) (drop k given)
+    unfolding active
+    rest-active r f =
+        let l = part-length text (s .tail) (s .stop) rest-inside in
+        rw (rest-lies .z, l) (rw (rest-lent given k) at f)
+
+pub ruleset actives = (rest-room, rest-checked, rest-within, rest-up, rest-inside, rest-fits, rest-active, needs)
+
+-- the carrier
+module _ (text table : List ℕ) (n : ℕ) (given : Word) (i k : ℕ) (a : RestAsked text table n given i k) where
+  even : length (wordsIn text table n) % 2 ≡ 0
+  even = rw (words-length text table n) (a .paired .even)
+
+  there : i < length (wordsIn text table n)
+  there = rw (words-length text table n) (a .there)
+
+  pub low-asked : RestAsked text table n given (i - i % 2) k
+  low-asked = record { paired = a .paired; there = let c = a .there in omega arith; within = a .within }
+
+  pub high-asked : RestAsked text table n given (i - i % 2 + 1) k
+  high-asked = record { paired = a .paired; there = let c = a .there in let e = a .paired .even in omega arith; within = a .within }
+
+  pub low-fits : i % 2 ≤ i
+  low-fits = omega arith
+
+  pub high-fits : Fits w64 (i - i % 2 + 1)
+  high-fits = let c = a .there in let l = a .paired .checked .laid .few in omega arith
+
+  module _ (x : Bool) (e : x ≡ active (wordsIn text table n) (zOf (wordsIn text table n) (i - i % 2)) (drop k given)) where
+    pub carried-low : x ≡ true → i - i % 2 ≡ carrier (wordsIn text table n) relationOf i (drop k given)
+    carried-low h = sym (carrier-low (wordsIn text table n) i (drop k given) even there (sym e ∙ h))
+
+    module _ (h : x ≡ false) (y : Bool) (f : y ≡ active (wordsIn text table n) (zOf (wordsIn text table n) (i - i % 2 + 1)) (drop k given)) where
+      pub carried-high : y ≡ true → i - i % 2 + 1 ≡ carrier (wordsIn text table n) relationOf i (drop k given)
+      carried-high l = sym (carrier-high (wordsIn text table n) i (drop k given) even there (sym e ∙ h) (sym f ∙ l))
+
+      pub carried-own : y ≡ false → i ≡ carrier (wordsIn text table n) relationOf i (drop k given)
+      carried-own l = sym (carrier-own (wordsIn text table n) i (drop k given) even there (sym e ∙ h) (sym f ∙ l))
+
+pub ruleset carriers = (low-asked, high-asked, low-fits, high-fits, carried-low, carried-high, carried-own, needs)
+
+-- a part that stands quiet
+module _ (text table : List ℕ) (n : ℕ) (given : Word) (at to k : ℕ) (a : QuietAsked text table n given at to k) where
+  pub quiet-span : Span text at to
+  quiet-span = a .span
+
+  pub quiet-up : at ≤ to
+  quiet-up = a .span .upwards
+
+  pub quiet-fits : Fits w64 (k + (to - at))
+  quiet-fits = let b = a .span .inside in let c = a .small in let d = a .within in let e = a .short in omega (arith, b, c, d, e)
+
+  long : length (part text at to) ≡ to - at
+  long = part-length text at to (a .span .inside)
+
+  module _ (x : Bool) (e : x ≡ isPrefix (part text at to) (drop k given)) where
+    pub quiet-asked : x ≡ true → PlacesAsked text table n given k (k + (to - at))
+    quiet-asked h =
+        let b = prefix-length (part text at to) (drop k given) (sym e ∙ h) in
+        let d = length-drop k given in
+        let l = long in
+        let w = a .within in
+        record { checked = a .checked; up = omega arith; within = omega (arith, b, d, l, w) }
+
+    pub quiet-not : x ≡ false → false ≡ quiet text (wordsIn text table n) given at to k
+    unfolding quiet
+    quiet-not h = rw (← e, h)
+
+    -- a clean relation prefix begins at a place behind k
+    cleanAt : ℕ → Bool
+    cleanAt z = ltb (cleanRelationPrefix (wordsIn text table n) (drop z (drop k given))) (length (wordsIn text table n))
+
+    clean-some : (q : ℕ) → k ≤ q → cleanRelationPrefix (wordsIn text table n) (drop q given) < length (wordsIn text table n) → cleanAt (q - k) ≡ true
+    unfolding cleanAt
+    clean-some q l h =
+        let d : drop (q - k) (drop k given) ≡ drop q given = drop-drop (q - k) k given ∙ ap (λ z. drop z given) {x = k + (q - k)} {y = q} (omega (arith, l)) in
+        rw d (lt-ltb (cleanRelationPrefix (wordsIn text table n) (drop q given)) (length (wordsIn text table n)) h)
+
+    clean-not : (z : ℕ) → length (wordsIn text table n) ≤ cleanRelationPrefix (wordsIn text table n) (drop (k + z) given) → cleanAt z ≡ false
+    unfolding cleanAt
+    clean-not z h = rw (drop-drop z k given) (le-ltb (cleanRelationPrefix (wordsIn text table n) (drop (k + z) given)) (length (wordsIn text table n)) h)
+
+    pub quiet-told : x ≡ true → (q : ℕ) → FirstClean (wordsIn text table n) given k (k + (to - at)) q → eqb q (k + (to - at)) ≡ quiet text (wordsIn text table n) given at to k
+    unfolding quiet cleanBefore cleanAt
+    quiet-told h q c =
+        let l = long in
+        by-cases (decLt q (k + (to - at)))
+        (λ b.
+        let o = c .low in
+        let m = any-of (length (part text at to)) cleanAt (q - k) (omega (arith, l, b, o)) (clean-some q o (c .some b)) in
+        rw (← e, h, m, ne-eqb q (k + (to - at)) (λ z. omega (arith, z, b))))
+        (λ b.
+        let o = c .high in
+        let m = any-none (length (part text at to)) cleanAt (λ z d. clean-not z (c .none (k + z) (omega arith) (omega (arith, d, l, b)))) in
+        rw (← e, h, m, eq-eqb q (k + (to - at)) (omega (arith, b, o))))
+
+pub ruleset quiets = (quiet-span, quiet-up, quiet-fits, quiet-asked, quiet-not, quiet-told, needs)
+
+-- whether a hint applies
+module _ (text table : List ℕ) (n : ℕ) (given : Word) (i : ℕ) (q : Mark) (from : ℕ) (a : MarkAsked text table n i q) where
+  pub applies-span : Span text (q .at) (q .to)
+  applies-span = record { upwards = a .mark .up; inside = a .mark .inside }
+
+  pub applies-up : q .at ≤ q .to
+  applies-up = a .mark .up
+
+  pub applies-inside : q .to ≤ length text
+  applies-inside = a .mark .inside
+
+  pub applies-room : 4 * i + 3 < length table
+  applies-room = let l = a .paired .checked .laid .few in let b = a .paired .checked .indexed .room in let c = a .there in omega arith
+
+  pub applies-few : i ≤ 64
+  applies-few = let l = a .paired .checked .laid .few in let c = a .there in omega arith
+
+  module _ (x : Bool) (e : x ≡ isPrefix (part text (q .at) (q .to)) (drop from given)) where
+    pub applies-not : x ≡ true → false ≡ applies (wordsIn text table n) given i (placedMark text q) from
+    unfolding applies
+    applies-not h = rw (← e, h)
+
+    module _ (o : ℕ) (eo : o ≡ other i) where
+      other-known : other i < n
+      other-known = other-there n i (a .paired .even) (a .there)
+
+      pub applies-room-other : 4 * o + 3 < length table
+      applies-room-other = let l = a .paired .checked .laid .few in let b = a .paired .checked .indexed .room in let c = other-known in omega (arith, l, b, c, eo)
+
+      module _ (s t : Site) (es : s ≡ siteOf table i) (et : t ≡ siteOf table o) where
+        own : Lies text (wordsIn text table n) i s
+        own = rw es (lies text table n (a .paired .checked) i (a .there))
+
+        oth : Lies text (wordsIn text table n) (other i) t
+        oth = rw (et, eo) (lies text table n (a .paired .checked) (other i) other-known)
+
+        pub applies-sites : SitesInText text s t
+        applies-sites = record { own = site-in-text text (wordsIn text table n) i s own; other = site-in-text text (wordsIn text table n) (other i) t oth }
+
+        pub applies-marked : x ≡ false → (y : Bool) → y ≡ markInEitherX text s t (part text (q .at) (q .to)) → y ≡ applies (wordsIn text table n) given i (placedMark text q) from
+        unfolding applies markInEitherX
+        applies-marked h y f =
+            let even : length (wordsIn text table n) % 2 ≡ 0 = rw (words-length text table n) (a .paired .even) in
+            rw (← e, h, marked-pair (wordsIn text table n) i (placedMark text q) even (own .known), own .x, oth .x) f
+
+pub ruleset applications = (applies-span, applies-up, applies-inside, applies-room, applies-few, applies-not, applies-room-other, applies-sites, applies-marked, needs)

@@ -1,0 +1,10 @@
+pub mod Ranks
+pub mod Members
+pub mod Laws
+pub mod Choosing
+pub mod Telling
+pub mod Standing
+pub mod Wholes
+pub mod Others
+pub mod Letters
+pub mod Rounds

@@ -1,0 +1,26 @@
+use Rattle.parts.proofs.Ranks.{firsts}
+use Rattle.parts.proofs.comes_first.Statement.{statement}
+use Rattle.parts.proofs.comes_first.Tie as tie
+
+pub comes-first-spec : {M : Type 1} → statement M
+comes-first-spec =
+    tie.close
+    (tie.spec
+    (λ c. search firsts)
+    (λ c. search firsts)
+    (λ c. search firsts)
+    (λ c. search firsts)
+    (λ c κs. search firsts)
+    (λ c. search firsts)
+    (λ c. search firsts)
+    (λ c. search firsts)
+    (λ c. search firsts)
+    (λ c. search firsts)
+    (λ c. search firsts)
+    (λ c. search firsts)
+    (λ c κs. search firsts)
+    (λ c. search firsts)
+    (λ c. search firsts)
+    (λ c. search firsts)
+    (λ c κs. search firsts)
+    (λ c. search firsts))

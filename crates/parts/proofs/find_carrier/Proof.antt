@@ -1,0 +1,16 @@
+use Rattle.parts.proofs.Choosing.{carriers}
+use Rattle.parts.proofs.find_carrier.Statement.{statement}
+use Rattle.parts.proofs.find_carrier.Tie as tie
+
+pub find-carrier-spec : {M : Type 1} → statement M
+find-carrier-spec =
+    tie.close
+    (tie.spec
+    (λ c. search carriers)
+    (λ c κs. search carriers)
+    (λ c. search carriers)
+    (λ c. search carriers)
+    (λ c κs. search carriers)
+    (λ c. search carriers)
+    (λ c. search carriers)
+    (λ c. search carriers))

@@ -1,0 +1,17 @@
+use Rattle.parts.proofs.Choosing.{quiets}
+use Rattle.parts.proofs.stands_quiet.Statement.{statement}
+use Rattle.parts.proofs.stands_quiet.Tie as tie
+
+pub stands-quiet-spec : {M : Type 1} → statement M
+stands-quiet-spec =
+    tie.close
+    (tie.spec
+    (λ c. search quiets)
+    (λ c. search quiets)
+    (λ c. search quiets)
+    (λ c κs. search quiets)
+    (λ c. search quiets)
+    (λ c. search quiets)
+    (λ c κs. search quiets)
+    (λ c. search quiets)
+    (λ c. search quiets))

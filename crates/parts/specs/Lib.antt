@@ -1,0 +1,4 @@
+pub mod State
+pub mod Letters
+pub mod Members
+pub mod Asked

@@ -1,0 +1,659 @@
+// One round of the least word: what is written, and the word and the mark that it goes on with. The word is held as a part of the presentation's text followed by
+// the rest of the given word, and the mark as a part of the text, so that no word is ever copied.
+ghost use mathlib.Core.Path.{_≡_};
+ghost use lib.ListN.{drop};
+ghost use Rattle.overlap.specs.Cuts.{zOf};
+ghost use Rattle.congruence.specs.Rows.{cleanRelationPrefix, active};
+ghost use Rattle.least.specs.Order.{houseRank};
+ghost use Rattle.least.specs.Possible.{relationOf, possible};
+ghost use Rattle.least.specs.Writing.{letterPart, firstMember, carrier, wholePart, otherPart, memberPart};
+ghost use Rattle.layout.specs.Layout.{wordsIn};
+ghost use Rattle.sites.specs.Sites.{SitesInText};
+ghost use Rattle.moves.specs.State.{placedWord, placedMark};
+ghost use Rattle.parts.specs.State.{LeastReady, Makes, PartMade};
+ghost use Rattle.parts.specs.Letters.{WordSmall, withoutLetter, firstSource, HintLies, hintBehind};
+ghost use Rattle.parts.specs.Members.{firstAt, firstOfTwo, ToldRight, ChoiceMade, hintOf, sourceBehind, quiet, applies, settled, ownStage};
+ghost use Rattle.parts.specs.Asked.{WordAsked, LetterAsked, MarkAsked, PlacesSmall, RestAsked, QuietAsked, CleanAsked, RestFound, ToldFound, ChoiceFound, ApartFound, WholeFound, OtherFound};
+use moves::Mark;
+use moves::PlacedWord;
+use sites::Site;
+
+// What an earlier walk told of the current word: whether a mark is a possible prefix of it.
+pub enum Hint {
+    Unknown,
+    Known(Mark, bool),
+}
+
+// What the rounds go on from: the word u, the front mark p, and what is known of u.
+pub struct LeastState {
+    pub word: PlacedWord,
+    pub mark: Mark,
+    pub hint: Hint,
+}
+
+// Letters that are written: of the given word, or of the text, from one place to another.
+pub struct Source {
+    pub given: bool,
+    pub from: usize,
+    pub to: usize,
+}
+
+// One round: the end of the least word; that there is none; or the letters written and the next state.
+pub enum Stage {
+    End,
+    None,
+    Go(Source, LeastState),
+}
+
+// Whether a Z is a possible prefix of what follows its X and Y, where that is known.
+pub enum Told {
+    Nothing,
+    That(bool),
+}
+
+// The relation word whose X and Y the least word begins with, or the number of relation words, and what is known of Z behind X and Y.
+pub struct Choice {
+    pub member: usize,
+    pub told: Told,
+}
+
+// The rank of a letter in the house table.
+fn rank(letter: u16) -> u16
+    ensures { λ r. ⌜ r ≡ houseRank letter ⌝ }
+{
+    if letter < 32 {
+        return letter + 32;
+    }
+    if letter < 64 {
+        return letter - 32;
+    }
+    letter
+}
+
+// Whether the X and Y at s come before those at t.
+fn comes_first(text: &[u16], s: Site, t: Site) -> bool
+    requires { ⌜ SitesInText (now text) s t ⌝ }
+    ensures { λ r. ⌜ r ≡ firstAt (now (text .entry)) s t ⌝ }
+{
+    let from = s.start;
+    let at = t.start;
+    let to = t.tail;
+    let m = joined::common_prefix_in(text, from, s.tail, &text[at..to], 0, 0);
+    if to - at <= m {
+        return false;
+    }
+    if s.tail - from <= m {
+        return true;
+    }
+    rank(text[from + m]) < rank(text[at + m])
+}
+
+// Of the relation words i at s and j at t, those with p a prefix of their X, the one whose X and Y come first, or n.
+fn first_of_two(text: &[u16], s: Site, t: Site, p: &[u16], i: usize, j: usize, n: usize) -> usize
+    requires { ⌜ SitesInText (now text) s t ⌝ }
+    ensures { λ r. ⌜ r ≡ firstOfTwo (now (text .entry)) s t (now (p .entry)) i j n ⌝ }
+{
+    if sites::mark_in_x(text, s, p) {
+        if sites::mark_in_x(text, t, p) {
+            if comes_first(text, s, t) {
+                return i;
+            }
+            return j;
+        }
+        return i;
+    }
+    if sites::mark_in_x(text, t, p) {
+        return j;
+    }
+    n
+}
+
+// Of the two words of i's relation, the first in the dictionary whose X the mark begins, or n.
+fn first_member(text: &[u16], table: &[u16], n: usize, i: usize, mark: Mark) -> usize
+    requires { ⌜ MarkAsked (now text) (now table) n i mark ⌝ }
+    ensures { λ r. ⌜ r ≡ firstMember (wordsIn (now (text .entry)) (now (table .entry)) n) relationOf houseRank i (placedMark (now (text .entry)) mark) ⌝ }
+{
+    let o = sites::other_word(i);
+    let own = sites::read_site(table, i);
+    let other = sites::read_site(table, o);
+    let at = mark.at;
+    let to = mark.to;
+    first_of_two(text, own, other, &text[at..to], i, o, n)
+}
+
+// The letters of the relation word at s behind the mark, up to a place.
+fn source_behind(s: Site, mark: Mark, to: usize) -> Source
+    requires { ⌜ PlacesSmall s mark ⌝ }
+    ensures { λ r. ⌜ r ≡ sourceBehind s mark to ⌝ }
+{
+    Source {
+        given: false,
+        from: s.start + (mark.to - mark.at),
+        to,
+    }
+}
+
+// A held word without its first letter.
+fn without_letter(h: PlacedWord) -> PlacedWord
+    requires { ⌜ WordSmall h ⌝ }
+    ensures { λ r. ⌜ r ≡ withoutLetter h ⌝ }
+{
+    if h.at < h.to {
+        return PlacedWord {
+            at: h.at + 1,
+            to: h.to,
+            from: h.from,
+        };
+    }
+    PlacedWord {
+        at: h.at,
+        to: h.to,
+        from: h.from + 1,
+    }
+}
+
+// Where the first letter of a held word stands.
+fn first_source(h: PlacedWord) -> Source
+    requires { ⌜ WordSmall h ⌝ }
+    ensures { λ r. ⌜ r ≡ firstSource h ⌝ }
+{
+    if h.at < h.to {
+        return Source {
+            given: false,
+            from: h.at,
+            to: h.at + 1,
+        };
+    }
+    Source {
+        given: true,
+        from: h.from,
+        to: h.from + 1,
+    }
+}
+
+// What is known of a word without its first letter x.
+fn hint_behind(text: &[u16], hint: Hint, x: u16) -> Hint
+    requires { ⌜ HintLies (now text) hint ⌝ }
+    ensures { λ r. ⌜ r ≡ hintBehind (now (text .entry)) hint x ⌝ }
+{
+    let Hint::Known(q, b) = hint else {
+        return Hint::Unknown;
+    };
+    let at = q.at;
+    if at < q.to {
+        if text[at] == x {
+            return Hint::Known(
+                Mark {
+                    at: at + 1,
+                    to: q.to,
+                },
+                b,
+            );
+        }
+        return Hint::Unknown;
+    }
+    Hint::Unknown
+}
+
+// What is known of the given word behind X and Y where something is told of the Z at s.
+fn hint_of(s: Site, told: Told) -> Hint
+    ensures { λ r. ⌜ r ≡ hintOf s told ⌝ }
+{
+    let Told::That(b) = told else {
+        return Hint::Unknown;
+    };
+    Hint::Known(
+        Mark {
+            at: s.tail,
+            to: s.stop,
+        },
+        b,
+    )
+}
+
+// The relation word whose X and Y are a clean relation prefix of a held word that has a letter, or n. None is looked for where no relation word begins with its first letter.
+fn clean_of(text: &[u16], table: &[u16], n: usize, given: &[u16], h: PlacedWord) -> usize
+    requires { ⌜ WordAsked (now text) (now table) n (now given) h ⌝ }
+    ensures { λ r. ⌜ r ≡ cleanRelationPrefix (wordsIn (now (text .entry)) (now (table .entry)) n) (placedWord (now (text .entry)) (now (given .entry)) h) ⌝ }
+{
+    let x = moves::first_letter(text, given, h);
+    if sites::begins_none(table, x) {
+        return n;
+    }
+    let at = h.at;
+    let to = h.to;
+    let from = h.from;
+    sites::clean_prefix(text, table, n, &text[at..to], &given[from..])
+}
+
+// Whether the given word from k on is active for Z of relation word j.
+fn active_behind(text: &[u16], table: &[u16], n: usize, given: &[u16], j: usize, k: usize) -> bool
+    requires { ⌜ RestAsked (now text) (now table) n (now given) j k ⌝ }
+    ensures { λ r. ⌜ r ≡ active (wordsIn (now (text .entry)) (now (table .entry)) n) (zOf (wordsIn (now (text .entry)) (now (table .entry)) n) j) (drop k (now (given .entry))) ⌝ }
+{
+    let s = sites::read_site(table, j);
+    let at = s.tail;
+    let to = s.stop;
+    sites::has_prefix_between(text, table, n, &text[at..to], &given[k..], 0, to - at)
+}
+
+// The first word of i's relation for whose Z the given word from k on is active, or i.
+fn find_carrier(text: &[u16], table: &[u16], n: usize, given: &[u16], i: usize, k: usize) -> usize
+    requires { ⌜ RestAsked (now text) (now table) n (now given) i k ⌝ }
+    ensures { λ r. ⌜ r ≡ carrier (wordsIn (now (text .entry)) (now (table .entry)) n) relationOf i (drop k (now (given .entry))) ⌝ }
+{
+    let low = i - i % 2;
+    if active_behind(text, table, n, given, low, k) {
+        return low;
+    }
+    if active_behind(text, table, n, given, low + 1, k) {
+        return low + 1;
+    }
+    i
+}
+
+// Whether text[at..to] stands in the given word at place k, and no clean relation prefix begins in it there.
+fn stands_quiet(
+    text: &[u16],
+    table: &[u16],
+    n: usize,
+    given: &[u16],
+    at: usize,
+    to: usize,
+    k: usize,
+) -> bool
+    requires { ⌜ QuietAsked (now text) (now table) n (now given) at to k ⌝ }
+    ensures { λ r. ⌜ r ≡ quiet (now (text .entry)) (wordsIn (now (text .entry)) (now (table .entry)) n) (now (given .entry)) at to k ⌝ }
+{
+    if joined::begins(text, at, to, &given[0..0], given, k) {
+        let end = k + (to - at);
+        return walks::first_clean(text, table, n, given, k, end) == end;
+    }
+    false
+}
+
+// Whether a mark, which is no prefix of the given word from `from` on, lies in X of relation word i or of the other word of its relation.
+fn hint_applies(
+    text: &[u16],
+    table: &[u16],
+    n: usize,
+    given: &[u16],
+    i: usize,
+    q: Mark,
+    from: usize,
+) -> bool
+    requires { ⌜ MarkAsked (now text) (now table) n i q ⌝ }
+    ensures { λ r. ⌜ r ≡ applies (wordsIn (now (text .entry)) (now (table .entry)) n) (now (given .entry)) i (placedMark (now (text .entry)) q) from ⌝ }
+{
+    let at = q.at;
+    let to = q.to;
+    if joined::begins(text, at, to, &given[0..0], given, from) {
+        return false;
+    }
+    let own = sites::read_site(table, i);
+    let other = sites::read_site(table, sites::other_word(i));
+    sites::mark_in_either_x(text, own, other, &text[at..to])
+}
+
+// What the hint of a state tells of Z of relation word i, its clean relation prefix, behind X and Y.
+fn carry_hint(
+    text: &[u16],
+    table: &[u16],
+    n: usize,
+    given: &[u16],
+    s: LeastState,
+    i: usize,
+    k: usize,
+) -> Told
+    requires { ⌜ RestFound (now text) (now table) n (now given) s i k ⌝ }
+    ensures { λ r. ⌜ ToldRight (wordsIn (now (text .entry)) (now (table .entry)) n) (now (given .entry)) i k r ⌝ }
+{
+    let hint = s.hint;
+    let Hint::Known(q, b) = hint else {
+        return Told::Nothing;
+    };
+    if hint_applies(text, table, n, given, i, q, s.word.from) {
+        return Told::That(b);
+    }
+    Told::Nothing
+}
+
+// Whether Z of relation word i is a possible prefix of the given word from k on: as it is told, or by a walk.
+fn ask_possible(
+    text: &[u16],
+    table: &[u16],
+    n: usize,
+    given: &[u16],
+    s: LeastState,
+    i: usize,
+    k: usize,
+    told: Told,
+) -> bool
+    requires { ⌜ ToldFound (now text) (now table) n (now given) s i k told ⌝ }
+    ensures { λ r. ⌜ r ≡ possible (wordsIn (now (text .entry)) (now (table .entry)) n) relationOf (zOf (wordsIn (now (text .entry)) (now (table .entry)) n) i) (drop k (now (given .entry))) ⌝ }
+{
+    let Told::That(b) = told else {
+        let z = sites::read_site(table, i);
+        return walks::possible(text, table, n, given, z.tail, z.stop, k);
+    };
+    b
+}
+
+// The chosen member of i's relation, where t is the first that the mark allows, another than i, and b tells whether Z of i is possible behind X and Y.
+fn settle_member(
+    text: &[u16],
+    table: &[u16],
+    n: usize,
+    i: usize,
+    mark: Mark,
+    t: usize,
+    b: bool,
+) -> usize
+    requires { ⌜ MarkAsked (now text) (now table) n i mark ⌝ }
+    ensures { λ r. ⌜ r ≡ settled (wordsIn (now (text .entry)) (now (table .entry)) n) n i (placedMark (now (text .entry)) mark) t b ⌝ }
+{
+    if b {
+        return t;
+    }
+    let at = mark.at;
+    let to = mark.to;
+    let own = sites::read_site(table, i);
+    if sites::mark_in_x(text, own, &text[at..to]) {
+        return i;
+    }
+    n
+}
+
+// The member of i's relation whose X and Y the least word begins with, and what is told of Z of i on the way.
+fn choose_member(
+    text: &[u16],
+    table: &[u16],
+    n: usize,
+    given: &[u16],
+    s: LeastState,
+    i: usize,
+    k: usize,
+) -> Choice
+    requires { ⌜ RestFound (now text) (now table) n (now given) s i k ⌝ }
+    ensures { λ r. ⌜ ChoiceMade (now (text .entry)) (now (table .entry)) n (now (given .entry)) (s .mark) i k r ⌝ }
+{
+    let told = carry_hint(text, table, n, given, s, i, k);
+    let t = first_member(text, table, n, i, s.mark);
+    if t == i {
+        return Choice { member: i, told };
+    }
+    let b = ask_possible(text, table, n, given, s, i, k, told);
+    Choice {
+        member: settle_member(text, table, n, i, s.mark, t, b),
+        told: Told::That(b),
+    }
+}
+
+// The part where u = XYZ w of relation word i, w is the given word from k on, and the least word begins with X and Y of relation word j.
+fn write_whole(
+    text: &[u16],
+    table: &[u16],
+    n: usize,
+    given: &[u16],
+    s: LeastState,
+    i: usize,
+    j: usize,
+    k: usize,
+) -> Stage
+    requires { ⌜ WholeFound (now text) (now table) n (now given) s i j k ⌝ }
+    ensures { λ r. ⌜ Makes (now (text .entry)) (wordsIn (now (text .entry)) (now (table .entry)) n) (now (given .entry)) s (wholePart (wordsIn (now (text .entry)) (now (table .entry)) n) relationOf i j (placedMark (now (text .entry)) (s .mark)) (drop k (now (given .entry)))) r ⌝ }
+{
+    let own = sites::read_site(table, j);
+    if active_behind(text, table, n, given, j, k) {
+        return Stage::Go(
+            source_behind(own, s.mark, own.tail),
+            LeastState {
+                word: PlacedWord {
+                    at: own.tail,
+                    to: own.stop,
+                    from: k,
+                },
+                mark: Mark { at: 0, to: 0 },
+                hint: Hint::Unknown,
+            },
+        );
+    }
+    let z = sites::read_site(table, find_carrier(text, table, n, given, i, k));
+    Stage::Go(
+        source_behind(own, s.mark, own.stop),
+        LeastState {
+            word: PlacedWord {
+                at: z.tail,
+                to: z.stop,
+                from: k,
+            },
+            mark: Mark {
+                at: z.tail,
+                to: z.stop,
+            },
+            hint: Hint::Unknown,
+        },
+    )
+}
+
+// The part where u = XY s of relation word i, s is the given word from k on and does not begin with Z, and the least word begins with X and Y of another relation word j.
+fn write_other(
+    text: &[u16],
+    table: &[u16],
+    n: usize,
+    given: &[u16],
+    s: LeastState,
+    i: usize,
+    j: usize,
+    k: usize,
+) -> Stage
+    requires { ⌜ OtherFound (now text) (now table) n (now given) s i j k ⌝ }
+    ensures { λ r. ⌜ Makes (now (text .entry)) (wordsIn (now (text .entry)) (now (table .entry)) n) (now (given .entry)) s (otherPart (wordsIn (now (text .entry)) (now (table .entry)) n) i j (placedMark (now (text .entry)) (s .mark)) (drop k (now (given .entry)))) r ⌝ }
+{
+    let own = sites::read_site(table, i);
+    let z = sites::read_site(table, j);
+    let l = changes::common_suffix(text, own, z);
+    let cut = own.stop - l;
+    if stands_quiet(text, table, n, given, own.tail, cut, k) {
+        return Stage::Go(
+            source_behind(z, s.mark, z.stop - l),
+            LeastState {
+                word: PlacedWord {
+                    at: 0,
+                    to: 0,
+                    from: k + (cut - own.tail),
+                },
+                mark: Mark { at: 0, to: 0 },
+                hint: Hint::Known(
+                    Mark {
+                        at: cut,
+                        to: own.stop,
+                    },
+                    true,
+                ),
+            },
+        );
+    }
+    Stage::Go(
+        source_behind(z, s.mark, z.stop),
+        LeastState {
+            word: PlacedWord {
+                at: 0,
+                to: 0,
+                from: k,
+            },
+            mark: Mark {
+                at: own.tail,
+                to: own.stop,
+            },
+            hint: Hint::Known(
+                Mark {
+                    at: own.tail,
+                    to: own.stop,
+                },
+                true,
+            ),
+        },
+    )
+}
+
+// The part where u = XY s of relation word i, at s, s is the given word from k on and does not begin with Z, and the least word begins with X and Y of i too.
+fn write_own(own: Site, mark: Mark, k: usize, told: Told) -> Stage
+    requires { ⌜ PlacesSmall own mark ⌝ }
+    ensures { λ r. ⌜ r ≡ ownStage own mark k told ⌝ }
+{
+    Stage::Go(
+        source_behind(own, mark, own.tail),
+        LeastState {
+            word: PlacedWord {
+                at: 0,
+                to: 0,
+                from: k,
+            },
+            mark: Mark { at: 0, to: 0 },
+            hint: hint_of(own, told),
+        },
+    )
+}
+
+// The part where u = XY s of relation word i, s is the given word from k on and does not begin with Z, and a member is chosen.
+fn write_apart(
+    text: &[u16],
+    table: &[u16],
+    n: usize,
+    given: &[u16],
+    s: LeastState,
+    i: usize,
+    k: usize,
+    c: Choice,
+) -> Stage
+    requires { ⌜ ApartFound (now text) (now table) n (now given) s i k c ⌝ }
+    ensures { λ r. ⌜ Makes (now (text .entry)) (wordsIn (now (text .entry)) (now (table .entry)) n) (now (given .entry)) s (memberPart (wordsIn (now (text .entry)) (now (table .entry)) n) relationOf i (c .member) (placedMark (now (text .entry)) (s .mark)) (placedWord (now (text .entry)) (now (given .entry)) (s .word))) r ⌝ }
+{
+    let j = c.member;
+    let told = c.told;
+    if j == i {
+        let own = sites::read_site(table, i);
+        return write_own(own, s.mark, k, told);
+    }
+    write_other(text, table, n, given, s, i, j, k)
+}
+
+// The part where relation word i is the clean relation prefix of u, the given word from k on follows its X and Y, and a member is chosen.
+fn write_member(
+    text: &[u16],
+    table: &[u16],
+    n: usize,
+    given: &[u16],
+    s: LeastState,
+    i: usize,
+    k: usize,
+    c: Choice,
+) -> Stage
+    requires { ⌜ ChoiceFound (now text) (now table) n (now given) s i k c ⌝ }
+    ensures { λ r. ⌜ Makes (now (text .entry)) (wordsIn (now (text .entry)) (now (table .entry)) n) (now (given .entry)) s (memberPart (wordsIn (now (text .entry)) (now (table .entry)) n) relationOf i (c .member) (placedMark (now (text .entry)) (s .mark)) (placedWord (now (text .entry)) (now (given .entry)) (s .word))) r ⌝ }
+{
+    let j = c.member;
+    if n <= j {
+        return Stage::None;
+    }
+    let own = sites::read_site(table, i);
+    if joined::begins(text, own.tail, own.stop, &given[0..0], given, k) {
+        return write_whole(text, table, n, given, s, i, j, k + (own.stop - own.tail));
+    }
+    write_apart(text, table, n, given, s, i, k, c)
+}
+
+// The place of the given word behind X and Y of relation word i, the clean relation prefix of u: they reach past u's part of the text.
+fn place_behind(
+    text: &[u16],
+    table: &[u16],
+    n: usize,
+    given: &[u16],
+    s: LeastState,
+    i: usize,
+) -> usize
+    requires { ⌜ CleanAsked (now text) (now table) n (now given) s i ⌝ }
+    ensures { λ r. ⌜ RestFound (now (text .entry)) (now (table .entry)) n (now (given .entry)) s i r ⌝ }
+{
+    let own = sites::read_site(table, i);
+    let word = s.word;
+    word.from + (own.tail - own.start - (word.to - word.at))
+}
+
+// The part where relation word i is the clean relation prefix of u.
+fn write_relation(
+    text: &[u16],
+    table: &[u16],
+    n: usize,
+    given: &[u16],
+    s: LeastState,
+    i: usize,
+) -> Stage
+    requires { ⌜ CleanAsked (now text) (now table) n (now given) s i ⌝ }
+    ensures { λ r. ⌜ PartMade (now (text .entry)) (now (table .entry)) n (now (given .entry)) s r ⌝ }
+{
+    let k = place_behind(text, table, n, given, s, i);
+    let c = choose_member(text, table, n, given, s, i, k);
+    write_member(text, table, n, given, s, i, k, c)
+}
+
+// The part where u has a letter and no clean relation prefix: its first letter stays.
+fn write_letter(text: &[u16], table: &[u16], n: usize, given: &[u16], s: LeastState) -> Stage
+    requires { ⌜ LetterAsked (now text) (now table) n (now given) s ⌝ }
+    ensures { λ r. ⌜ Makes (now (text .entry)) (wordsIn (now (text .entry)) (now (table .entry)) n) (now (given .entry)) s (letterPart (placedMark (now (text .entry)) (s .mark)) (placedWord (now (text .entry)) (now (given .entry)) (s .word))) r ⌝ }
+{
+    let x = moves::first_letter(text, given, s.word);
+    let next = without_letter(s.word);
+    let old = s.hint;
+    let hint = hint_behind(text, old, x);
+    let mark = s.mark;
+    let at = mark.at;
+    if mark.to <= at {
+        return Stage::Go(
+            first_source(s.word),
+            LeastState {
+                word: next,
+                mark,
+                hint,
+            },
+        );
+    }
+    if text[at] == x {
+        return Stage::Go(
+            Source {
+                given: true,
+                from: 0,
+                to: 0,
+            },
+            LeastState {
+                word: next,
+                mark: Mark {
+                    at: at + 1,
+                    to: mark.to,
+                },
+                hint,
+            },
+        );
+    }
+    Stage::None
+}
+
+// One round.
+pub fn make_part(text: &[u16], table: &[u16], n: usize, given: &[u16], s: LeastState) -> Stage
+    requires { ⌜ LeastReady (now text) (now table) n (now given) s ⌝ }
+    ensures { λ r. ⌜ PartMade (now (text .entry)) (now (table .entry)) n (now (given .entry)) s r ⌝ }
+{
+    if moves::held_empty(given, s.word) {
+        let mark = s.mark;
+        if mark.at < mark.to {
+            return Stage::None;
+        }
+        return Stage::End;
+    }
+    let i = clean_of(text, table, n, given, s.word);
+    if n <= i {
+        return write_letter(text, table, n, given, s);
+    }
+    write_relation(text, table, n, given, s, i)
+}

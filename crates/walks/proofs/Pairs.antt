@@ -1,0 +1,51 @@
+-- A family of two words, those of one relation: a mark lies in the X of a member exactly when it lies in one of the two.
+use Prim.Native.Nat.{ℕ, _%_, _/_, _<_}
+use mathlib.Core.Bool.{Bool, true, false, _||_}
+use mathlib.Core.Logic.{by-cases, _⊎_, inl, inr, ⊎-elim}
+use mathlib.Core.List.{List}
+use mathlib.Core.Path.{_≡_, refl, sym, subst}
+use native.Mathlib.Omega.{arith}
+use native.Mathlib.Decide.{ℕ-discrete}
+use borrow.Author.Tests.{eq-eqb, ne-eqb}
+use lib.ListN.{length}
+use Rattle.words.specs.Search.{anyBelow}
+use Rattle.words.specs.Words.{Word, isPrefix}
+use Rattle.words.specs.Relations.{other}
+use Rattle.words.proofs.Searching.{any-of, any-none}
+use Rattle.words.proofs.Relations.{other-there}
+use Rattle.overlap.specs.Cuts.{xOf}
+use Rattle.least.specs.Possible.{relationOf, marked, markedByAny}
+
+-- the two words of one relation
+pub same-relation : (i : ℕ) → i / 2 ≡ other i / 2
+same-relation i = omega arith
+
+pub pair-of : (i j : ℕ) → i / 2 ≡ j / 2 → (j ≡ i) ⊎ (j ≡ other i)
+pair-of i j e = by-cases (ℕ-discrete j i) (λ d. inl d) (λ d. inr (omega (arith, e, d)))
+
+module _ (B : List Word) (i : ℕ) (p : Word) where
+  pub marked-own : marked B relationOf i p i ≡ isPrefix p (xOf B i)
+  unfolding marked
+  marked-own = rw (eq-eqb (i / 2) (i / 2) refl)
+
+  pub marked-other : marked B relationOf i p (other i) ≡ isPrefix p (xOf B (other i))
+  unfolding marked
+  marked-other = rw (eq-eqb (i / 2) (other i / 2) (same-relation i))
+
+  pub marked-apart : (j : ℕ) → (j ≡ i → ⊥) → (j ≡ other i → ⊥) → marked B relationOf i p j ≡ false
+  unfolding marked
+  marked-apart j a b = rw (ne-eqb (i / 2) (j / 2) (λ e. ⊎-elim a b (pair-of i j e)))
+
+  pub marked-pair : length B % 2 ≡ 0 → i < length B → markedByAny B relationOf i p ≡ (isPrefix p (xOf B i) || isPrefix p (xOf B (other i)))
+  unfolding markedByAny
+  marked-pair even h = go (isPrefix p (xOf B i)) refl (isPrefix p (xOf B (other i))) refl
+    where
+      go : (a : Bool) → isPrefix p (xOf B i) ≡ a → (b : Bool) → isPrefix p (xOf B (other i)) ≡ b
+          → anyBelow (length B) (marked B relationOf i p) ≡ (isPrefix p (xOf B i) || isPrefix p (xOf B (other i)))
+      go true e b f = rw e (any-of (length B) (marked B relationOf i p) i h (rw marked-own e))
+      go false e true f = rw (e, f) (any-of (length B) (marked B relationOf i p) (other i) (other-there (length B) i even h) (rw marked-other f))
+      go false e false f = rw (e, f) (any-none (length B) (marked B relationOf i p) (λ k l. by-cases (ℕ-discrete k i)
+          (λ c. subst (λ (j : ℕ). marked B relationOf i p j ≡ false) (sym c) (rw marked-own e))
+          (λ c. by-cases (ℕ-discrete k (other i))
+          (λ d. subst (λ (j : ℕ). marked B relationOf i p j ≡ false) (sym d) (rw marked-other f))
+          (λ d. marked-apart k c d))))
