@@ -41,13 +41,14 @@ use Rattle.sheet.proofs.Laws.{cuts-in, sheet-cut}
 use Rattle.answers.specs.declared.Verdict.the-variants as Verdicts
 use Rattle.answers.specs.declared.Round.{Round}
 use Rattle.answers.specs.declared.Printed.the-variants as Prints
+use Rattle.answers.specs.declared.Least.the-variants as Leasts
 use Rattle.lines.specs.Lines.{WrittenTo}
 use Rattle.output.specs.Program.{programOf}
 use Rattle.output.specs.Size.{outputMost}
 use Rattle.answers.specs.declared.Round.the-variants as Rounds
-use Rattle.answers.specs.Answers.{accepted, refusal, ofVerdict, ofRound, ofComparison, ofPrinted}
-use Rattle.answers.specs.Entries.{checkOf, SheetOutcome, sheetOf, RoundOutcome, OutputOutcome, outputOf, roomOf, askedOf, writing, loadedRound, roundOf, compareOf}
-use Rattle.answers.specs.Parts.{SheetReady, acceptedSheet, answeredRound}
+use Rattle.answers.specs.Answers.{accepted, refusal, ofVerdict, ofRound, ofComparison, ofPrinted, ofLeast}
+use Rattle.answers.specs.Entries.{checkOf, SheetOutcome, sheetOf, RoundOutcome, OutputOutcome, outputOf, roomOf, askedOf, writing, loadedRound, roundOf, compareOf, LeastOutcome, loadedLeast, leastOf}
+use Rattle.answers.specs.Parts.{SheetReady, acceptedSheet, answeredRound, LeastLoaded}
 use Rattle.answers.specs.Demands.{Compared}
 use Rattle.answers.proofs.Theorems.{compared}
 
@@ -79,6 +80,12 @@ module _ (book : List ℕ) (reading : Reading) (text table : List ℕ) (d : Book
       → RoundOutcome.after (ofRound (Rounds.Refused r)) nextU nextV nextP ≡ roundOf book u v p nextU nextV nextP
   unfolding roundOf
   round-refused u v p nextU nextV nextP r f = sym (rw (load-refused book reading text table d r f))
+
+  -- the least word
+  pub least-unread : (u buffer : List ℕ) (offset : ℕ) (r : Refusal) → reading ≡ Refused r
+      → LeastOutcome.after (ofLeast (Leasts.Refused r)) buffer ≡ leastOf book u buffer offset
+  unfolding leastOf
+  least-unread u buffer offset r f = sym (rw (load-refused book reading text table d r f))
 
   module _ (letters count : ℕ) (e : reading ≡ Read letters count) where
     held : Holding book letters count text table
@@ -123,6 +130,18 @@ module _ (book : List ℕ) (reading : Reading) (text table : List ℕ) (d : Book
         let q : roundOf book u v p nextU nextV nextP ≡ loadedRound letters (relationWords (h .presentation .relations)) u v p nextU nextV nextP = rw (h .is, ← h .lettered) in
         g ∙ sym q
 
+    pub loaded-letters : LeastLoaded text table (2 * count) letters
+    loaded-letters = let h = held in record { ready = loaded-ready; few = omega (arith, h .within .few, h .lettered) }
+
+    pub least-loaded : (u buffer : List ℕ) (offset : ℕ) (x : LeastOutcome) → x ≡ loadedLeast letters (wordsIn text table (2 * count)) u buffer offset
+        → x ≡ leastOf book u buffer offset
+    unfolding leastOf
+    least-loaded u buffer offset x f =
+        let h = held in
+        let g = rw (h .words) at f in
+        let q : leastOf book u buffer offset ≡ loadedLeast letters (relationWords (h .presentation .relations)) u buffer offset = rw (h .is, ← h .lettered) in
+        g ∙ sym q
+
 pub memory-made : (text table : List ℕ) → length text ≡ 4160 → length table ≡ 450 → Memory text table
 memory-made text table h k = record { text4160 = h; table450 = k }
 
@@ -133,6 +152,8 @@ pub ruleset cutSheets = (memory-made, sheet-refused, loaded-sheet, sheet-loaded,
 pub ruleset compares = (memory-made, compare-refused, loaded-fits, loaded-ready, compare-loaded, needs)
 
 pub ruleset singles = (memory-made, round-refused, loaded-fits, loaded-ready, round-loaded, needs)
+
+pub ruleset leasts = (memory-made, least-unread, loaded-fits, loaded-letters, least-loaded, needs)
 
 -- the sheet by the table
 module _ (table : List ℕ) (count : ℕ) (s : SheetReady table count) (sheet : List ℕ) where

@@ -16,11 +16,13 @@ use Rattle.overlap.specs.Pieces.{word, C4}
 use Rattle.overlap.specs.Cuts.{len, longestSuffixPiece}
 use Rattle.congruence.specs.Congruence.{Congruent}
 use Rattle.congruence.proofs.Theorem.{rows-decide}
-use Rattle.least.specs.Order.{Injective, houseRank}
+use Rattle.least.specs.Order.{houseRank}
 use Rattle.least.specs.Least.{LeastWord}
 use Rattle.least.specs.Possible.{relationOf}
 use Rattle.least.specs.Writing.{Found, found, wordOf, leastBehind}
-use Rattle.least.specs.Theorem.{longestOf, longestWord, LeastWords, LeastWordsDecide}
+use Rattle.least.specs.Theorem.{longestWord, LeastWords}
+use Rattle.least.proofs.Order.{house-injective}
+use Rattle.least.proofs.Theorem.{least-words-decide}
 use Rattle.limits.specs.Limits.{comparedMost, sideMost, leastMost}
 use Rattle.refusals.specs.declared.Refusal.the-variants.{NoSpace}
 use Rattle.format.specs.Book.{Presentation, BookReading, readBook}
@@ -33,8 +35,10 @@ use Rattle.given.specs.Given.{givenOf, oneOf, pairOf}
 use Rattle.given.proofs.Laws.{fine-short, fine-both, fine-again}
 use Rattle.writing.specs.Writing.{over}
 use Rattle.writing.proofs.Writing.{over-prefix, over-behind, over-kept}
+use Rattle.leastword.specs.Writing.{leastFor}
+use Rattle.leastword.proofs.Rounds.{longest-bound}
 use Rattle.answers.specs.Answers.{Answer, same, different, wrote, refused, refusal}
-use Rattle.answers.specs.Entries.{LeastOutcome, compareOf, leastFor, lacksSpace, placedAt, loadedLeast, leastOf}
+use Rattle.answers.specs.Entries.{LeastOutcome, compareOf, lacksSpace, placedAt, loadedLeast, leastOf}
 use Rattle.answers.specs.Demands.{Decides, Placed, WritesLeast, LeastWritten, writtenBytes, LeastDecides}
 use Rattle.answers.proofs.Theorems.{loaded-c4, compared}
 
@@ -45,11 +49,6 @@ words-short letters [] none i = omega arith
 words-short letters (r ∷ rs) (more w ws) zero = w .left .short
 words-short letters (r ∷ rs) (more w ws) (suc zero) = w .right .short
 words-short letters (r ∷ rs) (more w ws) (suc (suc i)) = words-short letters rs ws i
-
-longest-short : (B : List Word) (n : ℕ) → ((i : ℕ) → len B i ≤ sideMost) → longestOf B n ≤ sideMost
-unfolding longestOf
-longest-short B zero h = omega arith
-longest-short B (suc n) h = omega (arith, longest-short B n h, h n)
 
 -- what is loaded was read
 by-verdict-read : (p q : Presentation) (v : Verdict) → byVerdict q v ≡ BookReading.read p → q ≡ p
@@ -168,28 +167,27 @@ module _ (B : List Word) (l : LeastWords B houseRank) where
       congruent n e (inr (inr f)) = let z : _≡_ {A = ℕ} 0 1 = cc in absurd (omega arith)
 
 -- an accepted book and a word that is fine
-least-words : (book : List ℕ) (u : Word) (old : List ℕ) (offset : ℕ) (p : Presentation) → loadBook book ≡ BookReading.read p → oneOf (p .letters) u ≡ Words.Fine
+placed-least : (book : List ℕ) (u : Word) (old : List ℕ) (offset : ℕ) (p : Presentation) → loadBook book ≡ BookReading.read p → oneOf (p .letters) u ≡ Words.Fine
     → leastOf book u old offset ≡ placedAt offset (leastFor (relationWords (p .relations)) u) old
 unfolding leastOf loadedLeast
-least-words book u old offset p e f = rw (e, f)
+placed-least book u old offset p e f = rw (e, f)
 
-module _ (theory : LeastWordsDecide) (house : Injective houseRank) where
-  loaded-least : (book : List ℕ) (p : Presentation) → loadBook book ≡ BookReading.read p → LeastWords (relationWords (p .relations)) houseRank
-  loaded-least book p e = theory (p .relations) (loaded-c4 book p e) houseRank house
+loaded-least : (book : List ℕ) (p : Presentation) → loadBook book ≡ BookReading.read p → LeastWords (relationWords (p .relations)) houseRank
+loaded-least book p e = least-words-decide (p .relations) (loaded-c4 book p e) houseRank house-injective
 
-  pub least-written : LeastWritten
-  least-written book u old offset p e f =
-      let B = relationWords (p .relations) in
-      let s = longest-short B (length B) (words-short (p .letters) (p .relations) (loaded-within book p e .all)) in
-      writes-least B (loaded-least book p e) u (omega arith) (fine-short 0 comparedMost (p .letters) u f) old offset (leastOf book u old offset) (least-words book u old offset p e f)
+pub least-written : LeastWritten
+least-written book u old offset p e f =
+    let B = relationWords (p .relations) in
+    let s = longest-bound B sideMost (length B) (λ i h. words-short (p .letters) (p .relations) (loaded-within book p e .all) i) in
+    writes-least B (loaded-least book p e) u (omega arith) (fine-short 0 comparedMost (p .letters) u f) old offset (leastOf book u old offset) (placed-least book u old offset p e f)
 
-  pub least-decides : LeastDecides
-  unfolding pairOf
-  least-decides book u v p e f old offset m buffer g old′ offset′ m′ buffer′ g′ allowance h =
-      let B = relationWords (p .relations) in
-      let both = fine-both (givenOf 0 comparedMost (p .letters) u) (givenOf 1 comparedMost (p .letters) v) f in
-      let first = written-back (leastFor B u) old offset m buffer (sym (least-words book u old offset p e (both .0)) ∙ g) in
-      let second = written-back (leastFor B v) old′ offset′ m′ buffer′ (sym (least-words book v old′ offset′ p e (fine-again 1 0 comparedMost (p .letters) v (both .1))) ∙ g′) in
-      let d = compared book u v allowance (compareOf book u v allowance) refl .decides p e f in
-      let k = same-when-equal B (loaded-least book p e) u v allowance (compareOf book u v allowance) d h in
-      ((λ a. first ∙ k .0 a ∙ sym second), (λ a. k .1 (sym first ∙ a ∙ second)))
+pub least-decides : LeastDecides
+unfolding pairOf
+least-decides book u v p e f old offset m buffer g old′ offset′ m′ buffer′ g′ allowance h =
+    let B = relationWords (p .relations) in
+    let both = fine-both (givenOf 0 comparedMost (p .letters) u) (givenOf 1 comparedMost (p .letters) v) f in
+    let first = written-back (leastFor B u) old offset m buffer (sym (placed-least book u old offset p e (both .0)) ∙ g) in
+    let second = written-back (leastFor B v) old′ offset′ m′ buffer′ (sym (placed-least book v old′ offset′ p e (fine-again 1 0 comparedMost (p .letters) v (both .1))) ∙ g′) in
+    let d = compared book u v allowance (compareOf book u v allowance) refl .decides p e f in
+    let k = same-when-equal B (loaded-least book p e) u v allowance (compareOf book u v allowance) d h in
+    ((λ a. first ∙ k .0 a ∙ sym second), (λ a. k .1 (sym first ∙ a ∙ second)))

@@ -3,3 +3,4 @@ pub mod Theorems
 pub mod Rooms
 pub mod Sheets
 pub mod LeastWords
+pub mod LeastCalls

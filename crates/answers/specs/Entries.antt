@@ -1,7 +1,7 @@
 -- What each entry answers and leaves in its lent buffers, for every input whatever. Refusals come in the order of document 01, "Refusals by number".
 use Prim.Native.Nat.{ℕ, _*_, _-_}
 use mathlib.Core.Bool.{Bool, cond, _||_}
-use mathlib.Core.List.{List, [], _++_}
+use mathlib.Core.List.{List, _++_}
 use lib.Dec.{ltb}
 use lib.ListN.{length, take, drop}
 use Rattle.words.specs.Words.{Word}
@@ -10,9 +10,6 @@ use Rattle.words.specs.Relations.{relationWords}
 use Rattle.congruence.specs.Rows.{Next, round}
 use Rattle.congruence.specs.Rows.Next.{end, go}
 use Rattle.refusals.specs.declared.Refusal.{Refusal}
-use Rattle.least.specs.Order.{houseRank}
-use Rattle.least.specs.Possible.{relationOf}
-use Rattle.least.specs.Writing.{wordOf, leastBehind}
 use Rattle.refusals.specs.declared.Refusal.the-variants.{Narrow, NoSpace}
 use Rattle.limits.specs.Limits.{nextRoom, markMost}
 use Rattle.format.specs.Book.{Presentation, BookReading}
@@ -22,6 +19,7 @@ use Rattle.given.specs.declared.Given.the-variants as Words
 use Rattle.given.specs.Given.{onGiven, oneOf, tripleOf}
 use Rattle.sheet.specs.Sheet.{cutSheet}
 use Rattle.comparison.specs.Comparing.{comparisonOf}
+use Rattle.leastword.specs.Writing.{leastFor}
 use Rattle.output.specs.Program.{programOf}
 use Rattle.output.specs.Size.{outputMost}
 use Rattle.answers.specs.Answers.{Answer, accepted, ended, next, wrote, refusal, ofComparison}
@@ -86,10 +84,6 @@ compareOf book u v allowance =
 -- the outcome of a least word: an answer, and the lent buffer after it
 pub data LeastOutcome : Type 0 where
   after : Answer → List ℕ → LeastOutcome
-
--- the least congruent word of u under relation words B, letters by the house table: what the rounds write from the empty mark
-unfoldable pub leastFor : List Word → Word → Word
-leastFor B u = wordOf (leastBehind B relationOf houseRank [] u)
 
 -- 14: the offset lies past the end of a buffer, or a word is longer than what follows the offset; by the lengths of the buffer and of the word
 unfoldable pub lacksSpace : ℕ → ℕ → ℕ → Bool

@@ -4,7 +4,11 @@ use mathlib.Core.Bool.{cond}
 use mathlib.Core.List.{List}
 use lib.Dec.{ltb}
 use lib.ListN.{length}
+use Rattle.words.specs.Words.{Word}
+use Rattle.limits.specs.Limits.{lettersMost, comparedMost}
 use Rattle.refusals.specs.declared.Refusal.the-variants.{Narrow}
+use Rattle.moves.specs.State.{Ready}
+use Rattle.leastword.specs.Writing.{Asked}
 use Rattle.rounds.specs.declared.RoundLengths.{RoundLengths}
 use Rattle.rounds.specs.declared.RoundLengths.the-variants as Lengths
 use Rattle.sheet.specs.Sheet.{sheetBytes, CutsIn}
@@ -18,6 +22,21 @@ use Rattle.answers.specs.Entries.{SheetOutcome}
 pub record SheetReady (table : List ℕ) (relations : ℕ) : Type 0 where
   pub cuts : (i : ℕ) → i < 2 * relations → CutsIn table i
   pub few : relations ≤ 32
+
+-- a checked presentation of so many letters, which are within the limit
+pub record LeastLoaded (text table : List ℕ) (n letters : ℕ) : Type 0 where
+  pub ready : Ready text table n
+  pub few : letters ≤ lettersMost
+
+-- the same, and an array that has room for a word if that is within the limit
+pub record LeastGivable (text table : List ℕ) (n letters : ℕ) (u : Word) (wide : List ℕ) : Type 0 where
+  pub known : LeastLoaded text table n letters
+  pub room : length u ≤ comparedMost → length u ≤ length wide
+
+-- a word of which the least word can be asked, and an array that has room for it
+pub record LeastWidenable (text table : List ℕ) (n : ℕ) (u : Word) (wide : List ℕ) : Type 0 where
+  pub asked : Asked text table n u
+  pub room : length u ≤ length wide
 
 -- the sheet by the table
 unfoldable pub acceptedSheet : List ℕ → ℕ → List ℕ → SheetOutcome

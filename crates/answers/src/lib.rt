@@ -1,6 +1,7 @@
 // What the public entries answer. specs/Answers.antt gives document 01's number and values for each case, specs/Entries.antt defines the answer of every entry,
-// and specs/Demands.antt spells out the demands; the functions here do nothing and carry demand 2 as theorems on these definitions.
-ghost use Rattle.answers.specs.Demands.{Acceptance, CutsReported};
+// and specs/Demands.antt spells out the demands; the functions here do nothing and carry demand 2 and those on least words as theorems on these
+// definitions.
+ghost use Rattle.answers.specs.Demands.{Acceptance, CutsReported, LeastWritten, LeastDecides};
 use refusals::Refusal;
 
 // A book is accepted, with its number of relations (document 01: rules), or refused.
@@ -36,4 +37,14 @@ pub fn acceptance_is_c4()
 // The demands on the cut sheet, as a theorem on its definition.
 pub fn sheet_reports_cuts()
     ensures { λ _. ⌜ CutsReported ⌝ }
+{}
+
+// The demands on the least word, as a theorem on its definition.
+pub fn least_is_written()
+    ensures { λ _. ⌜ LeastWritten ⌝ }
+{}
+
+// That two least words tell what a comparison tells, as a theorem on both definitions.
+pub fn least_words_agree()
+    ensures { λ _. ⌜ LeastDecides ⌝ }
 {}

@@ -4,6 +4,7 @@
 //   check BOOK                 the check of a book: `accepted R`
 //   sheet BOOK N               the cut sheet in a buffer of N bytes: `sheet BYTES`, the whole buffer
 //   round BOOK U V P N N N     a single round, with the lengths of the three buffers: `end same`, `end different` or `next U V P`
+//   least BOOK U N OFFSET      the least congruent word in a buffer of N bytes from an offset on: `least LENGTH BYTES`
 //   compare BOOK U V N         a comparison with an allowance of N rounds: `same ROUNDS` or `different ROUNDS`
 // or `refused N P` (number, place). Any other line is a heading, and is printed as it is. Lent buffers are filled with aa before the call; `touched` stands
 // before an answer that came with a change of a byte which it must keep.
@@ -12,6 +13,7 @@ ghost use lib.ListN.{length};
 ghost use Rattle.fields.specs.Places.{Filled};
 ghost use Rattle.cases.specs.Places.{Lent};
 use comparison::Comparison;
+use entries::Least;
 use entries::Round;
 use entries::Verdict;
 use format::Reading;
@@ -86,6 +88,8 @@ fn answer_call(word: &[u8], line: &[u8], book: &[u8]) {
         answer_sheet(line, book);
     } else if fields::is_word(word, b"round") {
         answer_round(line, book);
+    } else if fields::is_word(word, b"least") {
+        answer_least(line, book);
     } else if fields::is_word(word, b"compare") {
         answer_compare(line, book);
     } else {
@@ -160,6 +164,40 @@ fn compare_words(book: &[u8], u: &[u8], v: &[u8], allowance: u32) {
         Comparison::Same(rounds) => printing::print_count(b"same ", rounds as u64),
         Comparison::Different(rounds) => printing::print_count(b"different ", rounds as u64),
         Comparison::Refused(refusal) => printing::print_refusal(refusal),
+    }
+}
+
+// The least word of a word.
+fn answer_least(line: &[u8], book: &[u8]) {
+    let mut u = fields::field_room();
+    let i = fields::put_field(line, 2, &mut u);
+    place_least(line, book, &u[..i]);
+}
+
+// The least word of what is given, in a buffer of the length that a line asks for, from its offset on.
+fn place_least(line: &[u8], book: &[u8], u: &[u8]) {
+    let mut buffer = fields::large_room();
+    let n = fields::lent_field(line, 3, &buffer);
+    let offset = fields::number_field(line, 4) as usize;
+    let least = lend_least(book, u, &mut buffer, n, offset);
+    print_least(least, &buffer, offset);
+}
+
+// The least word in the first bytes of a buffer.
+fn lend_least(book: &[u8], u: &[u8], buffer: &mut [u8], n: usize, offset: usize) -> Least
+    requires { ⌜ Filled n (now buffer) ⌝ }
+{
+    entries::least_word(book, u, &mut buffer[..n], offset)
+}
+
+// A least word, with the buffer after it.
+fn print_least(least: Least, buffer: &[u8], offset: usize) {
+    match least {
+        Least::Wrote(letters) => printing::print_least(buffer, offset, letters),
+        Least::Refused(refusal) => {
+            printing::print_touched(buffer, 0);
+            printing::print_refusal(refusal);
+        }
     }
 }
 

@@ -2,9 +2,10 @@
 // refusals in document 01's order and lent buffers included: as an equality, or, of `compare`, as the field `is` of the record `Compared`, which holds demand 3
 // beside it. The demands are spelled out in crate answers, specs/Demands.antt.
 ghost use mathlib.Core.Path.{_≡_};
-ghost use Rattle.answers.specs.Answers.{ofVerdict, ofRound, ofComparison, ofPrinted};
-ghost use Rattle.answers.specs.Entries.{checkOf, SheetOutcome as Sheets, sheetOf, RoundOutcome as Rounds, roundOf, OutputOutcome as Outputs, outputOf};
+ghost use Rattle.answers.specs.Answers.{ofVerdict, ofRound, ofComparison, ofPrinted, ofLeast};
+ghost use Rattle.answers.specs.Entries.{checkOf, SheetOutcome as Sheets, sheetOf, RoundOutcome as Rounds, roundOf, LeastOutcome as Leasts, leastOf, OutputOutcome as Outputs, outputOf};
 ghost use Rattle.answers.specs.Demands.{Compared};
+pub use answers::Least;
 pub use answers::Printed;
 pub use answers::Round;
 pub use answers::Verdict;
@@ -13,6 +14,7 @@ use format::Reading;
 use layout::Table;
 use layout::Text;
 use loaded::accepted_sheet;
+use loaded::loaded_least;
 use loaded::loaded_round;
 use program::Output;
 use refusals::Refusal;
@@ -93,6 +95,27 @@ pub fn single_round(
             np,
         ),
         Reading::Refused(refusal) => Round::Refused(refusal),
+    }
+}
+
+// Writes the least word that is congruent to u into the part of a lent buffer from an offset on.
+pub fn least_word(book: &[u8], u: &[u8], buffer: &mut [u8], offset: usize) -> Least
+    ensures { λ r. ⌜ Leasts.after (ofLeast r) (now (buffer .exit)) ≡ leastOf (now (book .entry)) (now (u .entry)) (now (buffer .entry)) offset ⌝ }
+{
+    let mut text = [0u16; Text::ROOM];
+    let mut table = [0u16; Table::ROOM];
+    let loaded = presentation::load(book, &mut text, &mut table);
+    match loaded {
+        Reading::Read(letters, relations) => loaded_least(
+            &text,
+            &table,
+            2 * relations,
+            letters,
+            u,
+            buffer,
+            offset,
+        ),
+        Reading::Refused(refusal) => Least::Refused(refusal),
     }
 }
 

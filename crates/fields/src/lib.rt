@@ -168,12 +168,41 @@ pub fn lent_room() -> [u8; 8192]
     [0xaa; 8192]
 }
 
+// A larger buffer to be lent, filled with aa: the longest least word has 262,144 letters.
+pub fn large_room() -> [u8; 270336]
+    ensures { λ r. ⌜ 270336 ≡ length r ⌝ }
+{
+    [0xaa; 270336]
+}
+
 // The bytes of a buffer from a position on are aa.
 pub fn is_kept(buffer: &[u8], from: usize) -> bool {
     let mut i = from;
     while i < buffer.len() {
         if buffer[i] != 0xaa {
             return false;
+        }
+        i += 1;
+    }
+    true
+}
+
+// A position lies before an offset, or behind the first n from it on.
+fn is_outside(offset: usize, n: usize, i: usize) -> bool {
+    if i < offset {
+        return true;
+    }
+    n <= i - offset
+}
+
+// The bytes of a buffer are aa but for n of them from an offset on.
+pub fn is_kept_outside(buffer: &[u8], offset: usize, n: usize) -> bool {
+    let mut i = 0;
+    while i < buffer.len() {
+        if is_outside(offset, n, i) {
+            if buffer[i] != 0xaa {
+                return false;
+            }
         }
         i += 1;
     }

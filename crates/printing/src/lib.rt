@@ -57,6 +57,18 @@ pub fn print_sheet(sheet: &[u8], n: usize) {
     io::write_all(STDOUT_FILENO, b"\n");
 }
 
+// Prints a least word, which stands in a buffer from an offset on, and before it whether a byte outside it was changed.
+pub fn print_least(buffer: &[u8], offset: usize, letters: usize) {
+    if !fields::is_kept_outside(buffer, offset, letters) {
+        io::write_all(STDOUT_FILENO, b"touched ");
+    }
+    io::write_all(STDOUT_FILENO, b"least ");
+    io::print_decimal(STDOUT_FILENO, letters as u64);
+    io::write_all(STDOUT_FILENO, b" ");
+    print_part(buffer, offset, letters);
+    io::write_all(STDOUT_FILENO, b"\n");
+}
+
 // Tells of each of a round's three buffers whether a byte behind its first ones was changed.
 pub fn print_touches(nu: &[u8], i: usize, nv: &[u8], j: usize, np: &[u8], k: usize) {
     print_touched(nu, i);
@@ -71,7 +83,25 @@ pub fn print_touched(buffer: &[u8], from: usize) {
     }
 }
 
-// Prints the first bytes of a buffer.
+// Prints n bytes of a buffer from an offset on, in portions, each as long as `print_bytes` has room for.
+fn print_part(bytes: &[u8], offset: usize, n: usize) {
+    if n == 0 {
+        print_bytes(bytes, 0);
+    }
+    let mut at = offset;
+    let mut left = n;
+    while at < bytes.len() {
+        if left == 0 {
+            return;
+        }
+        let portion = numbers::smaller(left, 8192);
+        print_bytes(&bytes[at..], portion);
+        at += portion;
+        left -= portion;
+    }
+}
+
+// Prints the first bytes of a buffer, at most 8,192.
 fn print_bytes(bytes: &[u8], n: usize) {
     if n == 0 {
         io::write_all(STDOUT_FILENO, b"-");

@@ -13,8 +13,10 @@ use Rattle.answers.specs.declared.Round.{Round}
 use Rattle.answers.specs.declared.Round.the-variants as Ways
 use Rattle.answers.specs.declared.Printed.{Printed}
 use Rattle.answers.specs.declared.Printed.the-variants as Prints
-use Rattle.answers.specs.Answers.{ofVerdict, ofRound, ofComparison, ofPrinted}
-use Rattle.results.specs.Numbers.{endOutcome, checkResult, roundResult, compareResult, programResult}
+use Rattle.answers.specs.declared.Least.{Least}
+use Rattle.answers.specs.declared.Least.the-variants as Leasts
+use Rattle.answers.specs.Answers.{ofVerdict, ofRound, ofComparison, ofPrinted, ofLeast}
+use Rattle.results.specs.Numbers.{endOutcome, checkResult, roundResult, compareResult, programResult, leastResult}
 
 -- how a round ends
 pub ends-same : (b : Bool) → b ≡ true → 1 ≡ endOutcome b
@@ -78,3 +80,14 @@ module _ (printed : Printed) where
   program-refused r n p f g h = rw (f, g, h)
 
 pub ruleset printings = (program-wrote, program-refused, needs)
+
+-- a least word
+module _ (least : Least) where
+  pub least-wrote : (n : ℕ) → least ≡ Leasts.Wrote n → record { refusal = 0; place = 0; length = n } ≡ leastResult (ofLeast least)
+  least-wrote n f = rw f
+
+  pub least-refused : (r : Refusal) (n p : ℕ) → least ≡ Leasts.Refused r → n ≡ numberAndPlace r .number → p ≡ numberAndPlace r .place
+      → record { refusal = n; place = p; length = 0 } ≡ leastResult (ofLeast least)
+  least-refused r n p f g h = rw (f, g, h)
+
+pub ruleset leasts = (least-wrote, least-refused, needs)

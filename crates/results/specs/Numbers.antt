@@ -7,6 +7,7 @@ use Rattle.results.specs.declared.CheckResult.{CheckResult}
 use Rattle.results.specs.declared.RoundResult.{RoundResult}
 use Rattle.results.specs.declared.CompareResult.{CompareResult}
 use Rattle.results.specs.declared.ProgramResult.{ProgramResult}
+use Rattle.results.specs.declared.LeastResult.{LeastResult}
 
 -- the outcome of a round that ends, with 'same' for true
 abbrev pub endOutcome : Bool → ℕ
@@ -55,3 +56,7 @@ compareResult a =
 -- what the program returns for an answer
 abbrev pub programResult : Answer → ProgramResult
 programResult a = record { refusal = numbers a .refusal; place = numbers a .place; length = numbers a .first }
+
+-- what the least word returns for an answer
+abbrev pub leastResult : Answer → LeastResult
+leastResult a = record { refusal = numbers a .refusal; place = numbers a .place; length = numbers a .first }

@@ -2,8 +2,9 @@
 // The fields have the words of the C header, which are the specification's: a rule is a relation, a run a word.
 ghost use mathlib.Core.Path.{_≡_};
 ghost use Rattle.refusals.specs.Refusals.{numberAndPlace};
-ghost use Rattle.answers.specs.Answers.{ofVerdict, ofRound, ofComparison, ofPrinted};
-ghost use Rattle.results.specs.Numbers.{endOutcome, checkResult, roundResult, compareResult, programResult};
+ghost use Rattle.answers.specs.Answers.{ofVerdict, ofRound, ofComparison, ofPrinted, ofLeast};
+ghost use Rattle.results.specs.Numbers.{endOutcome, checkResult, roundResult, compareResult, programResult, leastResult};
+use answers::Least;
 use answers::Printed;
 use answers::Round;
 use answers::Verdict;
@@ -58,6 +59,14 @@ pub struct CompareResult {
 // Of the program: the length of what it wrote.
 #[repr(C)]
 pub struct ProgramResult {
+    pub refusal: u32,
+    pub place: u64,
+    pub length: u64,
+}
+
+// Of the least word: its length.
+#[repr(C)]
+pub struct LeastResult {
     pub refusal: u32,
     pub place: u64,
     pub length: u64,
@@ -176,6 +185,24 @@ pub fn of_printed(printed: Printed) -> ProgramResult
             length: length as u64,
         },
         Printed::Refused(refusal) => ProgramResult {
+            refusal: number(refusal),
+            place: place(refusal),
+            length: 0,
+        },
+    }
+}
+
+// The numbers of a least word.
+pub fn of_least(least: Least) -> LeastResult
+    ensures { λ r. ⌜ r ≡ leastResult (ofLeast least) ⌝ }
+{
+    match least {
+        Least::Wrote(letters) => LeastResult {
+            refusal: 0,
+            place: 0,
+            length: letters as u64,
+        },
+        Least::Refused(refusal) => LeastResult {
             refusal: number(refusal),
             place: place(refusal),
             length: 0,

@@ -3,17 +3,18 @@ use Prim.Native.Nat.{ℕ}
 use mathlib.Core.List.{List}
 use mathlib.Core.Path.{_≡_}
 use Rattle.words.specs.Words.{Word}
-use Rattle.answers.specs.Entries.{SheetOutcome, RoundOutcome, compareOf, OutputOutcome}
+use Rattle.answers.specs.Entries.{SheetOutcome, RoundOutcome, compareOf, LeastOutcome, OutputOutcome}
 use Rattle.answers.specs.Demands.{Compared}
 use Rattle.results.specs.declared.CheckResult.{CheckResult}
 use Rattle.results.specs.declared.RoundResult.{RoundResult}
 use Rattle.results.specs.declared.CompareResult.{CompareResult}
+use Rattle.results.specs.declared.LeastResult.{LeastResult}
 use Rattle.results.specs.declared.ProgramResult.{ProgramResult}
-use Rattle.results.specs.Numbers.{checkResult, roundResult, compareResult, programResult}
+use Rattle.results.specs.Numbers.{checkResult, roundResult, compareResult, leastResult, programResult}
 
 -- the version of the C functions: 10,000 times the first part, 100 times the second, and the third
 abbrev pub version : ℕ
-version = 200
+version = 300
 
 -- what the cut sheet returns, and the lent buffer after it
 pub data SheetNumbers : Type 0 where
@@ -33,6 +34,13 @@ roundNumbers (RoundOutcome.after a nextU nextV nextP) = RoundNumbers.after (roun
 pub record ComparedNumbers (book : List ℕ) (u v : Word) (allowance : ℕ) (r : CompareResult) : Type 0 where
   pub is : r ≡ compareResult (compareOf book u v allowance)
   pub compared : Compared book u v allowance (compareOf book u v allowance)
+
+-- what the least word returns, and the lent buffer after it
+pub data LeastNumbers : Type 0 where
+  after : LeastResult → List ℕ → LeastNumbers
+
+abbrev pub leastNumbers : LeastOutcome → LeastNumbers
+leastNumbers (LeastOutcome.after a buffer) = LeastNumbers.after (leastResult a) buffer
 
 -- what the program returns, and the lent buffer after it
 pub data ProgramNumbers : Type 0 where

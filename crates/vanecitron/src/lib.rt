@@ -1,11 +1,12 @@
 // The public entries as C functions, for C and Rust. Each passes on what the entry of crate `entries` answers, as the numbers that crate `results` gives for it;
 // each promise is the entry's own, read through them. None has a `requires`.
 ghost use mathlib.Core.Path.{_≡_};
-ghost use Rattle.answers.specs.Entries.{checkOf, sheetOf, roundOf, outputOf};
+ghost use Rattle.answers.specs.Entries.{checkOf, sheetOf, roundOf, leastOf, outputOf};
 ghost use Rattle.results.specs.Numbers.{checkResult};
-ghost use Rattle.vanecitron.specs.Calls.{version, SheetNumbers as Sheets, sheetNumbers, RoundNumbers as Rounds, roundNumbers, ComparedNumbers, ProgramNumbers as Programs, programNumbers};
+ghost use Rattle.vanecitron.specs.Calls.{version, SheetNumbers as Sheets, sheetNumbers, RoundNumbers as Rounds, roundNumbers, ComparedNumbers, LeastNumbers as Leasts, leastNumbers, ProgramNumbers as Programs, programNumbers};
 use results::CheckResult;
 use results::CompareResult;
+use results::LeastResult;
 use results::ProgramResult;
 use results::RoundResult;
 
@@ -15,7 +16,7 @@ pub struct Version {
 }
 
 impl Version {
-    pub const NUMBER: u32 = 200;
+    pub const NUMBER: u32 = 300;
 }
 
 // The version, so that a caller can hold his header to the archive that he links.
@@ -69,6 +70,19 @@ pub extern "C" fn vanecitron_compare(
     ensures { λ r. ⌜ ComparedNumbers (now (book .entry)) (now (u .entry)) (now (v .entry)) allowance r ⌝ }
 {
     results::of_comparison(entries::compare(book, u, v, allowance))
+}
+
+// The least congruent word of a word, in a lent buffer from an offset on.
+#[no_mangle]
+pub extern "C" fn vanecitron_least(
+    book: &[u8],
+    u: &[u8],
+    buffer: &mut [u8],
+    offset: usize,
+) -> LeastResult
+    ensures { λ r. ⌜ Leasts.after r (now (buffer .exit)) ≡ leastNumbers (leastOf (now (book .entry)) (now (u .entry)) (now (buffer .entry)) offset) ⌝ }
+{
+    results::of_least(entries::least_word(book, u, buffer, offset))
 }
 
 // The whole program: input bytes to output bytes, in a lent buffer.

@@ -1,0 +1,17 @@
+use Rattle.answers.proofs.LeastCalls.{placings}
+use Rattle.loaded.proofs.place_least.Statement.{statement}
+use Rattle.loaded.proofs.place_least.Tie as tie
+
+pub place-least-spec : {M : Type 1} → statement M
+place-least-spec =
+    tie.close
+    (tie.spec
+    (λ c κs. search placings)
+    (λ c κs. search placings)
+    (λ c. search placings)
+    (λ c. search placings)
+    (λ c. search placings)
+    (λ c. search placings)
+    (λ c κs. search placings)
+    (λ c. search placings)
+    (λ c. search placings))
