@@ -34,8 +34,10 @@ use Rattle.parts.specs.declared.Source.{Source}
 use Rattle.parts.specs.declared.LeastState.{LeastState}
 use Rattle.parts.specs.declared.Stage.the-variants as Stages
 use Rattle.parts.specs.State.{Makes}
-use Rattle.parts.specs.Members.{sourceBehind, quiet}
-use Rattle.parts.specs.Asked.{PlacesSmall, QuietAsked, OtherFound}
+use Rattle.members.specs.Members.{quiet}
+use Rattle.parts.specs.Choices.{sourceBehind}
+use Rattle.members.specs.Asked.{QuietAsked}
+use Rattle.parts.specs.Asked.{PlacesSmall, OtherFound}
 use Rattle.parts.proofs.Standing.{go-makes, empty-letters, empty-mark, site-lies, bare-stands, tail-mark, found-checked, found-fits, found-lies, found-small, found-written, found-short, found-source, found-lighter}
 
 module _ (text table : List ℕ) (n : ℕ) (given : Word) (s : LeastState) (i j k : ℕ) (f : OtherFound text table n given s i j k) where

@@ -40,8 +40,9 @@ use Rattle.parts.specs.declared.Told.{Told}
 use Rattle.parts.specs.declared.Told.the-variants as Tolds
 use Rattle.parts.specs.declared.Choice.{Choice}
 use Rattle.parts.specs.State.{HintRight, LeastReady, Makes, PartMade}
-use Rattle.parts.specs.Members.{ToldRight, ChoiceMade, hintOf, sourceBehind, ownStage}
-use Rattle.parts.specs.Asked.{WordAsked, LetterAsked, PlacesSmall, CleanAsked, RestFound, ChoiceFound, ApartFound, MemberFound, WholeFound, OtherFound}
+use Rattle.parts.specs.Choices.{ToldRight, ChoiceMade, hintOf, sourceBehind, ownStage}
+use Rattle.members.specs.Asked.{WordAsked}
+use Rattle.parts.specs.Asked.{LetterAsked, PlacesSmall, CleanAsked, RestFound, ChoiceFound, ApartFound, MemberFound, WholeFound, OtherFound}
 use Rattle.parts.proofs.Standing.{facts, site-lies, go-makes, empty-letters, empty-mark, bare-stands, found-small, found-written, found-source, found-lighter}
 
 pub own-made : (s : Site) (m : Mark) (k : ℕ) (t : Told) (c : Source) (o : Hint) → c ≡ sourceBehind s m (s .tail) → o ≡ hintOf s t

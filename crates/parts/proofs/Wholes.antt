@@ -24,9 +24,10 @@ use Rattle.parts.specs.declared.Source.{Source}
 use Rattle.parts.specs.declared.LeastState.{LeastState}
 use Rattle.parts.specs.declared.Stage.the-variants as Stages
 use Rattle.parts.specs.State.{Makes}
-use Rattle.parts.specs.Members.{sourceBehind}
-use Rattle.parts.specs.Asked.{PlacesSmall, RestAsked, WholeFound}
-use Rattle.parts.proofs.Members.{carrier-known}
+use Rattle.parts.specs.Choices.{sourceBehind}
+use Rattle.members.specs.Asked.{RestAsked}
+use Rattle.parts.specs.Asked.{PlacesSmall, WholeFound}
+use Rattle.members.proofs.Members.{carrier-known}
 use Rattle.parts.proofs.Standing.{go-makes, empty-mark, site-lies, tail-stands, tail-letters, tail-mark, found-checked, found-lies, found-small, found-written, found-source, found-lighter}
 
 module _ (text table : List ℕ) (n : ℕ) (given : Word) (s : LeastState) (i j k : ℕ) (f : WholeFound text table n given s i j k) where

@@ -10,24 +10,16 @@ use Rattle.congruence.specs.Rows.{cleanRelationPrefix}
 use Rattle.least.specs.Order.{houseRank}
 use Rattle.least.specs.Possible.{relationOf}
 use Rattle.least.specs.Writing.{chosenMember}
-use Rattle.layout.specs.Layout.{wordsIn, Checked, Span}
-use Rattle.rows.specs.Pairs.{Paired}
+use Rattle.layout.specs.Layout.{wordsIn}
 use Rattle.sites.specs.declared.Site.{Site}
-use Rattle.moves.specs.declared.PlacedWord.{PlacedWord}
 use Rattle.moves.specs.declared.Mark.{Mark}
-use Rattle.moves.specs.State.{placedWord, placedMark, WordFits, MarkFits}
+use Rattle.moves.specs.State.{placedWord, placedMark}
 use Rattle.moves.specs.Drops.{heldEmpty}
 use Rattle.parts.specs.declared.LeastState.{LeastState}
 use Rattle.parts.specs.declared.Told.{Told}
 use Rattle.parts.specs.declared.Choice.{Choice}
 use Rattle.parts.specs.State.{LeastReady}
-use Rattle.parts.specs.Members.{ToldRight, ChoiceMade}
-
--- a held word that has a letter
-pub record WordAsked (text table : List ℕ) (n : ℕ) (given : Word) (h : PlacedWord) : Type 0 where
-  pub checked : Checked text table n
-  pub fits : WordFits text (wordsIn text table n) given h
-  pub some : heldEmpty (length given) h ≡ false
+use Rattle.parts.specs.Choices.{ToldRight, ChoiceMade}
 
 -- a state whose word has a letter and no clean relation prefix
 pub record LetterAsked (text table : List ℕ) (n : ℕ) (given : Word) (s : LeastState) : Type 0 where
@@ -35,31 +27,11 @@ pub record LetterAsked (text table : List ℕ) (n : ℕ) (given : Word) (s : Lea
   pub some : heldEmpty (length given) (s .word) ≡ false
   pub none : length (wordsIn text table n) ≤ cleanRelationPrefix (wordsIn text table n) (placedWord text given (s .word))
 
--- a mark in the text, and a relation word
-pub record MarkAsked (text table : List ℕ) (n i : ℕ) (m : Mark) : Type 0 where
-  pub paired : Paired text table n
-  pub there : i < n
-  pub mark : MarkFits text m
-
 -- the places of a relation word and of a mark are small
 pub record PlacesSmall (s : Site) (m : Mark) : Type 0 where
   pub start : s .start ≤ 65536
   pub up : m .at ≤ m .to
   pub mark : m .to ≤ 65536
-
--- a relation word and a place of the given word
-pub record RestAsked (text table : List ℕ) (n : ℕ) (given : Word) (i k : ℕ) : Type 0 where
-  pub paired : Paired text table n
-  pub there : i < n
-  pub within : k ≤ length given
-
--- text[at..to] and a place of the given word
-pub record QuietAsked (text table : List ℕ) (n : ℕ) (given : Word) (at to k : ℕ) : Type 0 where
-  pub checked : Checked text table n
-  pub span : Span text at to
-  pub small : length text ≤ 65536
-  pub within : k ≤ length given
-  pub short : length given ≤ 65536
 
 -- relation word i is the clean relation prefix of the state's word
 pub record CleanAsked (text table : List ℕ) (n : ℕ) (given : Word) (s : LeastState) (i : ℕ) : Type 0 where

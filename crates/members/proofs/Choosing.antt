@@ -41,9 +41,9 @@ use Rattle.moves.specs.Drops.{HasLetter}
 use Rattle.moves.proofs.Laws.{rest-lent}
 use Rattle.walks.specs.Walks.{PlacesAsked, FirstClean}
 use Rattle.walks.proofs.Pairs.{marked-pair}
-use Rattle.parts.specs.Members.{quiet, applies}
-use Rattle.parts.specs.Asked.{WordAsked, MarkAsked, RestAsked, QuietAsked}
-use Rattle.parts.proofs.Members.{carrier-low, carrier-high, carrier-own}
+use Rattle.members.specs.Members.{quiet, applies}
+use Rattle.members.specs.Asked.{WordAsked, MarkAsked, RestAsked, QuietAsked}
+use Rattle.members.proofs.Members.{carrier-low, carrier-high, carrier-own}
 
 -- the clean relation prefix of a held word
 module _ (text table : List ℕ) (n : ℕ) (given : Word) (h : PlacedWord) (a : WordAsked text table n given h) where
