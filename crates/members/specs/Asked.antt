@@ -1,12 +1,12 @@
 -- What is asked of a held word, of a mark and of a place of the given word.
-use Prim.Native.Nat.{ℕ, _≤_, _<_}
+use Prim.Native.Nat.{ℕ, _≤_}
 use mathlib.Core.Bool.{false}
 use mathlib.Core.List.{List}
 use mathlib.Core.Path.{_≡_}
 use lib.ListN.{length}
 use Rattle.words.specs.Words.{Word}
 use Rattle.layout.specs.Layout.{wordsIn, Checked, Span}
-use Rattle.rows.specs.Pairs.{Paired}
+use Rattle.rows.specs.Pairs.{PairedWord}
 use Rattle.moves.specs.declared.PlacedWord.{PlacedWord}
 use Rattle.moves.specs.declared.Mark.{Mark}
 use Rattle.moves.specs.State.{WordFits, MarkFits}
@@ -20,14 +20,12 @@ pub record WordAsked (text table : List ℕ) (n : ℕ) (given : Word) (h : Place
 
 -- a mark in the text, and a relation word
 pub record MarkAsked (text table : List ℕ) (n i : ℕ) (m : Mark) : Type 0 where
-  pub paired : Paired text table n
-  pub there : i < n
+  pub word : PairedWord text table n i
   pub mark : MarkFits text m
 
 -- a relation word and a place of the given word
 pub record RestAsked (text table : List ℕ) (n : ℕ) (given : Word) (i k : ℕ) : Type 0 where
-  pub paired : Paired text table n
-  pub there : i < n
+  pub word : PairedWord text table n i
   pub within : k ≤ length given
 
 -- text[at..to] and a place of the given word

@@ -3,7 +3,6 @@ use Prim.Native.Nat.{ℕ, _+_, _*_, _<_}
 use mathlib.Core.Bool.{Bool, true, false, and-eq-true-iff}
 use mathlib.Core.List.{List}
 use mathlib.Core.Path.{_≡_, refl, sym, ap, _∙_, subst}
-use native.Mathlib.Omega.{arith}
 use borrow.Author.Needs.{needs}
 use borrow.Author.Tests.{not-true}
 use lib.ListN.{length, drop}
@@ -16,7 +15,7 @@ use Rattle.least.specs.Possible.{relationOf, possible}
 use Rattle.least.specs.Writing.{firstMember, chosenMember}
 use Rattle.least.proofs.Possible.{possible-turn}
 use Rattle.layout.specs.Layout.{wordsIn}
-use Rattle.layout.proofs.Placed.{words-length}
+use Rattle.layout.proofs.Placed.{words-length, row-inside}
 use Rattle.sites.specs.declared.Site.{Site}
 use Rattle.sites.specs.Sites.{siteOf}
 use Rattle.sites.proofs.Sites.{Lies, lies}
@@ -47,7 +46,7 @@ module _ (text table : List ℕ) (n : ℕ) (given : Word) (s : LeastState) (i k 
     told = subst (HintRight text (wordsIn text table n) given (s .word)) e (f .asked .ready .standing .hint)
 
     pub carry-asked : MarkAsked text table n i q
-    carry-asked = record { paired = f .asked .ready .ready .paired; there = f .asked .there; mark = told .mark }
+    carry-asked = record { word = record { paired = f .asked .ready .ready .paired; there = f .asked .there }; mark = told .mark }
 
     -- the word is the rest of the given word alone
     bare : placedWord text given (s .word) ≡ drop (s .word .from) given
@@ -71,12 +70,7 @@ module _ (text table : List ℕ) (n : ℕ) (given : Word) (s : LeastState) (i k 
   ask-told b e = sym (subst (ToldRight (wordsIn text table n) given i k) e (f .told))
 
   pub ask-room : 4 * i + 3 < length table
-  ask-room =
-      let p = f .found .asked .ready .ready .paired in
-      let l = p .checked .laid .few in
-      let b = p .checked .indexed .room in
-      let c = f .found .asked .there in
-      omega (arith, l, b, c)
+  ask-room = row-inside text table n (f .found .asked .ready .ready .paired .checked .laid) i (f .found .asked .there)
 
   module _ (z : Site) (e : z ≡ siteOf table i) where
     ask-lies : Lies text (wordsIn text table n) i z
@@ -99,7 +93,7 @@ pub ruleset asks = (ask-told, ask-room, ask-walking, ask-walked, needs)
 -- the choice
 module _ (text table : List ℕ) (n : ℕ) (given : Word) (s : LeastState) (i k : ℕ) (f : RestFound text table n given s i k) where
   pub choice-asked : MarkAsked text table n i (s .mark)
-  choice-asked = record { paired = f .asked .ready .ready .paired; there = f .asked .there; mark = f .asked .ready .standing .mark }
+  choice-asked = record { word = record { paired = f .asked .ready .ready .paired; there = f .asked .there }; mark = f .asked .ready .standing .mark }
 
   pub choice-told : (t : Told) → ToldRight (wordsIn text table n) given i k t → ToldFound text table n given s i k t
   choice-told t g = record { found = f; told = g }

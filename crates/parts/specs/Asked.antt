@@ -1,5 +1,5 @@
 -- What the functions that make one round ask.
-use Prim.Native.Nat.{ℕ, _+_, _-_, _≤_, _<_}
+use Prim.Native.Nat.{ℕ, _+_, _≤_, _<_}
 use mathlib.Core.Bool.{true, false}
 use mathlib.Core.List.{List}
 use mathlib.Core.Path.{_≡_}
@@ -39,44 +39,43 @@ pub record CleanAsked (text table : List ℕ) (n : ℕ) (given : Word) (s : Leas
   pub there : i < n
   pub clean : i ≡ cleanRelationPrefix (wordsIn text table n) (placedWord text given (s .word))
 
--- and the given word from k on follows its X and Y
+-- relation word i is the clean relation prefix of the state's word, and the given word from k on follows its X and Y
 pub record RestFound (text table : List ℕ) (n : ℕ) (given : Word) (s : LeastState) (i k : ℕ) : Type 0 where
   pub asked : CleanAsked text table n given s i
   pub rest : drop (xylen (wordsIn text table n) i) (placedWord text given (s .word)) ≡ drop k given
-  pub place : k + (s .word .to - s .word .at) ≡ s .word .from + xylen (wordsIn text table n) i
   pub later : s .word .from < k
   pub within : k ≤ length given
 
--- and something or nothing is told of it
+-- the same, and what is told of Z of i behind X and Y is right
 pub record ToldFound (text table : List ℕ) (n : ℕ) (given : Word) (s : LeastState) (i k : ℕ) (t : Told) : Type 0 where
   pub found : RestFound text table n given s i k
   pub told : ToldRight (wordsIn text table n) given i k t
 
--- and the member is chosen
+-- the same, and the member that the least word begins with is chosen
 pub record ChoiceFound (text table : List ℕ) (n : ℕ) (given : Word) (s : LeastState) (i k : ℕ) (c : Choice) : Type 0 where
   pub found : RestFound text table n given s i k
   pub made : ChoiceMade text table n given (s .mark) i k c
 
--- and there is one, and Z of i does not follow X and Y
+-- the same, and there is such a member, and Z of i does not follow X and Y
 pub record ApartFound (text table : List ℕ) (n : ℕ) (given : Word) (s : LeastState) (i k : ℕ) (c : Choice) : Type 0 where
   pub choice : ChoiceFound text table n given s i k c
   pub known : c .member < n
   pub apart : isPrefix (zOf (wordsIn text table n) i) (drop k given) ≡ false
 
--- and it is j
+-- the same as what is found with a clean relation prefix, and the chosen member is j
 pub record MemberFound (text table : List ℕ) (n : ℕ) (given : Word) (s : LeastState) (i k j : ℕ) : Type 0 where
   pub found : RestFound text table n given s i k
   pub member : j ≡ chosenMember (wordsIn text table n) relationOf houseRank i (placedMark text (s .mark)) (drop k given)
   pub known : j < n
 
--- and Z of i stands in the given word before k
+-- the same, and Z of i follows X and Y; it ends at place k of the given word
 pub record WholeFound (text table : List ℕ) (n : ℕ) (given : Word) (s : LeastState) (i j k : ℕ) : Type 0 where
   pub before : ℕ
   pub chosen : MemberFound text table n given s i before j
   pub whole : isPrefix (zOf (wordsIn text table n) i) (drop before given) ≡ true
   pub place : k ≡ before + zlen (wordsIn text table n) i
 
--- and j is another than i, and Z of i does not follow
+-- the same, and Z of i does not follow X and Y, and j is another than i
 pub record OtherFound (text table : List ℕ) (n : ℕ) (given : Word) (s : LeastState) (i j k : ℕ) : Type 0 where
   pub chosen : MemberFound text table n given s i k j
   pub apart : isPrefix (zOf (wordsIn text table n) i) (drop k given) ≡ false
