@@ -40,10 +40,10 @@ use Rattle.parts.specs.Letters.{WordSmall, withoutLetter, firstSource, H
 use Rattle.parts.specs.Asked.{LetterAsked}
 use Rattle.parts.proofs.Standing.{go-makes, empty-letters}
 
--- a part of the text with and without a letter
-some-part : (w : Word) → 0 < length w → isEmpty w ≡ false
-some-part [] h = absurd (omega arith)
-some-part (x ∷ w) h = refl
+-- a word with a letter is not empty
+pub some-of : (w : Word) → 0 < length w → isEmpty w ≡ false
+some-of [] h = absurd (omega arith)
+some-of (x ∷ w) h = refl
 
 -- the first letter of two words is that of the first
 first-of-both : (a b : Word) → 0 < length a → take 1 (a ++ b) ≡ take 1 a
@@ -266,7 +266,7 @@ module _ (text table : List ℕ) (n : ℕ) (given : Word) (s : LeastState) (a : 
 
     module _ (h : s .mark .at < s .mark .to) where
       some-mark : isEmpty (placedMark text (s .mark)) ≡ false
-      some-mark = let p = part-length text (s .mark .at) (s .mark .to) (a .ready .standing .mark .inside) in some-part (placedMark text (s .mark)) (omega (arith, p, h))
+      some-mark = let p = part-length text (s .mark .at) (s .mark .to) (a .ready .standing .mark .inside) in some-of (placedMark text (s .mark)) (omega (arith, p, h))
 
       mark-first : getD (placedMark text (s .mark)) 0 0 ≡ getD text (s .mark .at) 0
       mark-first = part-at text (s .mark .at) (s .mark .to) 0 (omega (arith, h)) ∙ ap (λ m. getD text m 0) {x = s .mark .at + 0} {y = s .mark .at} (omega arith)

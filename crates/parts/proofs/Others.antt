@@ -23,6 +23,7 @@ use Rattle.congruence.specs.Rows.{cleanRelationPrefix}
 use Rattle.least.specs.Possible.{relationOf, possible}
 use Rattle.least.specs.Writing.{cleanBefore, otherPart}
 use Rattle.layout.specs.Layout.{wordsIn, Checked}
+use Rattle.layout.proofs.Placed.{row-inside}
 use Rattle.sites.specs.declared.Site.{Site}
 use Rattle.sites.specs.Sites.{siteOf, SitesInText}
 use Rattle.sites.proofs.Sites.{Lies, site-in-text}
@@ -34,8 +35,10 @@ use Rattle.parts.specs.declared.Source.{Source}
 use Rattle.parts.specs.declared.LeastState.{LeastState}
 use Rattle.parts.specs.declared.Stage.the-variants as Stages
 use Rattle.parts.specs.State.{Makes}
-use Rattle.parts.specs.Members.{sourceBehind, quiet}
-use Rattle.parts.specs.Asked.{PlacesSmall, QuietAsked, OtherFound}
+use Rattle.members.specs.Members.{quiet}
+use Rattle.parts.specs.Choices.{sourceBehind}
+use Rattle.members.specs.Asked.{QuietAsked}
+use Rattle.parts.specs.Asked.{PlacesSmall, OtherFound}
 use Rattle.parts.proofs.Standing.{go-makes, empty-letters, empty-mark, site-lies, bare-stands, tail-mark, found-checked, found-fits, found-lies, found-small, found-written, found-short, found-source, found-lighter}
 
 module _ (text table : List ℕ) (n : ℕ) (given : Word) (s : LeastState) (i j k : ℕ) (f : OtherFound text table n given s i j k) where
@@ -43,10 +46,10 @@ module _ (text table : List ℕ) (n : ℕ) (given : Word) (s : LeastState) (i j 
   checked = found-checked text table n given s i k j (f .chosen)
 
   pub other-room-own : 4 * i + 3 < length table
-  other-room-own = let l = checked .laid .few in let b = checked .indexed .room in let c = f .chosen .found .asked .there in omega (arith, l, b, c)
+  other-room-own = row-inside text table n (checked .laid) i (f .chosen .found .asked .there)
 
   pub other-room : 4 * j + 3 < length table
-  other-room = let l = checked .laid .few in let b = checked .indexed .room in let c = f .chosen .known in omega (arith, l, b, c)
+  other-room = row-inside text table n (checked .laid) j (f .chosen .known)
 
   module _ (own : Site) (eo : own ≡ siteOf table i) (z : Site) (ez : z ≡ siteOf table j) where
     own-lies : Lies text (wordsIn text table n) i own

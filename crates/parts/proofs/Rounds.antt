@@ -2,7 +2,7 @@
 use Prim.Native.Nat.{ℕ, _+_, _-_, _*_, _≤_, _<_}
 use mathlib.Core.Bool.{Bool, true, false, true≢false}
 use mathlib.Core.Logic.{by-cases}
-use mathlib.Core.List.{List, [], _∷_}
+use mathlib.Core.List.{List, []}
 use mathlib.Core.Path.{_≡_, refl, sym, ap, _∙_}
 use native.Mathlib.Omega.{arith}
 use native.Mathlib.Decide.{decLt}
@@ -23,7 +23,7 @@ use Rattle.congruence.proofs.ShapeNoPrefix.{prefix-past-tail}
 use Rattle.least.specs.Possible.{relationOf}
 use Rattle.least.specs.Writing.{letterPart, wholePart, otherPart, memberPart, writePart}
 use Rattle.layout.specs.Layout.{Span, wordsIn, Checked}
-use Rattle.layout.proofs.Placed.{words-length}
+use Rattle.layout.proofs.Placed.{words-length, row-inside}
 use Rattle.sites.specs.declared.Site.{Site}
 use Rattle.sites.specs.Sites.{siteOf}
 use Rattle.sites.proofs.Sites.{Lies}
@@ -40,8 +40,10 @@ use Rattle.parts.specs.declared.Told.{Told}
 use Rattle.parts.specs.declared.Told.the-variants as Tolds
 use Rattle.parts.specs.declared.Choice.{Choice}
 use Rattle.parts.specs.State.{HintRight, LeastReady, Makes, PartMade}
-use Rattle.parts.specs.Members.{ToldRight, ChoiceMade, hintOf, sourceBehind, ownStage}
-use Rattle.parts.specs.Asked.{WordAsked, LetterAsked, PlacesSmall, CleanAsked, RestFound, ChoiceFound, ApartFound, MemberFound, WholeFound, OtherFound}
+use Rattle.parts.specs.Choices.{ToldRight, ChoiceMade, hintOf, sourceBehind, ownStage}
+use Rattle.members.specs.Asked.{WordAsked}
+use Rattle.parts.specs.Asked.{LetterAsked, PlacesSmall, CleanAsked, RestFound, ChoiceFound, ApartFound, MemberFound, WholeFound, OtherFound}
+use Rattle.parts.proofs.Letters.{some-of}
 use Rattle.parts.proofs.Standing.{facts, site-lies, go-makes, empty-letters, empty-mark, bare-stands, found-small, found-written, found-source, found-lighter}
 
 pub own-made : (s : Site) (m : Mark) (k : ℕ) (t : Told) (c : Source) (o : Hint) → c ≡ sourceBehind s m (s .tail) → o ≡ hintOf s t
@@ -60,7 +62,7 @@ module _ (text table : List ℕ) (n : ℕ) (given : Word) (s : LeastState) (i : 
   standing = a .ready .standing .word
 
   pub behind-room : 4 * i + 3 < length table
-  behind-room = let l = checked .laid .few in let b = checked .indexed .room in let c = a .there in omega (arith, l, b, c)
+  behind-room = row-inside text table n (checked .laid) i (a .there)
 
   pub behind-up : s .word .at ≤ s .word .to
   behind-up = standing .up
@@ -116,7 +118,6 @@ module _ (text table : List ℕ) (n : ℕ) (given : Word) (s : LeastState) (i : 
           asked = a;
           rest = drop-past (part text (s .word .at) (s .word .to)) (drop (s .word .from) given) (xylen (wordsIn text table n) i) (omega (arith, l, p))
               ∙ drop-drop (xylen (wordsIn text table n) i - length (part text (s .word .at) (s .word .to))) (s .word .from) given ∙ ap (λ m. drop m given) d;
-          place = omega (arith, p, y);
           later = omega (arith, p, y);
           within = omega (arith, r, y, w);
         }
@@ -134,12 +135,7 @@ hint-of-told text B given i k own y (Tolds.That b) r =
 -- the part by the chosen member
 module _ (text table : List ℕ) (n : ℕ) (given : Word) (s : LeastState) (i k : ℕ) (c : Choice) (f : ChoiceFound text table n given s i k c) where
   pub member-room : 4 * i + 3 < length table
-  member-room =
-      let p = f .found .asked .ready .ready .paired .checked in
-      let l = p .laid .few in
-      let b = p .indexed .room in
-      let h = f .found .asked .there in
-      omega (arith, l, b, h)
+  member-room = row-inside text table n (f .found .asked .ready .ready .paired .checked .laid) i (f .found .asked .there)
 
   pub member-none : n ≤ c .member
       → Makes text (wordsIn text table n) given s (memberPart (wordsIn text table n) relationOf i (c .member) (placedMark text (s .mark)) (placedWord text given (s .word))) Stages.None
@@ -209,12 +205,7 @@ module _ (text table : List ℕ) (n : ℕ) (given : Word) (s : LeastState) (i k 
   chosen = record { found = f .choice .found; member = f .choice .made .member; known = f .known }
 
   pub apart-room : 4 * i + 3 < length table
-  apart-room =
-      let p = f .choice .found .asked .ready .ready .paired .checked in
-      let l = p .laid .few in
-      let b = p .indexed .room in
-      let h = f .choice .found .asked .there in
-      omega (arith, l, b, h)
+  apart-room = row-inside text table n (f .choice .found .asked .ready .ready .paired .checked .laid) i (f .choice .found .asked .there)
 
   module _ (q : c .member ≡ i) (own : Site) (e : own ≡ siteOf table i) where
     own-is : own ≡ siteOf table (c .member)
@@ -258,10 +249,6 @@ module _ (text table : List ℕ) (n : ℕ) (given : Word) (s : LeastState) (i k 
 pub ruleset aparts = (apart-room, apart-small, apart-own, apart-other, apart-othered, needs)
 
 -- the round with a clean relation prefix
-some-of : (w : Word) → 0 < length w → isEmpty w ≡ false
-some-of [] h = absurd (omega arith)
-some-of (x ∷ w) h = refl
-
 module _ (text table : List ℕ) (n : ℕ) (given : Word) (s : LeastState) (i k : ℕ) (c : Choice) (f : RestFound text table n given s i k) (m : ChoiceMade text table n given (s .mark) i k c) where
   pub relation-found : ChoiceFound text table n given s i k c
   relation-found = record { found = f; made = m }

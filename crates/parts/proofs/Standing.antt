@@ -27,9 +27,9 @@ use Rattle.parts.specs.declared.Source.{Source}
 use Rattle.parts.specs.declared.LeastState.{LeastState}
 use Rattle.parts.specs.declared.Stage.the-variants as Stages
 use Rattle.parts.specs.State.{sourceWord, LettersLow, SourceFits, Goes, Makes, weight}
-use Rattle.parts.specs.Members.{sourceBehind}
+use Rattle.parts.specs.Choices.{sourceBehind}
 use Rattle.parts.specs.Asked.{PlacesSmall, MemberFound}
-use Rattle.parts.proofs.Members.{ChosenFits, chosen-fits}
+use Rattle.members.proofs.Members.{ChosenFits, chosen-fits}
 
 -- letters of relation words, and words that begin with a Z
 module _ (text table : List ℕ) (n : ℕ) (c : Checked text table n) where

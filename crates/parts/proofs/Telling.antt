@@ -1,9 +1,8 @@
 -- What a hint tells of Z behind X and Y, and a law for each way that the choice of a member can go.
-use Prim.Native.Nat.{ℕ, _+_, _*_, _≤_, _<_}
+use Prim.Native.Nat.{ℕ, _+_, _*_, _<_}
 use mathlib.Core.Bool.{Bool, true, false, and-eq-true-iff}
 use mathlib.Core.List.{List}
 use mathlib.Core.Path.{_≡_, refl, sym, ap, _∙_, subst}
-use native.Mathlib.Omega.{arith}
 use borrow.Author.Needs.{needs}
 use borrow.Author.Tests.{not-true}
 use lib.ListN.{length, drop}
@@ -16,10 +15,10 @@ use Rattle.least.specs.Possible.{relationOf, possible}
 use Rattle.least.specs.Writing.{firstMember, chosenMember}
 use Rattle.least.proofs.Possible.{possible-turn}
 use Rattle.layout.specs.Layout.{wordsIn}
-use Rattle.layout.proofs.Placed.{words-length}
+use Rattle.layout.proofs.Placed.{words-length, row-inside}
 use Rattle.sites.specs.declared.Site.{Site}
-use Rattle.sites.specs.Sites.{siteOf, SiteInText}
-use Rattle.sites.proofs.Sites.{Lies, lies, site-in-text}
+use Rattle.sites.specs.Sites.{siteOf}
+use Rattle.sites.proofs.Sites.{Lies, lies}
 use Rattle.moves.specs.declared.Mark.{Mark}
 use Rattle.moves.specs.State.{placedWord, placedMark}
 use Rattle.walks.specs.Walks.{Walking}
@@ -28,9 +27,11 @@ use Rattle.parts.specs.declared.LeastState.{LeastState}
 use Rattle.parts.specs.declared.Told.{Told}
 use Rattle.parts.specs.declared.Told.the-variants as Tolds
 use Rattle.parts.specs.State.{HintTold, HintRight}
-use Rattle.parts.specs.Members.{ToldRight, ChoiceMade, applies, settled}
-use Rattle.parts.specs.Asked.{MarkAsked, RestFound, ToldFound}
-use Rattle.parts.proofs.Members.{chosen-own, chosen-first, chosen-back, chosen-none}
+use Rattle.members.specs.Members.{applies, settled}
+use Rattle.parts.specs.Choices.{ToldRight, ChoiceMade}
+use Rattle.members.specs.Asked.{MarkAsked}
+use Rattle.parts.specs.Asked.{RestFound, ToldFound}
+use Rattle.members.proofs.Members.{chosen-own, chosen-first, chosen-back, chosen-none}
 
 -- where nothing is known nothing is told
 pub carry-nothing : (B : List Word) (given : Word) (i k : ℕ) → ToldRight B given i k Tolds.Nothing
@@ -45,7 +46,7 @@ module _ (text table : List ℕ) (n : ℕ) (given : Word) (s : LeastState) (i k 
     told = subst (HintRight text (wordsIn text table n) given (s .word)) e (f .asked .ready .standing .hint)
 
     pub carry-asked : MarkAsked text table n i q
-    carry-asked = record { paired = f .asked .ready .ready .paired; there = f .asked .there; mark = told .mark }
+    carry-asked = record { word = record { paired = f .asked .ready .ready .paired; there = f .asked .there }; mark = told .mark }
 
     -- the word is the rest of the given word alone
     bare : placedWord text given (s .word) ≡ drop (s .word .from) given
@@ -69,12 +70,7 @@ module _ (text table : List ℕ) (n : ℕ) (given : Word) (s : LeastState) (i k 
   ask-told b e = sym (subst (ToldRight (wordsIn text table n) given i k) e (f .told))
 
   pub ask-room : 4 * i + 3 < length table
-  ask-room =
-      let p = f .found .asked .ready .ready .paired in
-      let l = p .checked .laid .few in
-      let b = p .checked .indexed .room in
-      let c = f .found .asked .there in
-      omega (arith, l, b, c)
+  ask-room = row-inside text table n (f .found .asked .ready .ready .paired .checked .laid) i (f .found .asked .there)
 
   module _ (z : Site) (e : z ≡ siteOf table i) where
     ask-lies : Lies text (wordsIn text table n) i z
@@ -94,44 +90,10 @@ module _ (text table : List ℕ) (n : ℕ) (given : Word) (s : LeastState) (i k 
 
 pub ruleset asks = (ask-told, ask-room, ask-walking, ask-walked, needs)
 
--- the member, where the first one is another than i
-module _ (text table : List ℕ) (n i : ℕ) (m : Mark) (t : ℕ) (b : Bool) where
-  pub settle-first : b ≡ true → t ≡ settled (wordsIn text table n) n i (placedMark text m) t b
-  unfolding settled
-  settle-first h = rw h
-
-  module _ (a : MarkAsked text table n i m) where
-    pub settle-up : m .at ≤ m .to
-    settle-up = a .mark .up
-
-    pub settle-inside : m .to ≤ length text
-    settle-inside = a .mark .inside
-
-    pub settle-room : 4 * i + 3 < length table
-    settle-room = let l = a .paired .checked .laid .few in let b = a .paired .checked .indexed .room in let c = a .there in omega arith
-
-    module _ (s : Site) (e : s ≡ siteOf table i) where
-      settle-lies : Lies text (wordsIn text table n) i s
-      settle-lies = rw e (lies text table n (a .paired .checked) i (a .there))
-
-      pub settle-site : SiteInText text s
-      settle-site = site-in-text text (wordsIn text table n) i s settle-lies
-
-      module _ (h : b ≡ false) (x : Bool) (g : x ≡ isPrefix (part text (m .at) (m .to)) (part text (s .start) (s .middle))) where
-        pub settle-own : x ≡ true → i ≡ settled (wordsIn text table n) n i (placedMark text m) t b
-        unfolding settled
-        settle-own l = rw (h, settle-lies .x, ← g, l)
-
-        pub settle-none : x ≡ false → n ≡ settled (wordsIn text table n) n i (placedMark text m) t b
-        unfolding settled
-        settle-none l = rw (h, settle-lies .x, ← g, l)
-
-pub ruleset settles = (settle-first, settle-up, settle-inside, settle-room, settle-site, settle-own, settle-none, needs)
-
 -- the choice
 module _ (text table : List ℕ) (n : ℕ) (given : Word) (s : LeastState) (i k : ℕ) (f : RestFound text table n given s i k) where
   pub choice-asked : MarkAsked text table n i (s .mark)
-  choice-asked = record { paired = f .asked .ready .ready .paired; there = f .asked .there; mark = f .asked .ready .standing .mark }
+  choice-asked = record { word = record { paired = f .asked .ready .ready .paired; there = f .asked .there }; mark = f .asked .ready .standing .mark }
 
   pub choice-told : (t : Told) → ToldRight (wordsIn text table n) given i k t → ToldFound text table n given s i k t
   choice-told t g = record { found = f; told = g }

@@ -15,7 +15,7 @@ use Rattle.congruence.specs.Rows.{active}
 use Rattle.least.specs.Possible.{relationOf}
 use Rattle.least.specs.Writing.{carrier, wholePart}
 use Rattle.layout.specs.Layout.{wordsIn}
-use Rattle.layout.proofs.Placed.{words-length}
+use Rattle.layout.proofs.Placed.{words-length, row-inside}
 use Rattle.sites.specs.declared.Site.{Site}
 use Rattle.sites.specs.Sites.{siteOf}
 use Rattle.moves.specs.State.{placedMark}
@@ -24,9 +24,10 @@ use Rattle.parts.specs.declared.Source.{Source}
 use Rattle.parts.specs.declared.LeastState.{LeastState}
 use Rattle.parts.specs.declared.Stage.the-variants as Stages
 use Rattle.parts.specs.State.{Makes}
-use Rattle.parts.specs.Members.{sourceBehind}
-use Rattle.parts.specs.Asked.{PlacesSmall, RestAsked, WholeFound}
-use Rattle.parts.proofs.Members.{carrier-known}
+use Rattle.parts.specs.Choices.{sourceBehind}
+use Rattle.members.specs.Asked.{RestAsked}
+use Rattle.parts.specs.Asked.{PlacesSmall, WholeFound}
+use Rattle.members.proofs.Members.{carrier-known}
 use Rattle.parts.proofs.Standing.{go-makes, empty-mark, site-lies, tail-stands, tail-letters, tail-mark, found-checked, found-lies, found-small, found-written, found-source, found-lighter}
 
 module _ (text table : List ℕ) (n : ℕ) (given : Word) (s : LeastState) (i j k : ℕ) (f : WholeFound text table n given s i j k) where
@@ -41,18 +42,13 @@ module _ (text table : List ℕ) (n : ℕ) (given : Word) (s : LeastState) (i j 
       omega (arith, p, l, d, e, w)
 
   pub whole-rest : RestAsked text table n given j k
-  whole-rest = record { paired = f .chosen .found .asked .ready .ready .paired; there = f .chosen .known; within = whole-within }
+  whole-rest = record { word = record { paired = f .chosen .found .asked .ready .ready .paired; there = f .chosen .known }; within = whole-within }
 
   pub whole-rest-own : RestAsked text table n given i k
-  whole-rest-own = record { paired = f .chosen .found .asked .ready .ready .paired; there = f .chosen .found .asked .there; within = whole-within }
+  whole-rest-own = record { word = record { paired = f .chosen .found .asked .ready .ready .paired; there = f .chosen .found .asked .there }; within = whole-within }
 
   pub whole-room : 4 * j + 3 < length table
-  whole-room =
-      let p = f .chosen .found .asked .ready .ready .paired in
-      let l = p .checked .laid .few in
-      let b = p .checked .indexed .room in
-      let c = f .chosen .known in
-      omega (arith, l, b, c)
+  whole-room = row-inside text table n (f .chosen .found .asked .ready .ready .paired .checked .laid) j (f .chosen .known)
 
   later : f .before ≤ k
   later = let e = f .place in omega (arith, e)
@@ -67,12 +63,7 @@ module _ (text table : List ℕ) (n : ℕ) (given : Word) (s : LeastState) (i j 
         omega (arith, g, q, b)
 
     pub whole-room-carrier : 4 * c + 3 < length table
-    whole-room-carrier =
-        let p = f .chosen .found .asked .ready .ready .paired in
-        let l = p .checked .laid .few in
-        let b = p .checked .indexed .room in
-        let h = carrier-there in
-        omega (arith, l, b, h)
+    whole-room-carrier = row-inside text table n (f .chosen .found .asked .ready .ready .paired .checked .laid) c carrier-there
 
   module _ (z : Site) (e : z ≡ siteOf table j) where
     pub whole-small : PlacesSmall z (s .mark)

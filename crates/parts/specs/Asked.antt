@@ -1,5 +1,5 @@
 -- What the functions that make one round ask.
-use Prim.Native.Nat.{ℕ, _+_, _-_, _≤_, _<_}
+use Prim.Native.Nat.{ℕ, _+_, _≤_, _<_}
 use mathlib.Core.Bool.{true, false}
 use mathlib.Core.List.{List}
 use mathlib.Core.Path.{_≡_}
@@ -10,24 +10,16 @@ use Rattle.congruence.specs.Rows.{cleanRelationPrefix}
 use Rattle.least.specs.Order.{houseRank}
 use Rattle.least.specs.Possible.{relationOf}
 use Rattle.least.specs.Writing.{chosenMember}
-use Rattle.layout.specs.Layout.{wordsIn, Checked, Span}
-use Rattle.rows.specs.Pairs.{Paired}
+use Rattle.layout.specs.Layout.{wordsIn}
 use Rattle.sites.specs.declared.Site.{Site}
-use Rattle.moves.specs.declared.PlacedWord.{PlacedWord}
 use Rattle.moves.specs.declared.Mark.{Mark}
-use Rattle.moves.specs.State.{placedWord, placedMark, WordFits, MarkFits}
+use Rattle.moves.specs.State.{placedWord, placedMark}
 use Rattle.moves.specs.Drops.{heldEmpty}
 use Rattle.parts.specs.declared.LeastState.{LeastState}
 use Rattle.parts.specs.declared.Told.{Told}
 use Rattle.parts.specs.declared.Choice.{Choice}
 use Rattle.parts.specs.State.{LeastReady}
-use Rattle.parts.specs.Members.{ToldRight, ChoiceMade}
-
--- a held word that has a letter
-pub record WordAsked (text table : List ℕ) (n : ℕ) (given : Word) (h : PlacedWord) : Type 0 where
-  pub checked : Checked text table n
-  pub fits : WordFits text (wordsIn text table n) given h
-  pub some : heldEmpty (length given) h ≡ false
+use Rattle.parts.specs.Choices.{ToldRight, ChoiceMade}
 
 -- a state whose word has a letter and no clean relation prefix
 pub record LetterAsked (text table : List ℕ) (n : ℕ) (given : Word) (s : LeastState) : Type 0 where
@@ -35,31 +27,11 @@ pub record LetterAsked (text table : List ℕ) (n : ℕ) (given : Word) (s : Lea
   pub some : heldEmpty (length given) (s .word) ≡ false
   pub none : length (wordsIn text table n) ≤ cleanRelationPrefix (wordsIn text table n) (placedWord text given (s .word))
 
--- a mark in the text, and a relation word
-pub record MarkAsked (text table : List ℕ) (n i : ℕ) (m : Mark) : Type 0 where
-  pub paired : Paired text table n
-  pub there : i < n
-  pub mark : MarkFits text m
-
 -- the places of a relation word and of a mark are small
 pub record PlacesSmall (s : Site) (m : Mark) : Type 0 where
   pub start : s .start ≤ 65536
   pub up : m .at ≤ m .to
   pub mark : m .to ≤ 65536
-
--- a relation word and a place of the given word
-pub record RestAsked (text table : List ℕ) (n : ℕ) (given : Word) (i k : ℕ) : Type 0 where
-  pub paired : Paired text table n
-  pub there : i < n
-  pub within : k ≤ length given
-
--- text[at..to] and a place of the given word
-pub record QuietAsked (text table : List ℕ) (n : ℕ) (given : Word) (at to k : ℕ) : Type 0 where
-  pub checked : Checked text table n
-  pub span : Span text at to
-  pub small : length text ≤ 65536
-  pub within : k ≤ length given
-  pub short : length given ≤ 65536
 
 -- relation word i is the clean relation prefix of the state's word
 pub record CleanAsked (text table : List ℕ) (n : ℕ) (given : Word) (s : LeastState) (i : ℕ) : Type 0 where
@@ -67,44 +39,43 @@ pub record CleanAsked (text table : List ℕ) (n : ℕ) (given : Word) (s : Leas
   pub there : i < n
   pub clean : i ≡ cleanRelationPrefix (wordsIn text table n) (placedWord text given (s .word))
 
--- and the given word from k on follows its X and Y
+-- relation word i is the clean relation prefix of the state's word, and the given word from k on follows its X and Y
 pub record RestFound (text table : List ℕ) (n : ℕ) (given : Word) (s : LeastState) (i k : ℕ) : Type 0 where
   pub asked : CleanAsked text table n given s i
   pub rest : drop (xylen (wordsIn text table n) i) (placedWord text given (s .word)) ≡ drop k given
-  pub place : k + (s .word .to - s .word .at) ≡ s .word .from + xylen (wordsIn text table n) i
   pub later : s .word .from < k
   pub within : k ≤ length given
 
--- and something or nothing is told of it
+-- the same, and what is told of Z of i behind X and Y is right
 pub record ToldFound (text table : List ℕ) (n : ℕ) (given : Word) (s : LeastState) (i k : ℕ) (t : Told) : Type 0 where
   pub found : RestFound text table n given s i k
   pub told : ToldRight (wordsIn text table n) given i k t
 
--- and the member is chosen
+-- the same, and the member that the least word begins with is chosen
 pub record ChoiceFound (text table : List ℕ) (n : ℕ) (given : Word) (s : LeastState) (i k : ℕ) (c : Choice) : Type 0 where
   pub found : RestFound text table n given s i k
   pub made : ChoiceMade text table n given (s .mark) i k c
 
--- and there is one, and Z of i does not follow X and Y
+-- the same, and there is such a member, and Z of i does not follow X and Y
 pub record ApartFound (text table : List ℕ) (n : ℕ) (given : Word) (s : LeastState) (i k : ℕ) (c : Choice) : Type 0 where
   pub choice : ChoiceFound text table n given s i k c
   pub known : c .member < n
   pub apart : isPrefix (zOf (wordsIn text table n) i) (drop k given) ≡ false
 
--- and it is j
+-- the same as what is found with a clean relation prefix, and the chosen member is j
 pub record MemberFound (text table : List ℕ) (n : ℕ) (given : Word) (s : LeastState) (i k j : ℕ) : Type 0 where
   pub found : RestFound text table n given s i k
   pub member : j ≡ chosenMember (wordsIn text table n) relationOf houseRank i (placedMark text (s .mark)) (drop k given)
   pub known : j < n
 
--- and Z of i stands in the given word before k
+-- the same, and Z of i follows X and Y; it ends at place k of the given word
 pub record WholeFound (text table : List ℕ) (n : ℕ) (given : Word) (s : LeastState) (i j k : ℕ) : Type 0 where
   pub before : ℕ
   pub chosen : MemberFound text table n given s i before j
   pub whole : isPrefix (zOf (wordsIn text table n) i) (drop before given) ≡ true
   pub place : k ≡ before + zlen (wordsIn text table n) i
 
--- and j is another than i, and Z of i does not follow
+-- the same, and Z of i does not follow X and Y, and j is another than i
 pub record OtherFound (text table : List ℕ) (n : ℕ) (given : Word) (s : LeastState) (i j k : ℕ) : Type 0 where
   pub chosen : MemberFound text table n given s i k j
   pub apart : isPrefix (zOf (wordsIn text table n) i) (drop k given) ≡ false

@@ -1,4 +1,4 @@
 pub mod State
 pub mod Letters
-pub mod Members
+pub mod Choices
 pub mod Asked

@@ -3,17 +3,14 @@
 ghost use mathlib.Core.Path.{_≡_};
 ghost use lib.ListN.{drop};
 ghost use Rattle.overlap.specs.Cuts.{zOf};
-ghost use Rattle.congruence.specs.Rows.{cleanRelationPrefix, active};
-ghost use Rattle.least.specs.Order.{houseRank};
 ghost use Rattle.least.specs.Possible.{relationOf, possible};
-ghost use Rattle.least.specs.Writing.{letterPart, firstMember, carrier, wholePart, otherPart, memberPart};
+ghost use Rattle.least.specs.Writing.{letterPart, wholePart, otherPart, memberPart};
 ghost use Rattle.layout.specs.Layout.{wordsIn};
-ghost use Rattle.sites.specs.Sites.{SitesInText};
 ghost use Rattle.moves.specs.State.{placedWord, placedMark};
 ghost use Rattle.parts.specs.State.{LeastReady, Makes, PartMade};
 ghost use Rattle.parts.specs.Letters.{WordSmall, withoutLetter, firstSource, HintLies, hintBehind};
-ghost use Rattle.parts.specs.Members.{firstAt, firstOfTwo, ToldRight, ChoiceMade, hintOf, sourceBehind, quiet, applies, settled, ownStage};
-ghost use Rattle.parts.specs.Asked.{WordAsked, LetterAsked, MarkAsked, PlacesSmall, RestAsked, QuietAsked, CleanAsked, RestFound, ToldFound, ChoiceFound, ApartFound, WholeFound, OtherFound};
+ghost use Rattle.parts.specs.Choices.{ToldRight, ChoiceMade, hintOf, sourceBehind, ownStage};
+ghost use Rattle.parts.specs.Asked.{LetterAsked, PlacesSmall, CleanAsked, RestFound, ToldFound, ChoiceFound, ApartFound, WholeFound, OtherFound};
 use moves::Mark;
 use moves::PlacedWord;
 use sites::Site;
@@ -55,70 +52,6 @@ pub enum Told {
 pub struct Choice {
     pub member: usize,
     pub told: Told,
-}
-
-// The rank of a letter in the house table.
-fn rank(letter: u16) -> u16
-    ensures { λ r. ⌜ r ≡ houseRank letter ⌝ }
-{
-    if letter < 32 {
-        return letter + 32;
-    }
-    if letter < 64 {
-        return letter - 32;
-    }
-    letter
-}
-
-// Whether the X and Y at s come before those at t.
-fn comes_first(text: &[u16], s: Site, t: Site) -> bool
-    requires { ⌜ SitesInText (now text) s t ⌝ }
-    ensures { λ r. ⌜ r ≡ firstAt (now (text .entry)) s t ⌝ }
-{
-    let from = s.start;
-    let at = t.start;
-    let to = t.tail;
-    let m = joined::common_prefix_in(text, from, s.tail, &text[at..to], 0, 0);
-    if to - at <= m {
-        return false;
-    }
-    if s.tail - from <= m {
-        return true;
-    }
-    rank(text[from + m]) < rank(text[at + m])
-}
-
-// Of the relation words i at s and j at t, those with p a prefix of their X, the one whose X and Y come first, or n.
-fn first_of_two(text: &[u16], s: Site, t: Site, p: &[u16], i: usize, j: usize, n: usize) -> usize
-    requires { ⌜ SitesInText (now text) s t ⌝ }
-    ensures { λ r. ⌜ r ≡ firstOfTwo (now (text .entry)) s t (now (p .entry)) i j n ⌝ }
-{
-    if sites::mark_in_x(text, s, p) {
-        if sites::mark_in_x(text, t, p) {
-            if comes_first(text, s, t) {
-                return i;
-            }
-            return j;
-        }
-        return i;
-    }
-    if sites::mark_in_x(text, t, p) {
-        return j;
-    }
-    n
-}
-
-// Of the two words of i's relation, the first in the dictionary whose X the mark begins, or n.
-fn first_member(text: &[u16], table: &[u16], n: usize, i: usize, mark: Mark) -> usize
-    requires { ⌜ MarkAsked (now text) (now table) n i mark ⌝ }
-    ensures { λ r. ⌜ r ≡ firstMember (wordsIn (now (text .entry)) (now (table .entry)) n) relationOf houseRank i (placedMark (now (text .entry)) mark) ⌝ }
-{
-    let o = sites::other_word(i);
-    let own = sites::read_site(table, i);
-    let other = sites::read_site(table, o);
-    let at = mark.at;
-    let to = mark.to;
-    first_of_two(text, own, other, &text[at..to], i, o, n)
 }
 
 // The letters of the relation word at s behind the mark, up to a place.
@@ -211,90 +144,6 @@ fn hint_of(s: Site, told: Told) -> Hint
     )
 }
 
-// The relation word whose X and Y are a clean relation prefix of a held word that has a letter, or n. None is looked for where no relation word begins with its first letter.
-fn clean_of(text: &[u16], table: &[u16], n: usize, given: &[u16], h: PlacedWord) -> usize
-    requires { ⌜ WordAsked (now text) (now table) n (now given) h ⌝ }
-    ensures { λ r. ⌜ r ≡ cleanRelationPrefix (wordsIn (now (text .entry)) (now (table .entry)) n) (placedWord (now (text .entry)) (now (given .entry)) h) ⌝ }
-{
-    let x = moves::first_letter(text, given, h);
-    if sites::begins_none(table, x) {
-        return n;
-    }
-    let at = h.at;
-    let to = h.to;
-    let from = h.from;
-    sites::clean_prefix(text, table, n, &text[at..to], &given[from..])
-}
-
-// Whether the given word from k on is active for Z of relation word j.
-fn active_behind(text: &[u16], table: &[u16], n: usize, given: &[u16], j: usize, k: usize) -> bool
-    requires { ⌜ RestAsked (now text) (now table) n (now given) j k ⌝ }
-    ensures { λ r. ⌜ r ≡ active (wordsIn (now (text .entry)) (now (table .entry)) n) (zOf (wordsIn (now (text .entry)) (now (table .entry)) n) j) (drop k (now (given .entry))) ⌝ }
-{
-    let s = sites::read_site(table, j);
-    let at = s.tail;
-    let to = s.stop;
-    sites::has_prefix_between(text, table, n, &text[at..to], &given[k..], 0, to - at)
-}
-
-// The first word of i's relation for whose Z the given word from k on is active, or i.
-fn find_carrier(text: &[u16], table: &[u16], n: usize, given: &[u16], i: usize, k: usize) -> usize
-    requires { ⌜ RestAsked (now text) (now table) n (now given) i k ⌝ }
-    ensures { λ r. ⌜ r ≡ carrier (wordsIn (now (text .entry)) (now (table .entry)) n) relationOf i (drop k (now (given .entry))) ⌝ }
-{
-    let low = i - i % 2;
-    if active_behind(text, table, n, given, low, k) {
-        return low;
-    }
-    if active_behind(text, table, n, given, low + 1, k) {
-        return low + 1;
-    }
-    i
-}
-
-// Whether text[at..to] stands in the given word at place k, and no clean relation prefix begins in it there.
-fn stands_quiet(
-    text: &[u16],
-    table: &[u16],
-    n: usize,
-    given: &[u16],
-    at: usize,
-    to: usize,
-    k: usize,
-) -> bool
-    requires { ⌜ QuietAsked (now text) (now table) n (now given) at to k ⌝ }
-    ensures { λ r. ⌜ r ≡ quiet (now (text .entry)) (wordsIn (now (text .entry)) (now (table .entry)) n) (now (given .entry)) at to k ⌝ }
-{
-    if joined::begins(text, at, to, &given[0..0], given, k) {
-        let end = k + (to - at);
-        return walks::first_clean(text, table, n, given, k, end) == end;
-    }
-    false
-}
-
-// Whether a mark, which is no prefix of the given word from `from` on, lies in X of relation word i or of the other word of its relation.
-fn hint_applies(
-    text: &[u16],
-    table: &[u16],
-    n: usize,
-    given: &[u16],
-    i: usize,
-    q: Mark,
-    from: usize,
-) -> bool
-    requires { ⌜ MarkAsked (now text) (now table) n i q ⌝ }
-    ensures { λ r. ⌜ r ≡ applies (wordsIn (now (text .entry)) (now (table .entry)) n) (now (given .entry)) i (placedMark (now (text .entry)) q) from ⌝ }
-{
-    let at = q.at;
-    let to = q.to;
-    if joined::begins(text, at, to, &given[0..0], given, from) {
-        return false;
-    }
-    let own = sites::read_site(table, i);
-    let other = sites::read_site(table, sites::other_word(i));
-    sites::mark_in_either_x(text, own, other, &text[at..to])
-}
-
 // What the hint of a state tells of Z of relation word i, its clean relation prefix, behind X and Y.
 fn carry_hint(
     text: &[u16],
@@ -312,7 +161,7 @@ fn carry_hint(
     let Hint::Known(q, b) = hint else {
         return Told::Nothing;
     };
-    if hint_applies(text, table, n, given, i, q, s.word.from) {
+    if members::hint_applies(text, table, n, given, i, q, s.word.from) {
         return Told::That(b);
     }
     Told::Nothing
@@ -339,31 +188,6 @@ fn ask_possible(
     b
 }
 
-// The chosen member of i's relation, where t is the first that the mark allows, another than i, and b tells whether Z of i is possible behind X and Y.
-fn settle_member(
-    text: &[u16],
-    table: &[u16],
-    n: usize,
-    i: usize,
-    mark: Mark,
-    t: usize,
-    b: bool,
-) -> usize
-    requires { ⌜ MarkAsked (now text) (now table) n i mark ⌝ }
-    ensures { λ r. ⌜ r ≡ settled (wordsIn (now (text .entry)) (now (table .entry)) n) n i (placedMark (now (text .entry)) mark) t b ⌝ }
-{
-    if b {
-        return t;
-    }
-    let at = mark.at;
-    let to = mark.to;
-    let own = sites::read_site(table, i);
-    if sites::mark_in_x(text, own, &text[at..to]) {
-        return i;
-    }
-    n
-}
-
 // The member of i's relation whose X and Y the least word begins with, and what is told of Z of i on the way.
 fn choose_member(
     text: &[u16],
@@ -378,13 +202,13 @@ fn choose_member(
     ensures { λ r. ⌜ ChoiceMade (now (text .entry)) (now (table .entry)) n (now (given .entry)) (s .mark) i k r ⌝ }
 {
     let told = carry_hint(text, table, n, given, s, i, k);
-    let t = first_member(text, table, n, i, s.mark);
+    let t = members::first_member(text, table, n, i, s.mark);
     if t == i {
         return Choice { member: i, told };
     }
     let b = ask_possible(text, table, n, given, s, i, k, told);
     Choice {
-        member: settle_member(text, table, n, i, s.mark, t, b),
+        member: members::settle_member(text, table, n, i, s.mark, t, b),
         told: Told::That(b),
     }
 }
@@ -404,7 +228,7 @@ fn write_whole(
     ensures { λ r. ⌜ Makes (now (text .entry)) (wordsIn (now (text .entry)) (now (table .entry)) n) (now (given .entry)) s (wholePart (wordsIn (now (text .entry)) (now (table .entry)) n) relationOf i j (placedMark (now (text .entry)) (s .mark)) (drop k (now (given .entry)))) r ⌝ }
 {
     let own = sites::read_site(table, j);
-    if active_behind(text, table, n, given, j, k) {
+    if members::active_behind(text, table, n, given, j, k) {
         return Stage::Go(
             source_behind(own, s.mark, own.tail),
             LeastState {
@@ -418,7 +242,7 @@ fn write_whole(
             },
         );
     }
-    let z = sites::read_site(table, find_carrier(text, table, n, given, i, k));
+    let z = sites::read_site(table, members::find_carrier(text, table, n, given, i, k));
     Stage::Go(
         source_behind(own, s.mark, own.stop),
         LeastState {
@@ -454,7 +278,7 @@ fn write_other(
     let z = sites::read_site(table, j);
     let l = changes::common_suffix(text, own, z);
     let cut = own.stop - l;
-    if stands_quiet(text, table, n, given, own.tail, cut, k) {
+    if members::stands_quiet(text, table, n, given, own.tail, cut, k) {
         return Stage::Go(
             source_behind(z, s.mark, z.stop - l),
             LeastState {
@@ -651,7 +475,7 @@ pub fn make_part(text: &[u16], table: &[u16], n: usize, given: &[u16], s: LeastS
         }
         return Stage::End;
     }
-    let i = clean_of(text, table, n, given, s.word);
+    let i = members::clean_of(text, table, n, given, s.word);
     if n <= i {
         return write_letter(text, table, n, given, s);
     }

@@ -1,5 +1,5 @@
 -- A law for each way that a walk can go.
-use Prim.Native.Nat.{ℕ, _+_, _-_, _*_, _%_, _≤_, _<_, min}
+use Prim.Native.Nat.{ℕ, _+_, _-_, _*_, _≤_, _<_, min}
 use mathlib.Core.Bool.{Bool, true, false}
 use mathlib.Core.Logic.{by-cases}
 use mathlib.Core.List.{List}
@@ -14,9 +14,8 @@ use lib.Seq.{drop-drop}
 use Rattle.words.specs.Words.{Word, isPrefix, commonPrefix, part}
 use Rattle.words.specs.Relations.{other}
 use Rattle.words.proofs.Parts.{part-length, part-drop}
-use Rattle.words.proofs.Prefixes.{prefix-fits}
+use Rattle.words.proofs.Prefixes.{prefix-length}
 use Rattle.words.proofs.Commons.{common-within, common-prefix, common-no-prefix}
-use Rattle.words.proofs.Relations.{other-there}
 use Rattle.overlap.specs.Cuts.{xylen, xyOf}
 use Rattle.overlap.proofs.Facts.{length-xy, rigid-of-c4}
 use Rattle.congruence.specs.Rows.{cleanRelationPrefix}
@@ -28,13 +27,15 @@ use Rattle.joined.specs.Joined.{Agreed}
 use Rattle.sites.specs.declared.Site.{Site}
 use Rattle.sites.specs.Sites.{siteOf, SitesInText}
 use Rattle.sites.specs.Prefixes.{markInEitherX}
-use Rattle.sites.proofs.Sites.{Lies, lies, site-in-text}
+use Rattle.sites.proofs.Sites.{Lies}
 use Rattle.sites.proofs.CleanPrefixes.{clean-prefix}
+use Rattle.rows.specs.Pairs.{PairedWord}
+use Rattle.rows.proofs.Laws.{paired-few, paired-room, other-room, sites-read}
 use Rattle.moves.proofs.Laws.{rest-lent}
 use Rattle.walks.specs.declared.Leg.{Leg}
 use Rattle.walks.specs.declared.Leg.the-variants as Legs
 use Rattle.walks.specs.Walks.{PlaceAsked, PlacesAsked, FirstClean, Walking, Turning, Parting, Further, LegStands, LegMade}
-use Rattle.walks.proofs.Pairs.{marked-pair}
+use Rattle.walks.proofs.Pairs.{pair-own, pair-marked}
 use Rattle.walks.proofs.Legs.{prefix-rest, passed, ends}
 
 -- the clean relation prefix at a place
@@ -99,28 +100,21 @@ module _ (text table : List ℕ) (n : ℕ) (given : Word) (at to from : ℕ) (t 
   turn-inside = t .walking .span .inside
 
   module _ (i : ℕ) (e : i ≡ cleanRelationPrefix (wordsIn text table n) (drop from given)) where
-    there : i < n
-    there = let b = words-length text table n in let c = t .clean in omega (arith, b, c, e)
-
-    other-known : other i < n
-    other-known = other-there n i (t .walking .ready .paired .even) there
-
-    pub turn-room : 4 * i + 3 < length table
-    turn-room = let a = t .walking .ready .paired .checked .laid .few in let b = t .walking .ready .paired .checked .indexed .room in let c = there in omega arith
+    turn-word : PairedWord text table n i
+    turn-word = record { paired = t .walking .ready .paired; there = let b = words-length text table n in let c = t .clean in omega (arith, b, c, e) }
 
     pub turn-few : i ≤ 64
-    turn-few = let a = t .walking .ready .paired .checked .laid .few in let c = there in omega arith
+    turn-few = paired-few text table n i turn-word
+
+    pub turn-room : 4 * i + 3 < length table
+    turn-room = paired-room text table n i turn-word
 
     pub turn-room-other : (o : ℕ) → o ≡ other i → 4 * o + 3 < length table
-    turn-room-other o f =
-        let a = t .walking .ready .paired .checked .laid .few in
-        let b = t .walking .ready .paired .checked .indexed .room in
-        let c = other-known in
-        omega (arith, a, b, c, f)
+    turn-room-other o f = other-room text table n i turn-word o f
 
     module _ (own : Site) (eo : own ≡ siteOf table i) where
       own-lies : Lies text (wordsIn text table n) i own
-      own-lies = rw eo (lies text table n (t .walking .ready .paired .checked) i there)
+      own-lies = pair-own text table n i turn-word own eo
 
       pub turn-tail : own .start ≤ own .tail
       turn-tail = let l = own-lies in omega (arith, l .first, l .second)
@@ -129,32 +123,21 @@ module _ (text table : List ℕ) (n : ℕ) (given : Word) (at to from : ℕ) (t 
       behind-xy : from + xylen (wordsIn text table n) i ≤ length given
       behind-xy =
           let l = own-lies in
-          let c = clean-prefix (wordsIn text table n) (drop from given) i e (l .known) in
           let x = length-xy (wordsIn text table n) i in
-          prefix-there (l .longXY) (l .first) (l .second) x c
-        where
-          prefix-there : xylen (wordsIn text table n) i ≡ own .tail - own .start → own .start ≤ own .middle → own .middle < own .tail
-              → length (xyOf (wordsIn text table n) i) ≡ xylen (wordsIn text table n) i → isPrefix (xyOf (wordsIn text table n) i) (drop from given) ≡ true
-              → from + xylen (wordsIn text table n) i ≤ length given
-          prefix-there a b c x d = let f = prefix-fits (xyOf (wordsIn text table n) i) given from (omega arith) d in omega arith
+          let p = prefix-length (xyOf (wordsIn text table n) i) (drop from given) (clean-prefix (wordsIn text table n) (drop from given) i e (l .known)) in
+          let d = length-drop from given in
+          omega (arith, l .longXY, l .first, l .second, x, p, d)
 
       pub turn-fits : Fits w64 (from + (own .tail - own .start))
       turn-fits = let b = behind-xy in let l = own-lies .longXY in let s = t .walking .short in omega (arith, b, l, s)
 
       module _ (o : ℕ) (f : o ≡ other i) (oth : Site) (et : oth ≡ siteOf table o) where
-        other-lies : Lies text (wordsIn text table n) (other i) oth
-        other-lies = rw (et, f) (lies text table n (t .walking .ready .paired .checked) (other i) other-known)
-
         pub turn-sites : SitesInText text own oth
-        turn-sites = record { own = site-in-text text (wordsIn text table n) i own own-lies; other = site-in-text text (wordsIn text table n) (other i) oth other-lies }
-
-        even : length (wordsIn text table n) % 2 ≡ 0
-        even = rw (words-length text table n) (t .walking .ready .paired .even)
+        turn-sites = sites-read text table n i turn-word own eo o f oth et
 
         module _ (x : Bool) (g : x ≡ markInEitherX text own oth (part text at to)) where
           marks : markedByAny (wordsIn text table n) relationOf i (part text at to) ≡ x
-          unfolding markInEitherX
-          marks = marked-pair (wordsIn text table n) i (part text at to) even (own-lies .known) ∙ rw (own-lies .x, other-lies .x) (sym g)
+          marks = pair-marked text table n i turn-word own eo o f oth et (part text at to) ∙ sym g
 
           pub turn-next : x ≡ true → LegMade text table n given at to from (Legs.Next (own .tail) (own .stop) (from + (own .tail - own .start)))
           turn-next h =
@@ -173,7 +156,7 @@ module _ (text table : List ℕ) (n : ℕ) (given : Word) (at to from : ℕ) (t 
           pub turn-no : x ≡ false → LegMade text table n given at to from Legs.No
           turn-no h = record { same = sym (possible-unmarked (wordsIn text table n) relationOf (part text at to) (drop from given) i (t .apart) e (own-lies .known) (marks ∙ h)); stands = tt }
 
-pub ruleset turns = (turn-asked, turn-up, turn-inside, turn-room, turn-few, turn-room-other, turn-tail, turn-fits, turn-sites, turn-next, turn-no, needs)
+pub ruleset turns = (turn-asked, turn-up, turn-inside, turn-few, turn-room, turn-room-other, turn-sites, turn-tail, turn-fits, turn-next, turn-no, needs)
 
 -- one leg: whether the mark is a prefix
 module _ (text table : List ℕ) (n : ℕ) (given : Word) (at to from : ℕ) (w : Walking text table n given at to from) where

@@ -1,9 +1,9 @@
--- A family of two words, those of one relation: a mark lies in the X of a member exactly when it lies in one of the two.
+-- A family of two words, those of one relation: a mark lies in the X of a member exactly when it lies in one of the two. And where the two lie in the text.
 use Prim.Native.Nat.{ℕ, _%_, _/_, _<_}
 use mathlib.Core.Bool.{Bool, true, false, _||_}
 use mathlib.Core.Logic.{by-cases, _⊎_, inl, inr, ⊎-elim}
 use mathlib.Core.List.{List}
-use mathlib.Core.Path.{_≡_, refl, sym, subst}
+use mathlib.Core.Path.{_≡_, refl, sym, _∙_, subst}
 use native.Mathlib.Omega.{arith}
 use native.Mathlib.Decide.{ℕ-discrete}
 use borrow.Author.Tests.{eq-eqb, ne-eqb}
@@ -15,6 +15,14 @@ use Rattle.words.proofs.Searching.{any-of, any-none}
 use Rattle.words.proofs.Relations.{other-there}
 use Rattle.overlap.specs.Cuts.{xOf}
 use Rattle.least.specs.Possible.{relationOf, marked, markedByAny}
+use Rattle.layout.specs.Layout.{wordsIn}
+use Rattle.layout.proofs.Placed.{words-length}
+use Rattle.sites.specs.declared.Site.{Site}
+use Rattle.sites.specs.Sites.{siteOf}
+use Rattle.sites.specs.Prefixes.{markInEitherX}
+use Rattle.sites.proofs.Sites.{Lies}
+use Rattle.rows.specs.Pairs.{PairedWord}
+use Rattle.rows.proofs.Laws.{own-lies, other-lies}
 
 -- the two words of one relation
 pub same-relation : (i : ℕ) → i / 2 ≡ other i / 2
@@ -49,3 +57,20 @@ module _ (B : List Word) (i : ℕ) (p : Word) where
           (λ c. by-cases (ℕ-discrete k (other i))
           (λ d. subst (λ (j : ℕ). marked B relationOf i p j ≡ false) (sym d) (rw marked-other f))
           (λ d. marked-apart k c d))))
+
+-- the two words of a relation in the text
+module _ (text table : List ℕ) (n i : ℕ) (h : PairedWord text table n i) where
+  pub pair-even : length (wordsIn text table n) % 2 ≡ 0
+  pair-even = rw (words-length text table n) (h .paired .even)
+
+  module _ (s : Site) (e : s ≡ siteOf table i) where
+    pub pair-own : Lies text (wordsIn text table n) i s
+    pair-own = rw e (own-lies text table n i h)
+
+    module _ (o : ℕ) (eo : o ≡ other i) (t : Site) (et : t ≡ siteOf table o) where
+      pub pair-other : Lies text (wordsIn text table n) (other i) t
+      pair-other = rw (et, eo) (other-lies text table n i h)
+
+      pub pair-marked : (p : Word) → markedByAny (wordsIn text table n) relationOf i p ≡ markInEitherX text s t p
+      unfolding markInEitherX
+      pair-marked p = marked-pair (wordsIn text table n) i p pair-even (pair-own .known) ∙ rw (pair-own .x, pair-other .x)

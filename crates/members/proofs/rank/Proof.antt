@@ -1,6 +1,6 @@
-use Rattle.parts.proofs.Ranks.{ranks}
-use Rattle.parts.proofs.rank.Statement.{statement}
-use Rattle.parts.proofs.rank.Tie as tie
+use Rattle.members.proofs.Ranks.{ranks}
+use Rattle.members.proofs.rank.Statement.{statement}
+use Rattle.members.proofs.rank.Tie as tie
 
 pub rank-spec : {M : Type 1} → statement M
 rank-spec =

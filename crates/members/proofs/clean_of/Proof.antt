@@ -1,6 +1,6 @@
-use Rattle.parts.proofs.Choosing.{wordsClean}
-use Rattle.parts.proofs.clean_of.Statement.{statement}
-use Rattle.parts.proofs.clean_of.Tie as tie
+use Rattle.members.proofs.Choosing.{wordsClean}
+use Rattle.members.proofs.clean_of.Statement.{statement}
+use Rattle.members.proofs.clean_of.Tie as tie
 
 pub clean-of-spec : {M : Type 1} → statement M
 clean-of-spec =

@@ -1,6 +1,6 @@
-use Rattle.parts.proofs.Laws.{firstMembers}
-use Rattle.parts.proofs.first_member.Statement.{statement}
-use Rattle.parts.proofs.first_member.Tie as tie
+use Rattle.members.proofs.Laws.{firstMembers}
+use Rattle.members.proofs.first_member.Statement.{statement}
+use Rattle.members.proofs.first_member.Tie as tie
 
 pub first-member-spec : {M : Type 1} → statement M
 first-member-spec =

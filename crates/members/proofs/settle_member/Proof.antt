@@ -1,6 +1,6 @@
-use Rattle.parts.proofs.Telling.{settles}
-use Rattle.parts.proofs.settle_member.Statement.{statement}
-use Rattle.parts.proofs.settle_member.Tie as tie
+use Rattle.members.proofs.Laws.{settles}
+use Rattle.members.proofs.settle_member.Statement.{statement}
+use Rattle.members.proofs.settle_member.Tie as tie
 
 pub settle-member-spec : {M : Type 1} → statement M
 settle-member-spec =

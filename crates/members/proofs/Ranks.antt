@@ -17,7 +17,7 @@ use Rattle.least.specs.Order.{before, houseRank}
 use Rattle.joined.specs.Joined.{Agreed}
 use Rattle.sites.specs.declared.Site.{Site}
 use Rattle.sites.specs.Sites.{SitesInText}
-use Rattle.parts.specs.Members.{firstAt}
+use Rattle.members.specs.Members.{firstAt}
 
 -- the rank of a letter
 pub rank-low : (c : ℕ) → c < 32 → c + 32 ≡ houseRank c

@@ -1,6 +1,6 @@
-use Rattle.parts.proofs.Choosing.{applications}
-use Rattle.parts.proofs.hint_applies.Statement.{statement}
-use Rattle.parts.proofs.hint_applies.Tie as tie
+use Rattle.members.proofs.Choosing.{applications}
+use Rattle.members.proofs.hint_applies.Statement.{statement}
+use Rattle.members.proofs.hint_applies.Tie as tie
 
 pub hint-applies-spec : {M : Type 1} → statement M
 hint-applies-spec =

@@ -1,6 +1,6 @@
-use Rattle.parts.proofs.Laws.{twos}
-use Rattle.parts.proofs.first_of_two.Statement.{statement}
-use Rattle.parts.proofs.first_of_two.Tie as tie
+use Rattle.members.proofs.Laws.{twos}
+use Rattle.members.proofs.first_of_two.Statement.{statement}
+use Rattle.members.proofs.first_of_two.Tie as tie
 
 pub first-of-two-spec : {M : Type 1} → statement M
 first-of-two-spec =

@@ -1,6 +1,6 @@
-use Rattle.parts.proofs.Choosing.{quiets}
-use Rattle.parts.proofs.stands_quiet.Statement.{statement}
-use Rattle.parts.proofs.stands_quiet.Tie as tie
+use Rattle.members.proofs.Choosing.{quiets}
+use Rattle.members.proofs.stands_quiet.Statement.{statement}
+use Rattle.members.proofs.stands_quiet.Tie as tie
 
 pub stands-quiet-spec : {M : Type 1} → statement M
 stands-quiet-spec =

@@ -18,7 +18,6 @@ use Rattle.words.specs.Relations.{other}
 use Rattle.words.proofs.Parts.{part-length}
 use Rattle.words.proofs.Prefixes.{prefix-length}
 use Rattle.words.proofs.Searching.{any-of, any-none}
-use Rattle.words.proofs.Relations.{other-there}
 use Rattle.overlap.specs.Cuts.{zOf}
 use Rattle.overlap.proofs.Facts.{rigid-of-c4}
 use Rattle.congruence.specs.Rows.{cleanRelationPrefix, hasRelationPrefixBetween, active}
@@ -29,10 +28,10 @@ use Rattle.layout.specs.Places.{tableRoom}
 use Rattle.layout.specs.Layout.{Span, wordsIn, Checked}
 use Rattle.layout.proofs.Placed.{words-length, start-bound}
 use Rattle.sites.specs.declared.Site.{Site}
-use Rattle.sites.specs.Sites.{siteOf, SitesInText}
+use Rattle.sites.specs.Sites.{siteOf}
 use Rattle.sites.specs.Prefixes.{markInEitherX}
 use Rattle.sites.specs.FirstLetters.{emptyList}
-use Rattle.sites.proofs.Sites.{Lies, lies, site-in-text}
+use Rattle.sites.proofs.Sites.{Lies}
 use Rattle.sites.proofs.FirstLetters.{begins-none}
 use Rattle.moves.specs.declared.PlacedWord.{PlacedWord}
 use Rattle.moves.specs.declared.Mark.{Mark}
@@ -40,10 +39,13 @@ use Rattle.moves.specs.State.{placedWord, placedMark}
 use Rattle.moves.specs.Drops.{HasLetter}
 use Rattle.moves.proofs.Laws.{rest-lent}
 use Rattle.walks.specs.Walks.{PlacesAsked, FirstClean}
-use Rattle.walks.proofs.Pairs.{marked-pair}
-use Rattle.parts.specs.Members.{quiet, applies}
-use Rattle.parts.specs.Asked.{WordAsked, MarkAsked, RestAsked, QuietAsked}
-use Rattle.parts.proofs.Members.{carrier-low, carrier-high, carrier-own}
+use Rattle.rows.specs.Pairs.{PairedWord}
+use Rattle.rows.proofs.Laws.{paired-few, paired-room, other-room, sites-read}
+use Rattle.walks.proofs.Pairs.{pair-even, pair-own, pair-marked}
+use Rattle.members.specs.Members.{quiet, applies}
+use Rattle.members.specs.Asked.{WordAsked, MarkAsked, RestAsked, QuietAsked}
+use Rattle.members.proofs.Laws.{mark-word, mark-up, mark-inside}
+use Rattle.members.proofs.Members.{carrier-low, carrier-high, carrier-own}
 
 -- the clean relation prefix of a held word
 module _ (text table : List ℕ) (n : ℕ) (given : Word) (h : PlacedWord) (a : WordAsked text table n given h) where
@@ -79,18 +81,18 @@ pub ruleset wordsClean = (word-letter, word-table, word-checked, word-up, word-i
 
 -- a rest that is active
 module _ (text table : List ℕ) (n : ℕ) (given : Word) (j k : ℕ) (a : RestAsked text table n given j k) where
-  pub rest-room : 4 * j + 3 < length table
-  rest-room = let l = a .paired .checked .laid .few in let b = a .paired .checked .indexed .room in let c = a .there in omega arith
+  pub rest-word : PairedWord text table n j
+  rest-word = a .word
 
   pub rest-checked : Checked text table n
-  rest-checked = a .paired .checked
+  rest-checked = a .word .paired .checked
 
   pub rest-within : k ≤ length given
   rest-within = a .within
 
   module _ (s : Site) (e : s ≡ siteOf table j) where
     rest-lies : Lies text (wordsIn text table n) j s
-    rest-lies = rw e (lies text table n (a .paired .checked) j (a .there))
+    rest-lies = pair-own text table n j (a .word) s e
 
     pub rest-up : s .tail ≤ s .stop
     rest-up = rest-lies .third
@@ -101,12 +103,12 @@ module _ (text table : List ℕ) (n : ℕ) (given : Word) (j k : ℕ) (a : RestA
     pub rest-fits : Fits w64 (s .tail * 2)
     unfolding siteOf
     rest-fits =
-        let l = a .paired .checked .laid in
-        let b = start-bound text table n l j (let t = a .there in omega (arith, t)) in
+        let l = a .word .paired .checked .laid in
+        let b = start-bound text table n l j (let t = a .word .there in omega (arith, t)) in
         let f = l .few in
         let r = rest-lies in
         let d = ap (λ (t : Site). t .start) e in
-        let t = a .there in
+        let t = a .word .there in
         omega (arith, b, f, t, d, r .third, r .short)
 
     pub rest-active : (r : Bool) → r ≡ hasRelationPrefixBetween (wordsIn text table n) (part text (s .tail) (s .stop) ++ take (length given - k) (drop k given)) 0 (s .stop - s .tail)
@@ -116,27 +118,27 @@ module _ (text table : List ℕ) (n : ℕ) (given : Word) (j k : ℕ) (a : RestA
         let l = part-length text (s .tail) (s .stop) rest-inside in
         rw (rest-lies .z, l) (rw (rest-lent given k) at f)
 
-pub ruleset actives = (rest-room, rest-checked, rest-within, rest-up, rest-inside, rest-fits, rest-active, needs)
+pub ruleset actives = (rest-word, paired-room, rest-checked, rest-within, rest-up, rest-inside, rest-fits, rest-active, needs)
 
 -- the carrier
 module _ (text table : List ℕ) (n : ℕ) (given : Word) (i k : ℕ) (a : RestAsked text table n given i k) where
   even : length (wordsIn text table n) % 2 ≡ 0
-  even = rw (words-length text table n) (a .paired .even)
+  even = pair-even text table n i (a .word)
 
   there : i < length (wordsIn text table n)
-  there = rw (words-length text table n) (a .there)
+  there = rw (words-length text table n) (a .word .there)
 
   pub low-asked : RestAsked text table n given (i - i % 2) k
-  low-asked = record { paired = a .paired; there = let c = a .there in omega arith; within = a .within }
+  low-asked = record { word = record { paired = a .word .paired; there = let c = a .word .there in omega arith }; within = a .within }
 
   pub high-asked : RestAsked text table n given (i - i % 2 + 1) k
-  high-asked = record { paired = a .paired; there = let c = a .there in let e = a .paired .even in omega arith; within = a .within }
+  high-asked = record { word = record { paired = a .word .paired; there = let c = a .word .there in let e = a .word .paired .even in omega arith }; within = a .within }
 
   pub low-fits : i % 2 ≤ i
   low-fits = omega arith
 
   pub high-fits : Fits w64 (i - i % 2 + 1)
-  high-fits = let c = a .there in let l = a .paired .checked .laid .few in omega arith
+  high-fits = let c = a .word .there in let l = a .word .paired .checked .laid .few in omega arith
 
   module _ (x : Bool) (e : x ≡ active (wordsIn text table n) (zOf (wordsIn text table n) (i - i % 2)) (drop k given)) where
     pub carried-low : x ≡ true → i - i % 2 ≡ carrier (wordsIn text table n) relationOf i (drop k given)
@@ -213,44 +215,14 @@ module _ (text table : List ℕ) (n : ℕ) (given : Word) (i : ℕ) (q : Mark) (
   pub applies-span : Span text (q .at) (q .to)
   applies-span = record { upwards = a .mark .up; inside = a .mark .inside }
 
-  pub applies-up : q .at ≤ q .to
-  applies-up = a .mark .up
-
-  pub applies-inside : q .to ≤ length text
-  applies-inside = a .mark .inside
-
-  pub applies-room : 4 * i + 3 < length table
-  applies-room = let l = a .paired .checked .laid .few in let b = a .paired .checked .indexed .room in let c = a .there in omega arith
-
-  pub applies-few : i ≤ 64
-  applies-few = let l = a .paired .checked .laid .few in let c = a .there in omega arith
-
   module _ (x : Bool) (e : x ≡ isPrefix (part text (q .at) (q .to)) (drop from given)) where
     pub applies-not : x ≡ true → false ≡ applies (wordsIn text table n) given i (placedMark text q) from
     unfolding applies
     applies-not h = rw (← e, h)
 
-    module _ (o : ℕ) (eo : o ≡ other i) where
-      other-known : other i < n
-      other-known = other-there n i (a .paired .even) (a .there)
+    module _ (o : ℕ) (eo : o ≡ other i) (s t : Site) (es : s ≡ siteOf table i) (et : t ≡ siteOf table o) where
+      pub applies-marked : x ≡ false → (y : Bool) → y ≡ markInEitherX text s t (part text (q .at) (q .to)) → y ≡ applies (wordsIn text table n) given i (placedMark text q) from
+      unfolding applies
+      applies-marked h y f = rw (← e, h, pair-marked text table n i (a .word) s es o eo t et (placedMark text q)) f
 
-      pub applies-room-other : 4 * o + 3 < length table
-      applies-room-other = let l = a .paired .checked .laid .few in let b = a .paired .checked .indexed .room in let c = other-known in omega (arith, l, b, c, eo)
-
-      module _ (s t : Site) (es : s ≡ siteOf table i) (et : t ≡ siteOf table o) where
-        own : Lies text (wordsIn text table n) i s
-        own = rw es (lies text table n (a .paired .checked) i (a .there))
-
-        oth : Lies text (wordsIn text table n) (other i) t
-        oth = rw (et, eo) (lies text table n (a .paired .checked) (other i) other-known)
-
-        pub applies-sites : SitesInText text s t
-        applies-sites = record { own = site-in-text text (wordsIn text table n) i s own; other = site-in-text text (wordsIn text table n) (other i) t oth }
-
-        pub applies-marked : x ≡ false → (y : Bool) → y ≡ markInEitherX text s t (part text (q .at) (q .to)) → y ≡ applies (wordsIn text table n) given i (placedMark text q) from
-        unfolding applies markInEitherX
-        applies-marked h y f =
-            let even : length (wordsIn text table n) % 2 ≡ 0 = rw (words-length text table n) (a .paired .even) in
-            rw (← e, h, marked-pair (wordsIn text table n) i (placedMark text q) even (own .known), own .x, oth .x) f
-
-pub ruleset applications = (applies-span, applies-up, applies-inside, applies-room, applies-few, applies-not, applies-room-other, applies-sites, applies-marked, needs)
+pub ruleset applications = (mark-word, mark-up, mark-inside, paired-few, paired-room, other-room, sites-read, applies-span, applies-not, applies-marked, needs)

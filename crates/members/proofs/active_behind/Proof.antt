@@ -1,6 +1,6 @@
-use Rattle.parts.proofs.Choosing.{actives}
-use Rattle.parts.proofs.active_behind.Statement.{statement}
-use Rattle.parts.proofs.active_behind.Tie as tie
+use Rattle.members.proofs.Choosing.{actives}
+use Rattle.members.proofs.active_behind.Statement.{statement}
+use Rattle.members.proofs.active_behind.Tie as tie
 
 pub active-behind-spec : {M : Type 1} → statement M
 active-behind-spec =

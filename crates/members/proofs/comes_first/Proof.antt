@@ -1,6 +1,6 @@
-use Rattle.parts.proofs.Ranks.{firsts}
-use Rattle.parts.proofs.comes_first.Statement.{statement}
-use Rattle.parts.proofs.comes_first.Tie as tie
+use Rattle.members.proofs.Ranks.{firsts}
+use Rattle.members.proofs.comes_first.Statement.{statement}
+use Rattle.members.proofs.comes_first.Tie as tie
 
 pub comes-first-spec : {M : Type 1} → statement M
 comes-first-spec =

@@ -1,6 +1,6 @@
-use Rattle.parts.proofs.Choosing.{carriers}
-use Rattle.parts.proofs.find_carrier.Statement.{statement}
-use Rattle.parts.proofs.find_carrier.Tie as tie
+use Rattle.members.proofs.Choosing.{carriers}
+use Rattle.members.proofs.find_carrier.Statement.{statement}
+use Rattle.members.proofs.find_carrier.Tie as tie
 
 pub find-carrier-spec : {M : Type 1} → statement M
 find-carrier-spec =

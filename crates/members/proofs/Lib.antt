@@ -1,0 +1,4 @@
+pub mod Ranks
+pub mod Members
+pub mod Laws
+pub mod Choosing

@@ -1,0 +1,37 @@
+-- What is asked of a held word, of a mark and of a place of the given word.
+use Prim.Native.Nat.{ℕ, _≤_}
+use mathlib.Core.Bool.{false}
+use mathlib.Core.List.{List}
+use mathlib.Core.Path.{_≡_}
+use lib.ListN.{length}
+use Rattle.words.specs.Words.{Word}
+use Rattle.layout.specs.Layout.{wordsIn, Checked, Span}
+use Rattle.rows.specs.Pairs.{PairedWord}
+use Rattle.moves.specs.declared.PlacedWord.{PlacedWord}
+use Rattle.moves.specs.declared.Mark.{Mark}
+use Rattle.moves.specs.State.{WordFits, MarkFits}
+use Rattle.moves.specs.Drops.{heldEmpty}
+
+-- a held word that has a letter
+pub record WordAsked (text table : List ℕ) (n : ℕ) (given : Word) (h : PlacedWord) : Type 0 where
+  pub checked : Checked text table n
+  pub fits : WordFits text (wordsIn text table n) given h
+  pub some : heldEmpty (length given) h ≡ false
+
+-- a mark in the text, and a relation word
+pub record MarkAsked (text table : List ℕ) (n i : ℕ) (m : Mark) : Type 0 where
+  pub word : PairedWord text table n i
+  pub mark : MarkFits text m
+
+-- a relation word and a place of the given word
+pub record RestAsked (text table : List ℕ) (n : ℕ) (given : Word) (i k : ℕ) : Type 0 where
+  pub word : PairedWord text table n i
+  pub within : k ≤ length given
+
+-- text[at..to] and a place of the given word
+pub record QuietAsked (text table : List ℕ) (n : ℕ) (given : Word) (at to k : ℕ) : Type 0 where
+  pub checked : Checked text table n
+  pub span : Span text at to
+  pub small : length text ≤ 65536
+  pub within : k ≤ length given
+  pub short : length given ≤ 65536
