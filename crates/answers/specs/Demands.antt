@@ -1,5 +1,5 @@
 -- What is owed of the entries, said of their answers in the words of the papers: of the check and of the cut sheet (demand 2), of the comparison (demand 3) and of
--- the least word (document 02, request 1).
+-- the least word (document 01, "The least equal run").
 -- Demand 1 (safety, refusals, lent buffers) has no record here: every function's check and the equalities with specs/Entries.antt are its statement.
 use Prim.Native.Nat.{ℕ, _+_, _*_, _<_, _≤_}
 use mathlib.Core.Bool.{Bool}
@@ -90,8 +90,8 @@ pub record Compared (book : List ℕ) (u v : Word) (allowance : ℕ) (answer : A
   pub decides : (presentation : Presentation) → loadBook book ≡ BookReading.read presentation → pairOf (presentation .letters) u v ≡ Words.Fine
       → Decides (relationWords (presentation .relations)) u v allowance answer
 
--- request 1, of a word w, a lent buffer and an offset, where there is room: the answer is the length of w, the bytes from the offset on are w, and the buffer's
--- length and all other bytes are the old ones
+-- of a word w that is written into a lent buffer from an offset on: the answer is its length, the bytes from the offset on are w, and the buffer's length and
+-- all other bytes are the old ones
 pub record Placed (w : Word) (old : List ℕ) (offset : ℕ) (outcome : LeastOutcome) : Type 0 where
   pub buffer : List ℕ
   pub is : outcome ≡ LeastOutcome.after (wrote (length w)) buffer
@@ -100,7 +100,7 @@ pub record Placed (w : Word) (old : List ℕ) (offset : ℕ) (outcome : LeastOut
   pub before : (j : ℕ) → j < offset → getD buffer j 0 ≡ getD old j 0
   pub behind : (j : ℕ) → offset + length w ≤ j → getD buffer j 0 ≡ getD old j 0
 
--- of a word u under relation words B: the least word that is congruent to u, of which there is one and only one, is in the buffer from the offset on, exactly when
+-- the least equal run, of a word u under relation words B: the least word that is congruent to u, of which there is one and only one, is in the buffer from the offset on, exactly when
 -- there is room for it; else 14 and the old buffer
 pub record WritesLeast (B : List Word) (u : Word) (old : List ℕ) (offset : ℕ) (outcome : LeastOutcome) : Type 0 where
   pub word : Word

@@ -5,7 +5,7 @@ use Rattle.refusals.specs.declared.Numbered.{Numbered}
 use Rattle.refusals.specs.declared.Refusal.{Refusal}
 use Rattle.refusals.specs.declared.Refusal.the-variants.{Short, Kind, Length, Range, UnknownLetter, TooMany, Repeated, Loose, Long, Stranger, Spent, Narrow, Heavy, NoSpace}
 
--- the number and the place of each case, in the order of the table; 14 is of document 02
+-- the number and the place of each case, in the order of the table
 abbrev pub numberAndPlace : Refusal → Numbered
 numberAndPlace (Short at) = record { number = 1; place = at }
 numberAndPlace (Kind at) = record { number = 2; place = at }

@@ -33,7 +33,7 @@ pub enum Refusal {
     Narrow(usize),
     // The program's input is over its limit.
     Heavy,
-    // A lent buffer has no space for a least word behind the offset (document 02: no space).
+    // A lent buffer has no space for a least word behind the offset (no space).
     NoSpace,
 }
 
