@@ -1,8 +1,8 @@
 -- A law for each way that the call of a least word can go once the book is loaded.
 use Prim.Native.Nat.{ℕ, _-_, _<_, _≤_}
-use mathlib.Core.Bool.{Bool, true, false, _||_}
+use mathlib.Core.Bool.{Bool, true, false}
 use mathlib.Core.List.{List, [], _++_, append-nil}
-use mathlib.Core.Path.{_≡_, refl, sym, ap, _∙_, subst}
+use mathlib.Core.Path.{_≡_, refl, sym, ap, _∙_}
 use native.Mathlib.Omega.{arith}
 use borrow.Author.Needs.{needs}
 use borrow.Author.Tests.{lt-ltb, le-ltb, ltb-false}
@@ -20,11 +20,10 @@ use Rattle.given.specs.declared.Given.the-variants as Words
 use Rattle.given.specs.Given.{oneOf, Widened}
 use Rattle.given.proofs.Laws.{fine-short, fine-known}
 use Rattle.leastword.specs.Writing.{leastFor, Asked, PutWhole}
-use Rattle.answers.specs.declared.Least.{Least}
 use Rattle.answers.specs.declared.Least.the-variants as Leasts
 use Rattle.answers.specs.Answers.{ofLeast}
 use Rattle.answers.specs.Entries.{LeastOutcome, lacksSpace, placedAt, loadedLeast}
-use Rattle.answers.specs.Parts.{LeastLoaded, LeastGivable, LeastWidenable}
+use Rattle.answers.specs.Parts.{LeastGivable, LeastWidenable}
 
 -- the space behind an offset
 module _ (room offset long : ℕ) where

@@ -1,29 +1,28 @@
 -- The demands on least words, from the theorems of crate `least`: what the rounds write is the least word, and least words decide congruence.
-use Prim.Native.Nat.{ℕ, zero, suc, _+_, _*_, _-_, _≤_, _<_, max}
-use mathlib.Core.Bool.{Bool, true, false, _||_}
+use Prim.Native.Nat.{ℕ, zero, suc, _+_, _*_, _-_, _≤_, _<_}
+use mathlib.Core.Bool.{Bool, true, false}
 use mathlib.Core.List.{List, [], _∷_, _++_}
 use mathlib.Core.Logic.{_↔_, _⊎_, inl, inr}
 use mathlib.Core.Path.{_≡_, refl, sym, ap, _∙_, subst}
 use native.Mathlib.Omega.{arith}
 use native.Mathlib.Nat.{mul-le-mul}
-use borrow.Author.Tests.{lt-ltb, le-ltb, ltb-true, ltb-false}
+use borrow.Author.Tests.{lt-ltb, le-ltb, ltb-false}
 use lib.Dec.{ltb}
 use lib.ListN.{length, getD, take, drop, length-append, length-drop, List·getD-append}
 use lib.Seq.{length-take-le, getD-take, getD-append-add, getD-drop, drop-at, take-at}
 use Rattle.words.specs.Words.{Word}
 use Rattle.words.specs.Relations.{Relation, relationWords}
-use Rattle.overlap.specs.Pieces.{word, C4}
+use Rattle.overlap.specs.Pieces.{word}
 use Rattle.overlap.specs.Cuts.{len, longestSuffixPiece}
 use Rattle.congruence.specs.Congruence.{Congruent}
-use Rattle.congruence.proofs.Theorem.{rows-decide}
 use Rattle.least.specs.Order.{houseRank}
 use Rattle.least.specs.Least.{LeastWord}
 use Rattle.least.specs.Possible.{relationOf}
-use Rattle.least.specs.Writing.{Found, found, wordOf, leastBehind}
+use Rattle.least.specs.Writing.{found, wordOf, leastBehind}
 use Rattle.least.specs.Theorem.{longestWord, LeastWords}
 use Rattle.least.proofs.Order.{house-injective}
 use Rattle.least.proofs.Theorem.{least-words-decide}
-use Rattle.limits.specs.Limits.{comparedMost, sideMost, leastMost}
+use Rattle.limits.specs.Limits.{comparedMost, sideMost}
 use Rattle.refusals.specs.declared.Refusal.the-variants.{NoSpace}
 use Rattle.format.specs.Book.{Presentation, BookReading, readBook}
 use Rattle.format.specs.Bytes.{Within, AllWithin, none, more}

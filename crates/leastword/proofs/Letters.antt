@@ -1,5 +1,5 @@
 -- A law for each way that the writing of letters can go.
-use Prim.Native.Nat.{ℕ, _+_, _-_, _*_, _^_, _<_, _≤_}
+use Prim.Native.Nat.{ℕ, _+_, _*_, _^_, _<_, _≤_}
 use mathlib.Core.Bool.{true, false}
 use mathlib.Core.List.{List}
 use mathlib.Core.Path.{_≡_, refl, sym, ap, _∙_, subst}
@@ -12,7 +12,6 @@ use Rattle.words.specs.Words.{Word, part}
 use Rattle.words.proofs.Parts.{part-length}
 use Rattle.writing.specs.Writing.{written, Bytes, Narrowing}
 use Rattle.writing.proofs.Writing.{written-length}
-use Rattle.limits.specs.Limits.{sideMost}
 use Rattle.parts.specs.declared.Source.{Source}
 use Rattle.parts.specs.State.{LettersLow, sourceWord}
 use Rattle.leastword.specs.Writing.{LettersPuttable, Puttable, Put}

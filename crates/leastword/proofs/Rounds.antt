@@ -1,14 +1,12 @@
 -- The loop that writes the least word: what it knows at its head, and a law for each way on.
-use Prim.Native.Nat.{ℕ, zero, suc, _+_, _-_, _*_, _%_, _<_, _≤_, max}
-use mathlib.Core.Bool.{Bool, true, false}
-use mathlib.Core.List.{List, [], _∷_, _++_, append-assoc, append-nil}
+use Prim.Native.Nat.{ℕ, zero, suc, _<_, _≤_}
+use mathlib.Core.List.{List, [], _++_, append-assoc, append-nil}
 use mathlib.Core.Path.{_≡_, refl, sym, ap, _∙_, subst}
 use native.Mathlib.Omega.{arith}
 use native.Mathlib.Nat.{mul-le-mul}
 use borrow.Author.Needs.{needs}
 use lib.ListN.{length, length-append}
 use Rattle.words.specs.Words.{Word}
-use Rattle.words.specs.Relations.{Relation, relationWords}
 use Rattle.words.proofs.Relations.{Even, relations-of}
 use Rattle.overlap.specs.Pieces.{empty, C4}
 use Rattle.overlap.specs.Cuts.{len}
@@ -18,12 +16,12 @@ use Rattle.congruence.specs.Congruence.Congruent.{done}
 use Rattle.congruence.proofs.ShapeNoPrefix.{no-prefix-nil}
 use Rattle.writing.specs.Writing.{written}
 use Rattle.writing.proofs.Writing.{written-zero, written-behind}
-use Rattle.limits.specs.Limits.{sideMost, comparedMost, leastMost}
+use Rattle.limits.specs.Limits.{sideMost, leastMost}
 use Rattle.layout.specs.Layout.{wordsIn}
 use Rattle.layout.proofs.Placed.{words-length, word-length}
 use Rattle.least.specs.Order.{houseRank}
 use Rattle.least.specs.Possible.{relationOf}
-use Rattle.least.specs.Writing.{Part, writePart, Found, found, absent, behind, Parts, wordOf, leastBehind}
+use Rattle.least.specs.Writing.{writePart, Found, found, absent, behind, Parts, wordOf, leastBehind}
 use Rattle.least.specs.Writing.Part.{end, none, part as writes}
 use Rattle.least.specs.Writing.Parts.{ended, failed, goes}
 use Rattle.least.specs.Theorem.{longestOf, longestWord, Written}

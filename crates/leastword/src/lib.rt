@@ -37,7 +37,8 @@ fn put_part(text: &[u16], given: &[u16], source: Source, out: &mut [u8], at: usi
     put_letters(&text[from..to], out, at)
 }
 
-// Writes the least word at the start of a buffer if it has room there, and answers how many letters it has. A buffer that is too small can be changed.
+// Writes the least word at the start of a buffer if it has room there, and answers how many letters it has. A buffer that is too small can be changed. A word is
+// congruent to itself, so that the rounds never find that there is none.
 pub fn write_least(text: &[u16], table: &[u16], n: usize, given: &[u16], out: &mut [u8]) -> usize
     requires { ⌜ Asked (now text) (now table) n (now given) ⌝ }
     ensures { λ r. ⌜ PutWhole (leastFor (wordsIn (now (text .entry)) (now (table .entry)) n) (now (given .entry))) (now (out .entry)) (now (out .exit)) r ⌝ }
