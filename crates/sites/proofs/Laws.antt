@@ -2,7 +2,7 @@
 use Prim.Native.Nat.{ℕ, _+_, _-_, _*_, _≤_, _<_}
 use mathlib.Core.Bool.{Bool, true, false, _&&_}
 use mathlib.Core.List.{List}
-use mathlib.Core.Path.{_≡_, sym, ap, _∙_}
+use mathlib.Core.Path.{_≡_, refl, sym, ap, _∙_, subst}
 use native.Mathlib.Omega.{arith}
 use borrow.Author.Needs.{needs}
 use mir.Syntax.{w64}
@@ -12,19 +12,23 @@ use lib.ListN.{length}
 use borrow.Author.Tests.{le-leb, lt-leb}
 use Rattle.words.specs.Words.{Word, isPrefix, part}
 use Rattle.words.proofs.Tests.{false-of}
+use Rattle.words.proofs.Lists.{no-letters}
 use Rattle.words.proofs.Parts.{part-length, part-take}
 use Rattle.words.proofs.Prefixes.{prefix-length, prefix-swap, prefix-take}
 use Rattle.words.proofs.Searching.{NoneBelow, none-more, any-of, any-none}
 use Rattle.overlap.proofs.Facts.{rigid-of-c4}
 use Rattle.congruence.specs.Rows.{hasRelationPrefixAt, hasRelationPrefixBetween, cleanRelationPrefix}
+use Rattle.layout.specs.Places.{tableRoom}
 use Rattle.layout.specs.Layout.{startOf, xEndOf, zStartOf, endOf, Span, wordsIn, Checked}
 use Rattle.layout.proofs.Placed.{words-length}
 use Rattle.index.specs.Index.{relationPrefixAt}
 use Rattle.index.proofs.PrefixAt.{stands-prefix}
+use Rattle.index.proofs.Seeking.{place-fits}
 use Rattle.sites.specs.declared.Site.{Site}
 use Rattle.sites.specs.Sites.{siteOf, SiteInText, KnownWord}
 use Rattle.sites.specs.Prefixes.{uncleanPrefix, markInEitherX}
 use Rattle.sites.proofs.Sites.{lies, site-in-text}
+use Rattle.sites.proofs.FirstLetters.{none-under-letter, none-past-end}
 use Rattle.sites.proofs.CleanPrefixes.{clean-none, clean-between, clean-here}
 
 -- the parts of a relation word lie in the text
@@ -65,6 +69,10 @@ module _ (text : List ℕ) (s : Site) (p : Word) (h : SiteInText text s) where
       let g = part-length text (s .start) (s .middle) (omega arith) in
       absurd (omega arith)))
 
+  pub mark-nothing : length p ≡ 0 → true ≡ isPrefix p (part text (s .start) (s .middle))
+  unfolding isPrefix
+  mark-nothing e = subst (λ (w : Word). true ≡ isPrefix w (part text (s .start) (s .middle))) (sym (no-letters p e)) refl
+
   module _ (l : length p ≤ s .middle - s .start) where
     pub mark-span : Span text (s .start) (s .start + length p)
     mark-span =
@@ -85,7 +93,7 @@ module _ (text : List ℕ) (s : Site) (p : Word) (h : SiteInText text s) where
         e ∙ prefix-swap (part text (s .start) (s .start + length p)) p k ∙ ap (isPrefix p) (sym (part-take text (s .start) (s .middle) (length p) l))
         ∙ sym (prefix-take p (part text (s .start) (s .middle)))
 
-pub ruleset marks = (mark-long, mark-span, mark-all, spans, needs)
+pub ruleset marks = (mark-nothing, mark-long, mark-span, mark-all, spans, needs)
 
 -- p and two X
 pub either-own : (text : List ℕ) (s t : Site) (p : Word) (x : Bool) → x ≡ isPrefix p (part text (s .start) (s .middle)) → x ≡ true → true ≡ markInEitherX text s t p
@@ -100,10 +108,13 @@ either-other text s t p x y e h f = rw (← e, h) f
 pub ruleset eitherMarks = (either-own, either-other, needs)
 
 -- X and Y at a place
+pub standing-room : (text table : List ℕ) (n : ℕ) → Checked text table n → length table ≡ tableRoom
+standing-room text table n k = k .indexed .room
+
 pub stands-below : (text table : List ℕ) (n : ℕ) (w : Word) (q k : ℕ) → k ≡ relationPrefixAt (wordsIn text table n) w q → ltb k n ≡ hasRelationPrefixAt (wordsIn text table n) w q
 stands-below text table n w q k e = rw (stands-prefix (wordsIn text table n) w q, ← e, words-length text table n)
 
-pub ruleset standing = (stands-below, needs)
+pub ruleset standing = (stands-below, none-under-letter, none-past-end, place-fits, standing-room, needs)
 
 -- the search over places: none is found from lo on and below q
 pub record Vacant (B : List Word) (w : Word) (lo q : ℕ) : Type 0 where

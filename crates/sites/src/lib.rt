@@ -50,6 +50,9 @@ pub fn mark_in_x(text: &[u16], s: Site, p: &[u16]) -> bool
     requires { ⌜ SiteInText (now text) s ⌝ }
     ensures { λ r. ⌜ r ≡ isPrefix (now (p .entry)) (part (now (text .entry)) (s .start) (s .middle)) ⌝ }
 {
+    if p.len() == 0 {
+        return true;
+    }
     let from = s.start;
     if s.middle - from < p.len() {
         return false;
@@ -68,13 +71,32 @@ pub fn mark_in_either_x(text: &[u16], s: Site, t: Site, p: &[u16]) -> bool
     mark_in_x(text, t, p)
 }
 
-// Whether X and Y of some relation word stand in the word at place q.
+// Whether no relation word begins with a letter: its list in the index is empty.
+pub fn begins_none(table: &[u16], letter: u16) -> bool
+    requires { ⌜ length (now table) ≡ tableRoom ⌝ }
+    ensures { λ r. ⌜ r ≡ emptyList (now (table .entry)) letter ⌝ }
+{
+    let c = wide16(letter);
+    if Text::LETTERS <= c {
+        return true;
+    }
+    let from = layout::first_of(table, c);
+    let to = layout::first_of(table, c + 1);
+    from == to
+}
+
+// Whether X and Y of some relation word stand in the word at place q. None is looked for where no relation word begins with the letter there.
 fn has_prefix_at(text: &[u16], table: &[u16], n: usize, a: &[u16], b: &[u16], q: usize) -> bool
     requires { ⌜ Checked (now text) (now table) n ⌝ }
     ensures { λ r. ⌜ r ≡ hasRelationPrefixAt (wordsIn (now (text .entry)) (now (table .entry)) n) (now (a .entry) ++ now (b .entry)) q ⌝ }
 {
-    let k = index::prefix_at(text, table, n, a, b, q);
-    k < n
+    if joined::has_place(a, b, q) {
+        if begins_none(table, joined::letter_at(a, b, q)) {
+            return false;
+        }
+        return index::prefix_at(text, table, n, a, b, q) < n;
+    }
+    false
 }
 
 // Whether X and Y of some relation word stand in the word at a place from lo on and below hi; an unclean relation prefix and an active rest are both this.
@@ -130,18 +152,4 @@ pub fn clean_prefix(text: &[u16], table: &[u16], n: usize, a: &[u16], b: &[u16])
         return n;
     }
     k
-}
-
-// Whether no relation word begins with a letter: its list in the index is empty.
-pub fn begins_none(table: &[u16], letter: u16) -> bool
-    requires { ⌜ length (now table) ≡ tableRoom ⌝ }
-    ensures { λ r. ⌜ r ≡ emptyList (now (table .entry)) letter ⌝ }
-{
-    let c = wide16(letter);
-    if Text::LETTERS <= c {
-        return true;
-    }
-    let from = layout::first_of(table, c);
-    let to = layout::first_of(table, c + 1);
-    from == to
 }

@@ -7,4 +7,9 @@ has-prefix-at-spec =
     tie.close
     (tie.spec
     (λ c κs. search standing)
+    (λ c κs. search standing)
+    (λ c κs. search standing)
+    (λ c. search standing)
+    (λ c κs. search standing)
+    (λ c. search standing)
     (λ c. search standing))

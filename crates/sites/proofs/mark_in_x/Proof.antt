@@ -12,5 +12,6 @@ mark-in-x-spec =
     (λ c. search marks)
     (λ c. search marks)
     (λ c. search marks)
+    (λ c. search marks)
     (λ c κs. search marks)
     (λ c. search marks))
