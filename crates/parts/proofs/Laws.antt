@@ -15,11 +15,14 @@ use Rattle.moves.specs.declared.Mark.{Mark}
 use Rattle.moves.specs.State.{MarkFits}
 use Rattle.parts.specs.declared.Hint.{Hint}
 use Rattle.parts.specs.declared.Hint.the-variants as Hints
+use Rattle.parts.specs.declared.Source.{Source}
+use Rattle.parts.specs.declared.LeastState.{LeastState}
+use Rattle.parts.specs.declared.Stage.the-variants as Stages
 use Rattle.parts.specs.declared.Told.{Told}
 use Rattle.parts.specs.declared.Told.the-variants as Tolds
 use Rattle.parts.specs.Letters.{WordSmall, withoutLetter, firstSource, HintLies, hintBehind}
-use Rattle.parts.specs.Choices.{hintOf, sourceBehind}
-use Rattle.parts.specs.Asked.{PlacesSmall}
+use Rattle.parts.specs.Choices.{hintOf, sourceBehind, restState, tailState, otherStage}
+use Rattle.parts.specs.Asked.{PlacesSmall, EndsShared}
 
 -- the letters behind the mark
 module _ (s : Site) (m : Mark) (h : PlacesSmall s m) where
@@ -34,6 +37,47 @@ unfolding sourceBehind
 source-made s m to = refl
 
 pub ruleset sources = (source-up, source-fits, source-made, needs)
+
+-- the states behind X and Y
+pub rest-made : (k : ℕ) (m : Mark) (h : Hint) → record { word = record { at = 0; to = 0; from = k }; mark = m; hint = h } ≡ restState k m h
+unfolding restState
+rest-made k m h = refl
+
+pub tail-made : (s : Site) (k : ℕ) (m : Mark) → record { word = record { at = s .tail; to = s .stop; from = k }; mark = m; hint = Hints.Unknown } ≡ tailState s k m
+unfolding tailState
+tail-made s k m = refl
+
+pub ruleset states = (rest-made, tail-made, needs)
+
+-- another relation word in the place of the clean relation prefix
+module _ (s z : Site) (m : Mark) (l k : ℕ) (h : EndsShared s z m l k) where
+  pub ends-small : PlacesSmall z m
+  ends-small = h .small
+
+  pub ends-own : l ≤ s .stop
+  ends-own = let a = h .own in omega arith
+
+  pub ends-other : l ≤ z .stop
+  ends-other = h .other
+
+  pub ends-tail : s .tail ≤ s .stop - l
+  ends-tail = let a = h .own in omega arith
+
+  pub ends-fits : Fits w64 (k + (s .stop - l - s .tail))
+  ends-fits = let a = h .low in let b = h .early in omega arith
+
+module _ (s z : Site) (m : Mark) (l k : ℕ) (x : Bool) (c : Source) (t : LeastState) where
+  pub ends-left : x ≡ true → c ≡ sourceBehind z m (z .stop - l)
+      → t ≡ restState (k + (s .stop - l - s .tail)) (record { at = 0; to = 0 }) (Hints.Known (record { at = s .stop - l; to = s .stop }) true) → Stages.Go c t ≡ otherStage s z m l k x
+  unfolding otherStage
+  ends-left h e f = rw (h, e, f)
+
+  pub ends-whole : x ≡ false → c ≡ sourceBehind z m (z .stop)
+      → t ≡ restState k (record { at = s .tail; to = s .stop }) (Hints.Known (record { at = s .tail; to = s .stop }) true) → Stages.Go c t ≡ otherStage s z m l k x
+  unfolding otherStage
+  ends-whole h e f = rw (h, e, f)
+
+pub ruleset ends = (ends-small, ends-own, ends-other, ends-tail, ends-fits, ends-left, ends-whole, needs)
 
 -- a held word without its first letter, and where that letter stands
 module _ (h : PlacedWord) (w : WordSmall h) where

@@ -2,16 +2,16 @@
 use Prim.Native.Nat.{ℕ, _+_, _-_, _*_, _≤_, _<_}
 use mathlib.Core.Bool.{Bool, true, false, and-eq-true-iff}
 use mathlib.Core.List.{List}
-use mathlib.Core.Path.{_≡_, refl, sym, ap, _∙_}
+use mathlib.Core.Logic.{⊎-elim}
+use mathlib.Core.Path.{_≡_, refl, sym, ap, _∙_, subst}
 use native.Mathlib.Omega.{arith}
 use borrow.Author.Needs.{needs}
 use borrow.Author.Tests.{not-true, ltb-false}
-use mir.Syntax.{w64}
-use mir.Val.{Fits}
 use lib.Dec.{ltb}
 use lib.ListN.{length, take, drop, length-drop}
 use lib.Seq.{drop-drop}
 use Rattle.words.specs.Words.{Word, isPrefix, commonPrefix, commonSuffix, part}
+use Rattle.words.proofs.Tests.{true-or-false}
 use Rattle.words.proofs.Parts.{part-length, part-take, part-drop}
 use Rattle.words.proofs.Prefixes.{prefix-length}
 use Rattle.words.proofs.Commons.{prefix-common, common-take}
@@ -33,12 +33,13 @@ use Rattle.walks.proofs.Legs.{passed}
 use Rattle.parts.specs.declared.Hint.the-variants as Hints
 use Rattle.parts.specs.declared.Source.{Source}
 use Rattle.parts.specs.declared.LeastState.{LeastState}
+use Rattle.parts.specs.declared.Stage.{Stage}
 use Rattle.parts.specs.declared.Stage.the-variants as Stages
 use Rattle.parts.specs.State.{Makes}
 use Rattle.members.specs.Members.{quiet}
-use Rattle.parts.specs.Choices.{sourceBehind}
+use Rattle.parts.specs.Choices.{sourceBehind, restState, otherStage}
 use Rattle.members.specs.Asked.{QuietAsked}
-use Rattle.parts.specs.Asked.{PlacesSmall, OtherFound}
+use Rattle.parts.specs.Asked.{EndsShared, OtherFound}
 use Rattle.parts.proofs.Standing.{go-makes, empty-letters, empty-mark, site-lies, bare-stands, tail-mark, found-checked, found-fits, found-lies, found-small, found-written, found-short, found-source, found-lighter}
 
 module _ (text table : List ℕ) (n : ℕ) (given : Word) (s : LeastState) (i j k : ℕ) (f : OtherFound text table n given s i j k) where
@@ -61,9 +62,6 @@ module _ (text table : List ℕ) (n : ℕ) (given : Word) (s : LeastState) (i j 
     pub other-sites : SitesInText text own z
     other-sites = record { own = site-in-text text (wordsIn text table n) i own own-lies; other = site-in-text text (wordsIn text table n) j z z-lies }
 
-    pub other-small : PlacesSmall z (s .mark)
-    other-small = found-small text table n given s i k j (f .chosen) z ez
-
     module _ (l : ℕ) (el : l ≡ sharedSuffix text own z) where
       within : (l ≤ own .stop - own .tail) × (l ≤ z .stop - z .tail)
       unfolding sharedSuffix
@@ -76,10 +74,7 @@ module _ (text table : List ℕ) (n : ℕ) (given : Word) (s : LeastState) (i j 
       pub other-cut : l ≤ own .stop
       other-cut = let w = within in omega (arith, w .0)
 
-      pub other-cut-written : l ≤ z .stop
-      other-cut-written = let w = within in omega (arith, w .1)
-
-      pub other-up : own .tail ≤ own .stop - l
+      other-up : own .tail ≤ own .stop - l
       other-up = let w = within in let y = own-lies in omega (arith, w .0, y .third)
 
       pub other-asked : QuietAsked text table n given (own .tail) (own .stop - l) k
@@ -91,13 +86,14 @@ module _ (text table : List ℕ) (n : ℕ) (given : Word) (s : LeastState) (i j 
         short = f .chosen .found .asked .ready .short;
       }
 
-      pub other-fits : Fits w64 (k + (own .stop - l - own .tail))
-      other-fits =
-          let y = own-lies in
-          let a = f .chosen .found .within in
-          let b = f .chosen .found .asked .ready .short in
-          let c = f .chosen .found .asked .ready .ready .text-short in
-          omega (arith, y .inside, a, b, c)
+      pub other-ends : EndsShared own z (s .mark) l k
+      other-ends = record {
+        small = found-small text table n given s i k j (f .chosen) z ez;
+        own = let w = within in let y = own-lies in omega (arith, w .0, y .third);
+        other = let w = within in omega (arith, w .1);
+        low = let y = own-lies in let t = f .chosen .found .asked .ready .ready .text-short in omega (arith, y .inside, t);
+        early = let a = f .chosen .found .within in let b = f .chosen .found .asked .ready .short in omega (arith, a, b);
+      }
 
       -- Z of i is e z, with the common suffix z of both
       common : commonSuffix (zOf (wordsIn text table n) i) (zOf (wordsIn text table n) j) ≡ l
@@ -162,19 +158,15 @@ module _ (text table : List ℕ) (n : ℕ) (given : Word) (s : LeastState) (i j 
               ap (drop (own .stop - l - own .tail)) (y .z) ∙ part-drop text (own .tail) (own .stop) (own .stop - l - own .tail) ∙ ap (λ b. part text b (own .stop)) d in
               sym (rw (g, drop-drop (own .stop - l - own .tail) k given) at p) ∙ a
 
-          pub other-quiet : (c : Source) → c ≡ sourceBehind z (s .mark) (z .stop - l)
-              → Makes text (wordsIn text table n) given s (otherPart (wordsIn text table n) i j (placedMark text (s .mark)) (drop k given))
-              (Stages.Go c (record {
-                word = record { at = 0; to = 0; from = k + (own .stop - l - own .tail) };
-                mark = record { at = 0; to = 0 };
-                hint = Hints.Known (record { at = own .stop - l; to = own .stop }) true;
-              }))
-          unfolding otherPart
-          other-quiet c ec =
+          other-quiet : (c : Source) → c ≡ sourceBehind z (s .mark) (z .stop - l)
+              → (t : LeastState) → t ≡ restState (k + (own .stop - l - own .tail)) (record { at = 0; to = 0 }) (Hints.Known (record { at = own .stop - l; to = own .stop }) true)
+              → Makes text (wordsIn text table n) given s (otherPart (wordsIn text table n) i j (placedMark text (s .mark)) (drop k given)) (Stages.Go c t)
+          unfolding otherPart restState
+          other-quiet c ec t et =
               let y = own-lies in
               let v = z-lies in
               let w = within in
-              rw (common, e-part, stands .0, stands .1, ec)
+              rw (common, e-part, stands .0, stands .1, ec, et)
               (go-makes text (wordsIn text table n) given s (sourceBehind z (s .mark) (z .stop - l))
               (record {
                 word = record { at = 0; to = 0; from = k + (own .stop - l - own .tail) };
@@ -200,19 +192,15 @@ module _ (text table : List ℕ) (n : ℕ) (given : Word) (s : LeastState) (i j 
                     (record { at = 0; to = 0; from = k + (own .stop - l - own .tail) }) refl (omega arith);
               }))
 
-        pub other-put : x ≡ false → (c : Source) → c ≡ sourceBehind z (s .mark) (z .stop)
-            → Makes text (wordsIn text table n) given s (otherPart (wordsIn text table n) i j (placedMark text (s .mark)) (drop k given))
-            (Stages.Go c (record {
-              word = record { at = 0; to = 0; from = k };
-              mark = record { at = own .tail; to = own .stop };
-              hint = Hints.Known (record { at = own .tail; to = own .stop }) true;
-            }))
-        unfolding otherPart quiet
-        other-put h c ec =
+        other-put : x ≡ false → (c : Source) → c ≡ sourceBehind z (s .mark) (z .stop)
+            → (t : LeastState) → t ≡ restState k (record { at = own .tail; to = own .stop }) (Hints.Known (record { at = own .tail; to = own .stop }) true)
+            → Makes text (wordsIn text table n) given s (otherPart (wordsIn text table n) i j (placedMark text (s .mark)) (drop k given)) (Stages.Go c t)
+        unfolding otherPart quiet restState
+        other-put h c ec t et =
             let y = own-lies in
             let v = z-lies in
             let r = sym q ∙ h in
-            rw (common, e-part, r, ec)
+            rw (common, e-part, r, ec, et)
             (go-makes text (wordsIn text table n) given s (sourceBehind z (s .mark) (z .stop))
             (record {
               word = record { at = 0; to = 0; from = k };
@@ -237,4 +225,15 @@ module _ (text table : List ℕ) (n : ℕ) (given : Word) (s : LeastState) (i j 
               lighter = found-lighter text table n given s i k j (f .chosen) k (omega arith) (f .chosen .found .within) (record { at = 0; to = 0; from = k }) refl (omega arith);
             }))
 
-pub ruleset others = (other-room-own, other-room, other-sites, other-small, other-cut, other-cut-written, other-up, other-asked, other-fits, other-quiet, other-put, needs)
+        pub other-made : (r : Stage) → r ≡ otherStage own z (s .mark) l k x
+            → Makes text (wordsIn text table n) given s (otherPart (wordsIn text table n) i j (placedMark text (s .mark)) (drop k given)) r
+        unfolding otherStage
+        other-made r e = rw e (⊎-elim
+            (λ h. subst Made (sym (ap (otherStage own z (s .mark) l k) h)) (other-quiet h _ refl _ refl))
+            (λ h. subst Made (sym (ap (otherStage own z (s .mark) l k) h)) (other-put h _ refl _ refl))
+            (true-or-false x))
+          where
+            Made : Stage → Type 0
+            Made r = Makes text (wordsIn text table n) given s (otherPart (wordsIn text table n) i j (placedMark text (s .mark)) (drop k given)) r
+
+pub ruleset others = (other-room-own, other-room, other-sites, other-cut, other-asked, other-ends, other-made, needs)

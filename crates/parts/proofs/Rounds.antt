@@ -40,16 +40,16 @@ use Rattle.parts.specs.declared.Told.{Told}
 use Rattle.parts.specs.declared.Told.the-variants as Tolds
 use Rattle.parts.specs.declared.Choice.{Choice}
 use Rattle.parts.specs.State.{HintRight, LeastReady, Makes, PartMade}
-use Rattle.parts.specs.Choices.{ToldRight, ChoiceMade, hintOf, sourceBehind, ownStage}
+use Rattle.parts.specs.Choices.{ToldRight, ChoiceMade, hintOf, sourceBehind, restState, ownStage}
 use Rattle.members.specs.Asked.{WordAsked}
 use Rattle.parts.specs.Asked.{LetterAsked, PlacesSmall, CleanAsked, RestFound, ChoiceFound, ApartFound, MemberFound, WholeFound, OtherFound}
 use Rattle.parts.proofs.Letters.{some-of}
 use Rattle.parts.proofs.Standing.{facts, site-lies, go-makes, empty-letters, empty-mark, bare-stands, found-small, found-written, found-source, found-lighter}
 
-pub own-made : (s : Site) (m : Mark) (k : ℕ) (t : Told) (c : Source) (o : Hint) → c ≡ sourceBehind s m (s .tail) → o ≡ hintOf s t
-    → Stages.Go c (record { word = record { at = 0; to = 0; from = k }; mark = record { at = 0; to = 0 }; hint = o }) ≡ ownStage s m k t
+pub own-made : (s : Site) (m : Mark) (k : ℕ) (t : Told) (c : Source) (o : Hint) (n : LeastState) → c ≡ sourceBehind s m (s .tail) → o ≡ hintOf s t
+    → n ≡ restState k (record { at = 0; to = 0 }) o → Stages.Go c n ≡ ownStage s m k t
 unfolding ownStage
-own-made s m k t c o e f = rw (e, f)
+own-made s m k t c o n e f g = rw (e, g, f)
 
 pub ruleset owns = (own-made, needs)
 
@@ -216,7 +216,7 @@ module _ (text table : List ℕ) (n : ℕ) (given : Word) (s : LeastState) (i k 
 
     pub apart-own : (r : Stage) → r ≡ ownStage own (s .mark) k (c .told)
         → Makes text (wordsIn text table n) given s (memberPart (wordsIn text table n) relationOf i (c .member) (placedMark text (s .mark)) (placedWord text given (s .word))) r
-    unfolding memberPart ownStage
+    unfolding memberPart ownStage restState
     apart-own r er =
         let ch = f .choice .found .asked .ready .ready .paired .checked in
         let y = site-lies text table n ch i (f .choice .found .asked .there) own e in

@@ -24,7 +24,7 @@ use Rattle.parts.specs.declared.Source.{Source}
 use Rattle.parts.specs.declared.LeastState.{LeastState}
 use Rattle.parts.specs.declared.Stage.the-variants as Stages
 use Rattle.parts.specs.State.{Makes}
-use Rattle.parts.specs.Choices.{sourceBehind}
+use Rattle.parts.specs.Choices.{sourceBehind, tailState}
 use Rattle.members.specs.Asked.{RestAsked}
 use Rattle.parts.specs.Asked.{PlacesSmall, WholeFound}
 use Rattle.members.proofs.Members.{carrier-known}
@@ -70,14 +70,13 @@ module _ (text table : List ℕ) (n : ℕ) (given : Word) (s : LeastState) (i j 
     whole-small = found-small text table n given s i (f .before) j (f .chosen) z e
 
     module _ (x : Bool) (a : x ≡ active (wordsIn text table n) (zOf (wordsIn text table n) j) (drop k given)) (c : Source) where
-      pub whole-active : x ≡ true → c ≡ sourceBehind z (s .mark) (z .tail)
-          → Makes text (wordsIn text table n) given s (wholePart (wordsIn text table n) relationOf i j (placedMark text (s .mark)) (drop k given))
-          (Stages.Go c (record { word = record { at = z .tail; to = z .stop; from = k }; mark = record { at = 0; to = 0 }; hint = Hints.Unknown }))
-      unfolding wholePart
-      whole-active h q =
+      pub whole-active : x ≡ true → c ≡ sourceBehind z (s .mark) (z .tail) → (t : LeastState) → t ≡ tailState z k (record { at = 0; to = 0 })
+          → Makes text (wordsIn text table n) given s (wholePart (wordsIn text table n) relationOf i j (placedMark text (s .mark)) (drop k given)) (Stages.Go c t)
+      unfolding wholePart tailState
+      whole-active h q t et =
           let ch = found-checked text table n given s i (f .before) j (f .chosen) in
           let y = found-lies text table n given s i (f .before) j (f .chosen) z e in
-          rw (sym a ∙ h, q)
+          rw (sym a ∙ h, q, et)
           (go-makes text (wordsIn text table n) given s (sourceBehind z (s .mark) (z .tail))
           (record { word = record { at = z .tail; to = z .stop; from = k }; mark = record { at = 0; to = 0 }; hint = Hints.Unknown }) _ _ _
           (sym (found-written text table n given s i (f .before) j (f .chosen) z e (xyOf (wordsIn text table n) j) (z .tail) (y .xy)))
@@ -95,15 +94,15 @@ module _ (text table : List ℕ) (n : ℕ) (given : Word) (s : LeastState) (i j 
           }))
 
       pub whole-put : (m : ℕ) → m ≡ carrier (wordsIn text table n) relationOf i (drop k given) → (y : Site) → y ≡ siteOf table m → x ≡ false → c ≡ sourceBehind z (s .mark) (z .stop)
-          → Makes text (wordsIn text table n) given s (wholePart (wordsIn text table n) relationOf i j (placedMark text (s .mark)) (drop k given))
-          (Stages.Go c (record { word = record { at = y .tail; to = y .stop; from = k }; mark = record { at = y .tail; to = y .stop }; hint = Hints.Unknown }))
-      unfolding wholePart
-      whole-put m g y d h q =
+          → (o : LeastState) → o ≡ tailState y k (record { at = y .tail; to = y .stop })
+          → Makes text (wordsIn text table n) given s (wholePart (wordsIn text table n) relationOf i j (placedMark text (s .mark)) (drop k given)) (Stages.Go c o)
+      unfolding wholePart tailState
+      whole-put m g y d h q o eo =
           let ch = found-checked text table n given s i (f .before) j (f .chosen) in
           let v = found-lies text table n given s i (f .before) j (f .chosen) z e in
           let t = carrier-there m g in
           let u = site-lies text table n ch m t y d in
-          rw (sym a ∙ h, q, ← g)
+          rw (sym a ∙ h, q, eo, ← g)
           (go-makes text (wordsIn text table n) given s (sourceBehind z (s .mark) (z .stop))
           (record { word = record { at = y .tail; to = y .stop; from = k }; mark = record { at = y .tail; to = y .stop }; hint = Hints.Unknown }) _ _ _
           (sym (found-written text table n given s i (f .before) j (f .chosen) z e (word (wordsIn text table n) j) (z .stop) (v .whole)))

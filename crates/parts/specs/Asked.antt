@@ -33,6 +33,14 @@ pub record PlacesSmall (s : Site) (m : Mark) : Type 0 where
   pub up : m .at ≤ m .to
   pub mark : m .to ≤ 65536
 
+-- the last l letters of the Z at s and of the one at z, whose places are small
+pub record EndsShared (s z : Site) (m : Mark) (l k : ℕ) : Type 0 where
+  pub small : PlacesSmall z m
+  pub own : s .tail + l ≤ s .stop
+  pub other : l ≤ z .stop
+  pub low : s .stop ≤ 65536
+  pub early : k ≤ 65536
+
 -- relation word i is the clean relation prefix of the state's word
 pub record CleanAsked (text table : List ℕ) (n : ℕ) (given : Word) (s : LeastState) (i : ℕ) : Type 0 where
   pub ready : LeastReady text table n given s

@@ -1,6 +1,6 @@
 -- A round with a clean relation prefix: the member that the least word begins with, what the walk for that tells, and the letters that are written.
 use Prim.Native.Nat.{ℕ, _+_, _-_}
-use mathlib.Core.Bool.{false}
+use mathlib.Core.Bool.{Bool, true, false, cond}
 use mathlib.Core.List.{List}
 use mathlib.Core.Path.{_≡_}
 use lib.ListN.{drop}
@@ -15,6 +15,7 @@ use Rattle.moves.specs.declared.Mark.{Mark}
 use Rattle.moves.specs.State.{placedMark}
 use Rattle.parts.specs.declared.Hint.{Hint}
 use Rattle.parts.specs.declared.Hint.the-variants as Hints
+use Rattle.parts.specs.declared.LeastState.{LeastState}
 use Rattle.parts.specs.declared.Source.{Source}
 use Rattle.parts.specs.declared.Stage.{Stage}
 use Rattle.parts.specs.declared.Stage.the-variants as Stages
@@ -41,6 +42,22 @@ hintOf s (Tolds.That b) = Hints.Known (record { at = s .tail; to = s .stop }) b
 unfoldable pub sourceBehind : Site → Mark → ℕ → Source
 sourceBehind s m to = record { given = false; from = s .start + (m .to - m .at); to = to }
 
+-- the state whose word is the given word from k on
+unfoldable pub restState : ℕ → Mark → Hint → LeastState
+restState k m h = record { word = record { at = 0; to = 0; from = k }; mark = m; hint = h }
+
+-- the state whose word is the Z at s and then the given word from k on
+unfoldable pub tailState : Site → ℕ → Mark → LeastState
+tailState s k m = record { word = record { at = s .tail; to = s .stop; from = k }; mark = m; hint = Hints.Unknown }
+
 -- the round that writes X and Y of the relation word at s behind the mark, and goes on with the given word from k on
 unfoldable pub ownStage : Site → Mark → ℕ → Told → Stage
-ownStage s m k t = Stages.Go (sourceBehind s m (s .tail)) (record { word = record { at = 0; to = 0; from = k }; mark = record { at = 0; to = 0 }; hint = hintOf s t })
+ownStage s m k t = Stages.Go (sourceBehind s m (s .tail)) (restState k (record { at = 0; to = 0 }) (hintOf s t))
+
+-- the round with the relation word at z in the place of the one at s, where the last l letters of both Z agree: the letters before these stand in the given word
+-- at k and are left out, or the whole word is written
+unfoldable pub otherStage : Site → Site → Mark → ℕ → ℕ → Bool → Stage
+otherStage s z m l k stands =
+    cond stands
+    (Stages.Go (sourceBehind z m (z .stop - l)) (restState (k + (s .stop - l - s .tail)) (record { at = 0; to = 0 }) (Hints.Known (record { at = s .stop - l; to = s .stop }) true)))
+    (Stages.Go (sourceBehind z m (z .stop)) (restState k (record { at = s .tail; to = s .stop }) (Hints.Known (record { at = s .tail; to = s .stop }) true)))

@@ -9,8 +9,8 @@ ghost use Rattle.layout.specs.Layout.{wordsIn};
 ghost use Rattle.moves.specs.State.{placedWord, placedMark};
 ghost use Rattle.parts.specs.State.{LeastReady, Makes, PartMade};
 ghost use Rattle.parts.specs.Letters.{WordSmall, withoutLetter, firstSource, HintLies, hintBehind};
-ghost use Rattle.parts.specs.Choices.{ToldRight, ChoiceMade, hintOf, sourceBehind, ownStage};
-ghost use Rattle.parts.specs.Asked.{LetterAsked, PlacesSmall, CleanAsked, RestFound, ToldFound, ChoiceFound, ApartFound, WholeFound, OtherFound};
+ghost use Rattle.parts.specs.Choices.{ToldRight, ChoiceMade, hintOf, sourceBehind, restState, tailState, ownStage, otherStage};
+ghost use Rattle.parts.specs.Asked.{LetterAsked, PlacesSmall, EndsShared, CleanAsked, RestFound, ToldFound, ChoiceFound, ApartFound, WholeFound, OtherFound};
 use moves::Mark;
 use moves::PlacedWord;
 use sites::Site;
@@ -63,6 +63,36 @@ fn source_behind(s: Site, mark: Mark, to: usize) -> Source
         given: false,
         from: s.start + (mark.to - mark.at),
         to,
+    }
+}
+
+// The state whose word is the given word from k on.
+fn rest_state(k: usize, mark: Mark, hint: Hint) -> LeastState
+    ensures { λ r. ⌜ r ≡ restState k mark hint ⌝ }
+{
+    LeastState {
+        word: PlacedWord {
+            at: 0,
+            to: 0,
+            from: k,
+        },
+        mark,
+        hint,
+    }
+}
+
+// The state whose word is the Z at s and then the given word from k on, of which nothing is known.
+fn tail_state(s: Site, k: usize, mark: Mark) -> LeastState
+    ensures { λ r. ⌜ r ≡ tailState s k mark ⌝ }
+{
+    LeastState {
+        word: PlacedWord {
+            at: s.tail,
+            to: s.stop,
+            from: k,
+        },
+        mark,
+        hint: Hint::Unknown,
     }
 }
 
@@ -229,35 +259,44 @@ fn write_whole(
 {
     let own = sites::read_site(table, j);
     if members::active_behind(text, table, n, given, j, k) {
-        return Stage::Go(
-            source_behind(own, s.mark, own.tail),
-            LeastState {
-                word: PlacedWord {
-                    at: own.tail,
-                    to: own.stop,
-                    from: k,
-                },
-                mark: Mark { at: 0, to: 0 },
-                hint: Hint::Unknown,
-            },
-        );
+        let source = source_behind(own, s.mark, own.tail);
+        return Stage::Go(source, tail_state(own, k, Mark { at: 0, to: 0 }));
     }
     let z = sites::read_site(table, members::find_carrier(text, table, n, given, i, k));
-    Stage::Go(
-        source_behind(own, s.mark, own.stop),
-        LeastState {
-            word: PlacedWord {
-                at: z.tail,
-                to: z.stop,
-                from: k,
-            },
-            mark: Mark {
-                at: z.tail,
-                to: z.stop,
-            },
-            hint: Hint::Unknown,
-        },
-    )
+    let source = source_behind(own, s.mark, own.stop);
+    let mark = Mark {
+        at: z.tail,
+        to: z.stop,
+    };
+    Stage::Go(source, tail_state(z, k, mark))
+}
+
+// The part with the relation word at z in the place of the one at `own`, where the last l letters of both Z agree: if the letters before these stand in the given
+// word at k, they are left out there and here; else the whole word is written, and Z has to be a possible prefix of what follows.
+fn put_other(own: Site, z: Site, mark: Mark, l: usize, k: usize, stands: bool) -> Stage
+    requires { ⌜ EndsShared own z mark l k ⌝ }
+    ensures { λ r. ⌜ r ≡ otherStage own z mark l k stands ⌝ }
+{
+    let cut = own.stop - l;
+    if stands {
+        let source = source_behind(z, mark, z.stop - l);
+        let end = Mark {
+            at: cut,
+            to: own.stop,
+        };
+        let next = rest_state(
+            k + (cut - own.tail),
+            Mark { at: 0, to: 0 },
+            Hint::Known(end, true),
+        );
+        return Stage::Go(source, next);
+    }
+    let source = source_behind(z, mark, z.stop);
+    let tail = Mark {
+        at: own.tail,
+        to: own.stop,
+    };
+    Stage::Go(source, rest_state(k, tail, Hint::Known(tail, true)))
 }
 
 // The part where u = XY s of relation word i, s is the given word from k on and does not begin with Z, and the least word begins with X and Y of another relation word j.
@@ -277,67 +316,18 @@ fn write_other(
     let own = sites::read_site(table, i);
     let z = sites::read_site(table, j);
     let l = changes::common_suffix(text, own, z);
-    let cut = own.stop - l;
-    if members::stands_quiet(text, table, n, given, own.tail, cut, k) {
-        return Stage::Go(
-            source_behind(z, s.mark, z.stop - l),
-            LeastState {
-                word: PlacedWord {
-                    at: 0,
-                    to: 0,
-                    from: k + (cut - own.tail),
-                },
-                mark: Mark { at: 0, to: 0 },
-                hint: Hint::Known(
-                    Mark {
-                        at: cut,
-                        to: own.stop,
-                    },
-                    true,
-                ),
-            },
-        );
-    }
-    Stage::Go(
-        source_behind(z, s.mark, z.stop),
-        LeastState {
-            word: PlacedWord {
-                at: 0,
-                to: 0,
-                from: k,
-            },
-            mark: Mark {
-                at: own.tail,
-                to: own.stop,
-            },
-            hint: Hint::Known(
-                Mark {
-                    at: own.tail,
-                    to: own.stop,
-                },
-                true,
-            ),
-        },
-    )
+    let stands = members::stands_quiet(text, table, n, given, own.tail, own.stop - l, k);
+    put_other(own, z, s.mark, l, k, stands)
 }
 
-// The part where u = XY s of relation word i, at s, s is the given word from k on and does not begin with Z, and the least word begins with X and Y of i too.
+// The part where u = XY s of the relation word at `own`, s is the given word from k on and does not begin with Z, and the least word begins with the same X and Y.
 fn write_own(own: Site, mark: Mark, k: usize, told: Told) -> Stage
     requires { ⌜ PlacesSmall own mark ⌝ }
     ensures { λ r. ⌜ r ≡ ownStage own mark k told ⌝ }
 {
-    Stage::Go(
-        source_behind(own, mark, own.tail),
-        LeastState {
-            word: PlacedWord {
-                at: 0,
-                to: 0,
-                from: k,
-            },
-            mark: Mark { at: 0, to: 0 },
-            hint: hint_of(own, told),
-        },
-    )
+    let source = source_behind(own, mark, own.tail);
+    let hint = hint_of(own, told);
+    Stage::Go(source, rest_state(k, Mark { at: 0, to: 0 }, hint))
 }
 
 // The part where u = XY s of relation word i, s is the given word from k on and does not begin with Z, and a member is chosen.

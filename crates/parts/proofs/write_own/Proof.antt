@@ -8,4 +8,5 @@ write-own-spec =
     (tie.spec
     (λ c κs. search owns)
     (λ c κs. search owns)
+    (λ c κs. search owns)
     (λ c. search owns))
