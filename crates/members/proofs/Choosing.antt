@@ -1,9 +1,9 @@
 -- A law for each way that looking for the clean relation prefix, the carrier and the chosen member can go.
 use Prim.Native.Nat.{ℕ, _+_, _-_, _*_, _%_, _≤_, _<_}
 use mathlib.Core.Bool.{Bool, true, false}
-use mathlib.Core.Logic.{by-cases}
+use mathlib.Core.Logic.{by-cases, ⊎-elim}
 use mathlib.Core.List.{List, _++_}
-use mathlib.Core.Path.{_≡_, sym, ap, _∙_}
+use mathlib.Core.Path.{_≡_, refl, sym, ap, _∙_, subst}
 use native.Mathlib.Omega.{arith}
 use native.Mathlib.Decide.{decLt}
 use borrow.Author.Needs.{needs}
@@ -43,9 +43,9 @@ use Rattle.rows.specs.Pairs.{PairedWord}
 use Rattle.rows.proofs.Laws.{paired-few, paired-room, other-room, sites-read}
 use Rattle.walks.proofs.Pairs.{pair-even, pair-own, pair-marked}
 use Rattle.members.specs.Members.{quiet, applies}
-use Rattle.members.specs.Asked.{WordAsked, MarkAsked, RestAsked, QuietAsked}
+use Rattle.members.specs.Asked.{WordAsked, MarkAsked, RestAsked, IdleAsked, QuietAsked}
 use Rattle.members.proofs.Laws.{mark-word, mark-up, mark-inside}
-use Rattle.members.proofs.Members.{carrier-low, carrier-high, carrier-own}
+use Rattle.members.proofs.Members.{carrier-own, carrier-other}
 
 -- the clean relation prefix of a held word
 module _ (text table : List ℕ) (n : ℕ) (given : Word) (h : PlacedWord) (a : WordAsked text table n given h) where
@@ -121,37 +121,45 @@ module _ (text table : List ℕ) (n : ℕ) (given : Word) (j k : ℕ) (a : RestA
 pub ruleset actives = (rest-word, paired-room, rest-checked, rest-within, rest-up, rest-inside, rest-fits, rest-active, needs)
 
 -- the carrier
-module _ (text table : List ℕ) (n : ℕ) (given : Word) (i k : ℕ) (a : RestAsked text table n given i k) where
+module _ (text table : List ℕ) (n : ℕ) (given : Word) (i j k : ℕ) (a : IdleAsked text table n given i j k) where
   even : length (wordsIn text table n) % 2 ≡ 0
-  even = pair-even text table n i (a .word)
+  even = pair-even text table n i (a .rest .word)
 
   there : i < length (wordsIn text table n)
-  there = rw (words-length text table n) (a .word .there)
+  there = rw (words-length text table n) (a .rest .word .there)
 
-  pub low-asked : RestAsked text table n given (i - i % 2) k
-  low-asked = record { word = record { paired = a .word .paired; there = let c = a .word .there in omega arith }; within = a .within }
+  pub idle-own : j ≡ i → IdleAsked text table n given i i k
+  idle-own d = subst (λ (m : ℕ). IdleAsked text table n given i m k) d a
 
-  pub high-asked : RestAsked text table n given (i - i % 2 + 1) k
-  high-asked = record { word = record { paired = a .word .paired; there = let c = a .word .there in let e = a .word .paired .even in omega arith }; within = a .within }
+  pub carried-apart : (j ≡ i → ⊥) → i ≡ carrier (wordsIn text table n) relationOf i (drop k given)
+  carried-apart d = ⊎-elim
+      (λ e. absurd (d e))
+      (λ e. sym (carrier-own (wordsIn text table n) i (drop k given) even there (subst (λ (m : ℕ). active (wordsIn text table n) (zOf (wordsIn text table n) m) (drop k given) ≡ false) e (a .idle _ refl))))
+      (a .kin)
 
-  pub low-fits : i % 2 ≤ i
-  low-fits = omega arith
+pub ruleset carriers = (idle-own, carried-apart, needs)
 
-  pub high-fits : Fits w64 (i - i % 2 + 1)
-  high-fits = let c = a .word .there in let l = a .word .paired .checked .laid .few in omega arith
+-- the carrier where Z of i is not active
+module _ (text table : List ℕ) (n : ℕ) (given : Word) (i k : ℕ) (a : IdleAsked text table n given i i k) where
+  pub idle-few : i ≤ 64
+  idle-few = let c = a .rest .word .there in let l = a .rest .word .paired .checked .laid .few in omega arith
 
-  module _ (x : Bool) (e : x ≡ active (wordsIn text table n) (zOf (wordsIn text table n) (i - i % 2)) (drop k given)) where
-    pub carried-low : x ≡ true → i - i % 2 ≡ carrier (wordsIn text table n) relationOf i (drop k given)
-    carried-low h = sym (carrier-low (wordsIn text table n) i (drop k given) even there (sym e ∙ h))
+  pub idle-asked : (o : ℕ) → o ≡ other i → RestAsked text table n given o k
+  idle-asked o e =
+      record { word = record { paired = a .rest .word .paired; there = let c = a .rest .word .there in let p = a .rest .word .paired .even in omega arith }; within = a .rest .within }
 
-    module _ (h : x ≡ false) (y : Bool) (f : y ≡ active (wordsIn text table n) (zOf (wordsIn text table n) (i - i % 2 + 1)) (drop k given)) where
-      pub carried-high : y ≡ true → i - i % 2 + 1 ≡ carrier (wordsIn text table n) relationOf i (drop k given)
-      carried-high l = sym (carrier-high (wordsIn text table n) i (drop k given) even there (sym e ∙ h) (sym f ∙ l))
+  -- what is found of the other word of the relation
+  module _ (x : Bool) (o : ℕ) (f : x ≡ active (wordsIn text table n) (zOf (wordsIn text table n) o) (drop k given)) (e : o ≡ other i) where
+    told : (b : Bool) → x ≡ b → active (wordsIn text table n) (zOf (wordsIn text table n) (other i)) (drop k given) ≡ b
+    told b h = subst (λ (m : ℕ). active (wordsIn text table n) (zOf (wordsIn text table n) m) (drop k given) ≡ b) e (sym f ∙ h)
 
-      pub carried-own : y ≡ false → i ≡ carrier (wordsIn text table n) relationOf i (drop k given)
-      carried-own l = sym (carrier-own (wordsIn text table n) i (drop k given) even there (sym e ∙ h) (sym f ∙ l))
+    pub carried-other : x ≡ true → o ≡ carrier (wordsIn text table n) relationOf i (drop k given)
+    carried-other h = e ∙ sym (carrier-other (wordsIn text table n) i (drop k given) (even text table n given i i k a) (there text table n given i i k a) (a .idle _ refl) (told true h))
 
-pub ruleset carriers = (low-asked, high-asked, low-fits, high-fits, carried-low, carried-high, carried-own, needs)
+    pub carried-own : x ≡ false → i ≡ carrier (wordsIn text table n) relationOf i (drop k given)
+    carried-own h = sym (carrier-own (wordsIn text table n) i (drop k given) (even text table n given i i k a) (there text table n given i i k a) (told false h))
+
+pub ruleset otherCarriers = (idle-few, idle-asked, carried-other, carried-own, needs)
 
 -- a part that stands quiet
 module _ (text table : List ℕ) (n : ℕ) (given : Word) (at to k : ℕ) (a : QuietAsked text table n given at to k) where

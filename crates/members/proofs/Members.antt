@@ -156,54 +156,37 @@ module _ (B : List Word) (i : ℕ) (p s : Word) where
       (true-or-false (isPrefix p (xOf B i))))
       (true-or-false (possible B relationOf (zOf B i) s)))
 
--- the member that carries the next word
+-- the member that carries the next word: i, unless only the other word of its relation is active
 module _ (B : List Word) (i : ℕ) (w : Word) (even : length B % 2 ≡ 0) (h : i < length B) where
   carries : ℕ → Bool
   carries j = eqb (i / 2) (j / 2) && active B (zOf B j) w
 
-  pub carrier-low : active B (zOf B (i - i % 2)) w ≡ true → carrier B relationOf i w ≡ i - i % 2
+  -- a relation word that is neither of the two, or for whose Z w is not active
+  carries-none : (k : ℕ) → (k ≡ i → active B (zOf B i) w ≡ false) → (k ≡ other i → active B (zOf B (other i)) w ≡ false) → carries k ≡ false
+  unfolding carries
+  carries-none k a b = by-cases (ℕ-discrete k i)
+      (λ e. and-right (eqb (i / 2) (k / 2)) _ (subst (λ (m : ℕ). active B (zOf B m) w ≡ false) (sym e) (a e)))
+      (λ e. by-cases (ℕ-discrete k (other i))
+      (λ d. and-right (eqb (i / 2) (k / 2)) _ (subst (λ (m : ℕ). active B (zOf B m) w ≡ false) (sym d) (b d)))
+      (λ d. and-left _ _ (ne-eqb (i / 2) (k / 2) (λ q. absurd (omega arith)))))
+
+  pub carrier-own : active B (zOf B (other i)) w ≡ false → carrier B relationOf i w ≡ i
   unfolding carrier carries
-  carrier-low a =
-      let m : i / 2 ≡ (i - i % 2) / 2 = omega arith in
-      let c : least (length B) carries ≡ i - i % 2 =
-      least-is (length B) carries (i - i % 2) (omega arith) (record { none = λ k l. and-left _ _ (ne-eqb (i / 2) (k / 2) (λ e. absurd (omega arith))) }) (rw (eq-eqb (i / 2) ((i - i % 2) / 2) m, a)) in
-      rw (c, lt-ltb (i - i % 2) (length B) (omega arith))
+  carrier-own b = ⊎-elim
+      (λ a.
+      let c : least (length B) carries ≡ i =
+      least-is (length B) carries i h (record { none = λ k l. carries-none k (λ e. absurd (omega arith)) (λ e. b) }) (simp and-eq-true-iff (eq-eqb (i / 2) (i / 2) refl, a)) in
+      rw (c, lt-ltb i (length B) h))
+      (λ a.
+      let c : least (length B) carries ≡ length B = least-none (length B) carries (record { none = λ k l. carries-none k (λ e. a) (λ e. b) }) in
+      rw (c, le-ltb (length B) (length B) (omega arith)))
+      (true-or-false (active B (zOf B i) w))
 
-  module _ (a : active B (zOf B (i - i % 2)) w ≡ false) where
-    pub carrier-high : active B (zOf B (i - i % 2 + 1)) w ≡ true → carrier B relationOf i w ≡ i - i % 2 + 1
-    unfolding carrier carries
-    carrier-high b =
-        let m : i / 2 ≡ (i - i % 2 + 1) / 2 = omega arith in
-        let c : least (length B) carries ≡ i - i % 2 + 1 =
-        least-is (length B) carries (i - i % 2 + 1) (omega arith)
-        (record {
-          none = λ k l. by-cases (ℕ-discrete k (i - i % 2))
-              (λ e. and-right (eqb (i / 2) (k / 2)) _ (subst (λ (m : ℕ). active B (zOf B m) w ≡ false) (sym e) a))
-              (λ e. and-left _ _ (ne-eqb (i / 2) (k / 2) (λ d. absurd (omega arith))));
-        })
-        (rw (eq-eqb (i / 2) ((i - i % 2 + 1) / 2) m, b)) in
-        rw (c, lt-ltb (i - i % 2 + 1) (length B) (omega arith))
-
-    pub carrier-own : active B (zOf B (i - i % 2 + 1)) w ≡ false → carrier B relationOf i w ≡ i
-    unfolding carrier carries
-    carrier-own b =
-        let c : least (length B) carries ≡ length B =
-        least-none (length B) carries
-        (record {
-          none = λ k l. by-cases (ℕ-discrete k (i - i % 2))
-              (λ e. and-right (eqb (i / 2) (k / 2)) _ (subst (λ (m : ℕ). active B (zOf B m) w ≡ false) (sym e) a))
-              (λ e. by-cases (ℕ-discrete k (i - i % 2 + 1))
-              (λ d. and-right (eqb (i / 2) (k / 2)) _ (subst (λ (m : ℕ). active B (zOf B m) w ≡ false) (sym d) b))
-              (λ d. and-left _ _ (ne-eqb (i / 2) (k / 2) (λ q. absurd (omega arith)))));
-        }) in
-        rw (c, le-ltb (length B) (length B) (omega arith))
-
-  -- it is a relation word
-  pub carrier-known : carrier B relationOf i w < length B
-  carrier-known = ⊎-elim
-      (λ a. let c = carrier-low a in omega (arith, c, h))
-      (λ a. ⊎-elim
-      (λ b. let c = carrier-high a b in omega (arith, c, h, even))
-      (λ b. let c = carrier-own a b in omega (arith, c, h))
-      (true-or-false (active B (zOf B (i - i % 2 + 1)) w)))
-      (true-or-false (active B (zOf B (i - i % 2)) w))
+  pub carrier-other : active B (zOf B i) w ≡ false → active B (zOf B (other i)) w ≡ true → carrier B relationOf i w ≡ other i
+  unfolding carrier carries
+  carrier-other a b =
+      let t = other-there (length B) i even h in
+      let m : i / 2 ≡ other i / 2 = omega arith in
+      let c : least (length B) carries ≡ other i =
+      least-is (length B) carries (other i) t (record { none = λ k l. carries-none k (λ e. a) (λ e. absurd (omega arith)) }) (rw (eq-eqb (i / 2) (other i / 2) m, b)) in
+      rw (c, lt-ltb (other i) (length B) t)

@@ -11,7 +11,7 @@ ghost use Rattle.layout.specs.Layout.{wordsIn};
 ghost use Rattle.sites.specs.Sites.{SitesInText};
 ghost use Rattle.moves.specs.State.{placedWord, placedMark};
 ghost use Rattle.members.specs.Members.{firstAt, firstOfTwo, quiet, applies, settled};
-ghost use Rattle.members.specs.Asked.{WordAsked, MarkAsked, RestAsked, QuietAsked};
+ghost use Rattle.members.specs.Asked.{IdleAsked, WordAsked, MarkAsked, RestAsked, QuietAsked};
 use moves::Mark;
 use moves::PlacedWord;
 use sites::Site;
@@ -161,24 +161,34 @@ pub fn active_behind(
     sites::has_prefix_between(text, table, n, &text[at..to], &given[k..], 0, to - at)
 }
 
-// The first word of i's relation for whose Z the given word from k on is active, or i.
+// The other word of i's relation where the given word from k on is active for its Z, or i; it is not active for Z of i.
+fn other_carrier(text: &[u16], table: &[u16], n: usize, given: &[u16], i: usize, k: usize) -> usize
+    requires { ⌜ IdleAsked (now text) (now table) n (now given) i i k ⌝ }
+    ensures { λ r. ⌜ r ≡ carrier (wordsIn (now (text .entry)) (now (table .entry)) n) relationOf i (drop k (now (given .entry))) ⌝ }
+{
+    let o = sites::other_word(i);
+    if active_behind(text, table, n, given, o, k) {
+        return o;
+    }
+    i
+}
+
+// The first word of i's relation for whose Z the given word from k on is active, or i; it is not active for Z of j, a word of the relation. Where that is the other
+// one, this is i, whether active or not.
 pub fn find_carrier(
     text: &[u16],
     table: &[u16],
     n: usize,
     given: &[u16],
     i: usize,
+    j: usize,
     k: usize,
 ) -> usize
-    requires { ⌜ RestAsked (now text) (now table) n (now given) i k ⌝ }
+    requires { ⌜ IdleAsked (now text) (now table) n (now given) i j k ⌝ }
     ensures { λ r. ⌜ r ≡ carrier (wordsIn (now (text .entry)) (now (table .entry)) n) relationOf i (drop k (now (given .entry))) ⌝ }
 {
-    let low = i - i % 2;
-    if active_behind(text, table, n, given, low, k) {
-        return low;
-    }
-    if active_behind(text, table, n, given, low + 1, k) {
-        return low + 1;
+    if j == i {
+        return other_carrier(text, table, n, given, i, k);
     }
     i
 }

@@ -14,6 +14,7 @@ use Rattle.overlap.proofs.Facts.{length-z}
 use Rattle.congruence.specs.Rows.{active}
 use Rattle.least.specs.Possible.{relationOf}
 use Rattle.least.specs.Writing.{carrier, wholePart}
+use Rattle.least.proofs.Shape.{carrier-there}
 use Rattle.layout.specs.Layout.{wordsIn}
 use Rattle.layout.proofs.Placed.{words-length, row-inside}
 use Rattle.sites.specs.declared.Site.{Site}
@@ -25,10 +26,9 @@ use Rattle.parts.specs.declared.LeastState.{LeastState}
 use Rattle.parts.specs.declared.Stage.the-variants as Stages
 use Rattle.parts.specs.State.{Makes}
 use Rattle.parts.specs.Choices.{sourceBehind, tailState}
-use Rattle.members.specs.Asked.{RestAsked}
+use Rattle.members.specs.Asked.{RestAsked, IdleAsked}
 use Rattle.parts.specs.Asked.{PlacesSmall, WholeFound}
-use Rattle.members.proofs.Members.{carrier-known}
-use Rattle.parts.proofs.Standing.{go-makes, empty-mark, site-lies, tail-stands, tail-letters, tail-mark, found-checked, found-lies, found-small, found-written, found-source, found-lighter}
+use Rattle.parts.proofs.Standing.{go-makes, found-fits, empty-mark, site-lies, tail-stands, tail-letters, tail-mark, found-checked, found-lies, found-small, found-written, found-source, found-lighter}
 
 module _ (text table : List ℕ) (n : ℕ) (given : Word) (s : LeastState) (i j k : ℕ) (f : WholeFound text table n given s i j k) where
   -- Z lies in the given word
@@ -44,8 +44,12 @@ module _ (text table : List ℕ) (n : ℕ) (given : Word) (s : LeastState) (i j 
   pub whole-rest : RestAsked text table n given j k
   whole-rest = record { word = record { paired = f .chosen .found .asked .ready .ready .paired; there = f .chosen .known }; within = whole-within }
 
-  pub whole-rest-own : RestAsked text table n given i k
+  whole-rest-own : RestAsked text table n given i k
   whole-rest-own = record { word = record { paired = f .chosen .found .asked .ready .ready .paired; there = f .chosen .found .asked .there }; within = whole-within }
+
+  -- the carrier is looked for where Z of j is not active
+  pub whole-idle : (x : Bool) → x ≡ active (wordsIn text table n) (zOf (wordsIn text table n) j) (drop k given) → x ≡ false → IdleAsked text table n given i j k
+  whole-idle x e h = record { rest = whole-rest-own; kin = found-fits text table n given s i (f .before) j (f .chosen) .kin; idle = λ y q. q ∙ sym e ∙ h }
 
   pub whole-room : 4 * j + 3 < length table
   whole-room = row-inside text table n (f .chosen .found .asked .ready .ready .paired .checked .laid) j (f .chosen .known)
@@ -54,16 +58,14 @@ module _ (text table : List ℕ) (n : ℕ) (given : Word) (s : LeastState) (i j 
   later = let e = f .place in omega (arith, e)
 
   module _ (c : ℕ) (g : c ≡ carrier (wordsIn text table n) relationOf i (drop k given)) where
-    carrier-there : c < n
-    carrier-there =
+    carrier-below : c < n
+    carrier-below =
         let b = words-length text table n in
-        let h = f .chosen .found .asked .there in
-        let even : length (wordsIn text table n) % 2 ≡ 0 = rw b (f .chosen .found .asked .ready .ready .paired .even) in
-        let q = carrier-known (wordsIn text table n) i (drop k given) even (rw b h) in
+        let q = carrier-there (wordsIn text table n) relationOf i (drop k given) (rw b (f .chosen .found .asked .there)) in
         omega (arith, g, q, b)
 
     pub whole-room-carrier : 4 * c + 3 < length table
-    whole-room-carrier = row-inside text table n (f .chosen .found .asked .ready .ready .paired .checked .laid) c carrier-there
+    whole-room-carrier = row-inside text table n (f .chosen .found .asked .ready .ready .paired .checked .laid) c carrier-below
 
   module _ (z : Site) (e : z ≡ siteOf table j) where
     pub whole-small : PlacesSmall z (s .mark)
@@ -100,7 +102,7 @@ module _ (text table : List ℕ) (n : ℕ) (given : Word) (s : LeastState) (i j 
       whole-put m g y d h q o eo =
           let ch = found-checked text table n given s i (f .before) j (f .chosen) in
           let v = found-lies text table n given s i (f .before) j (f .chosen) z e in
-          let t = carrier-there m g in
+          let t = carrier-below m g in
           let u = site-lies text table n ch m t y d in
           rw (sym a ∙ h, q, eo, ← g)
           (go-makes text (wordsIn text table n) given s (sourceBehind z (s .mark) (z .stop))
@@ -119,4 +121,4 @@ module _ (text table : List ℕ) (n : ℕ) (given : Word) (s : LeastState) (i j 
             lighter = found-lighter text table n given s i (f .before) j (f .chosen) k later whole-within (record { at = y .tail; to = y .stop; from = k }) refl (omega (arith, u .first, u .second, u .short));
           }))
 
-pub ruleset wholes = (whole-rest, whole-rest-own, whole-room, whole-room-carrier, whole-small, whole-active, whole-put, needs)
+pub ruleset wholes = (whole-rest, whole-idle, whole-room, whole-room-carrier, whole-small, whole-active, whole-put, needs)

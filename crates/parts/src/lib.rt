@@ -262,7 +262,7 @@ fn write_whole(
         let source = source_behind(own, s.mark, own.tail);
         return Stage::Go(source, tail_state(own, k, Mark { at: 0, to: 0 }));
     }
-    let z = sites::read_site(table, members::find_carrier(text, table, n, given, i, k));
+    let z = sites::read_site(table, members::find_carrier(text, table, n, given, i, j, k));
     let source = source_behind(own, s.mark, own.stop);
     let mark = Mark {
         at: z.tail,

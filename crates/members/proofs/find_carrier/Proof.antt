@@ -6,11 +6,6 @@ pub find-carrier-spec : {M : Type 1} → statement M
 find-carrier-spec =
     tie.close
     (tie.spec
-    (λ c. search carriers)
     (λ c κs. search carriers)
-    (λ c. search carriers)
-    (λ c. search carriers)
-    (λ c κs. search carriers)
-    (λ c. search carriers)
     (λ c. search carriers)
     (λ c. search carriers))
