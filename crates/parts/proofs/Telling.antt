@@ -1,8 +1,11 @@
 -- What a hint tells of Z behind X and Y, and a law for each way that the choice of a member can go.
 use Prim.Native.Nat.{ℕ, _+_, _*_, _<_}
-use mathlib.Core.Bool.{Bool, true, false, and-eq-true-iff}
+use mathlib.Core.Bool.{Bool, true, false, not, true≢false, and-eq-true-iff}
+use mathlib.Core.Logic.{by-cases}
 use mathlib.Core.List.{List}
 use mathlib.Core.Path.{_≡_, refl, sym, ap, _∙_, subst}
+use native.Mathlib.Omega.{arith}
+use native.Mathlib.Decide.{ℕ-discrete}
 use borrow.Author.Needs.{needs}
 use borrow.Author.Tests.{not-true}
 use lib.ListN.{length, drop}
@@ -28,10 +31,10 @@ use Rattle.parts.specs.declared.Told.{Told}
 use Rattle.parts.specs.declared.Told.the-variants as Tolds
 use Rattle.parts.specs.State.{HintTold, HintRight}
 use Rattle.members.specs.Members.{applies, settled}
-use Rattle.parts.specs.Choices.{ToldRight, ChoiceMade}
+use Rattle.parts.specs.Choices.{ToldRight, deniedBy, ChoiceMade}
 use Rattle.members.specs.Asked.{MarkAsked}
 use Rattle.parts.specs.Asked.{RestFound, ToldFound}
-use Rattle.members.proofs.Members.{chosen-own, chosen-first, chosen-back, chosen-none}
+use Rattle.members.proofs.Members.{first-fits, chosen-own, chosen-first, chosen-back, chosen-none}
 
 -- where nothing is known nothing is told
 pub carry-nothing : (B : List Word) (given : Word) (i k : ℕ) → ToldRight B given i k Tolds.Nothing
@@ -98,6 +101,37 @@ module _ (text table : List ℕ) (n : ℕ) (given : Word) (s : LeastState) (i k 
   pub choice-told : (t : Told) → ToldRight (wordsIn text table n) given i k t → ToldFound text table n given s i k t
   choice-told t g = record { found = f; told = g }
 
+  -- where Z is not possible only i is left, whichever member comes first
+  denied-is : possible (wordsIn text table n) relationOf (zOf (wordsIn text table n) i) (drop k given) ≡ false → (x : Bool) → isPrefix (placedMark text (s .mark)) (xOf (wordsIn text table n) i) ≡ x
+      → settled (wordsIn text table n) n i (placedMark text (s .mark)) n false ≡ chosenMember (wordsIn text table n) relationOf houseRank i (placedMark text (s .mark)) (drop k given)
+  unfolding settled
+  denied-is g true q = rw q (by-cases (ℕ-discrete (firstMember (wordsIn text table n) relationOf houseRank i (placedMark text (s .mark))) i)
+      (λ e. sym (chosen-own (wordsIn text table n) i (placedMark text (s .mark)) (drop k given) e))
+      (λ e. sym (chosen-back (wordsIn text table n) i (placedMark text (s .mark)) (drop k given) e g q)))
+  denied-is g false q = rw q (by-cases (ℕ-discrete (firstMember (wordsIn text table n) relationOf houseRank i (placedMark text (s .mark))) i)
+      (λ e.
+      let b = words-length text table n in
+      let h = f .asked .there in
+      let x = first-fits (wordsIn text table n) i (placedMark text (s .mark)) (omega (arith, e, b, h)) .1 in
+      absurd (true≢false (sym (subst (λ (m : ℕ). isPrefix (placedMark text (s .mark)) (xOf (wordsIn text table n) m) ≡ true) e x) ∙ q)))
+      (λ e. sym (chosen-none (wordsIn text table n) i (placedMark text (s .mark)) (drop k given) e g q ∙ words-length text table n)))
+
+  pub choice-denied : (d : Told) → ToldRight (wordsIn text table n) given i k d → (r : Bool) → r ≡ deniedBy d → r ≡ true → (j : ℕ) → j ≡ settled (wordsIn text table n) n i (placedMark text (s .mark)) n false
+      → ChoiceMade text table n given (s .mark) i k (record { member = j; told = d })
+  unfolding deniedBy
+  choice-denied Tolds.Nothing g r e h j q = absurd (true≢false (sym h ∙ e))
+  choice-denied (Tolds.That true) g r e h j q = absurd (true≢false (sym h ∙ e))
+  choice-denied (Tolds.That false) g r e h j q = record { member = q ∙ denied-is g _ refl; told = g }
+
+pub ruleset denials = (choice-asked, choice-told, choice-denied, needs)
+
+module _ (text table : List ℕ) (n : ℕ) (given : Word) (s : LeastState) (i k : ℕ) (t : Told) (f : ToldFound text table n given s i k t) where
+  pub first-asked : MarkAsked text table n i (s .mark)
+  first-asked = choice-asked text table n given s i k (f .found)
+
+  pub first-told : ToldRight (wordsIn text table n) given i k t
+  first-told = f .told
+
 module _ (text table : List ℕ) (n : ℕ) (given : Word) (m : Mark) (i k t : ℕ) (e : t ≡ firstMember (wordsIn text table n) relationOf houseRank i (placedMark text m)) where
   pub choice-own : t ≡ i → (d : Told) → ToldRight (wordsIn text table n) given i k d → ChoiceMade text table n given m i k (record { member = i; told = d })
   choice-own h d g = record { member = sym (chosen-own (wordsIn text table n) i (placedMark text m) (drop k given) (sym e ∙ h)); told = g }
@@ -113,4 +147,19 @@ module _ (text table : List ℕ) (n : ℕ) (given : Word) (m : Mark) (i k t : �
       → (j : ℕ) → j ≡ settled (wordsIn text table n) n i (placedMark text m) t b → ChoiceMade text table n given m i k (record { member = j; told = Tolds.That b })
   choice-settled d b g j h = record { member = h ∙ settled-is d b (sym g) _ refl; told = sym g }
 
-pub ruleset choices = (choice-asked, choice-told, choice-own, choice-settled, needs)
+pub ruleset choices = (first-asked, first-told, choice-own, choice-settled, needs)
+
+-- whether it is told that Z is not possible
+pub denied-nothing : (d : Told) → d ≡ Tolds.Nothing → false ≡ deniedBy d
+unfolding deniedBy
+denied-nothing d e = rw e
+
+pub denied-not : (d : Told) (b : Bool) → d ≡ Tolds.That b → b ≡ true → false ≡ deniedBy d
+unfolding deniedBy
+denied-not d b e h = rw (e, h)
+
+pub denied-so : (d : Told) (b : Bool) → d ≡ Tolds.That b → b ≡ false → true ≡ deniedBy d
+unfolding deniedBy
+denied-so d b e h = rw (e, h)
+
+pub ruleset denyings = (denied-nothing, denied-not, denied-so, needs)

@@ -1,6 +1,6 @@
 -- A round with a clean relation prefix: the member that the least word begins with, what the walk for that tells, and the letters that are written.
 use Prim.Native.Nat.{ℕ, _+_, _-_}
-use mathlib.Core.Bool.{Bool, true, false, cond}
+use mathlib.Core.Bool.{Bool, true, false, cond, not}
 use mathlib.Core.List.{List}
 use mathlib.Core.Path.{_≡_}
 use lib.ListN.{drop}
@@ -27,6 +27,11 @@ use Rattle.parts.specs.declared.Choice.{Choice}
 abbrev pub ToldRight : List Word → Word → ℕ → ℕ → Told → Type 0
 ToldRight B given i k Tolds.Nothing = Unit {0}
 ToldRight B given i k (Tolds.That b) = possible B relationOf (zOf B i) (drop k given) ≡ b
+
+-- it is told that Z is not possible
+unfoldable pub deniedBy : Told → Bool
+deniedBy Tolds.Nothing = false
+deniedBy (Tolds.That b) = not b
 
 -- the member of the relation of i that the least word begins with, where the given word from k on follows X and Y of i
 pub record ChoiceMade (text table : List ℕ) (n : ℕ) (given : Word) (mark : Mark) (i k : ℕ) (c : Choice) : Type 0 where

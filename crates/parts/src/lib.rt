@@ -9,7 +9,7 @@ ghost use Rattle.layout.specs.Layout.{wordsIn};
 ghost use Rattle.moves.specs.State.{placedWord, placedMark};
 ghost use Rattle.parts.specs.State.{LeastReady, Makes, PartMade};
 ghost use Rattle.parts.specs.Letters.{WordSmall, withoutLetter, firstSource, HintLies, hintBehind};
-ghost use Rattle.parts.specs.Choices.{ToldRight, ChoiceMade, hintOf, sourceBehind, restState, tailState, ownStage, otherStage};
+ghost use Rattle.parts.specs.Choices.{deniedBy, ToldRight, ChoiceMade, hintOf, sourceBehind, restState, tailState, ownStage, otherStage};
 ghost use Rattle.parts.specs.Asked.{LetterAsked, PlacesSmall, EndsShared, CleanAsked, RestFound, ToldFound, ChoiceFound, ApartFound, WholeFound, OtherFound};
 use moves::Mark;
 use moves::PlacedWord;
@@ -218,7 +218,45 @@ fn ask_possible(
     b
 }
 
-// The member of i's relation whose X and Y the least word begins with, and what is told of Z of i on the way.
+// Whether it is told that Z is not possible.
+fn denied(told: Told) -> bool
+    ensures { λ r. ⌜ r ≡ deniedBy told ⌝ }
+{
+    let Told::That(b) = told else {
+        return false;
+    };
+    if b {
+        return false;
+    }
+    true
+}
+
+// The member of i's relation whose X and Y the least word begins with, where nothing is told of Z of i, or that it is possible: it is asked only where another member comes first.
+fn choose_first(
+    text: &[u16],
+    table: &[u16],
+    n: usize,
+    given: &[u16],
+    s: LeastState,
+    i: usize,
+    k: usize,
+    told: Told,
+) -> Choice
+    requires { ⌜ ToldFound (now text) (now table) n (now given) s i k told ⌝ }
+    ensures { λ r. ⌜ ChoiceMade (now (text .entry)) (now (table .entry)) n (now (given .entry)) (s .mark) i k r ⌝ }
+{
+    let t = members::first_member(text, table, n, i, s.mark);
+    if t == i {
+        return Choice { member: i, told };
+    }
+    let b = ask_possible(text, table, n, given, s, i, k, told);
+    Choice {
+        member: members::settle_member(text, table, n, i, s.mark, t, b),
+        told: Told::That(b),
+    }
+}
+
+// The member of i's relation whose X and Y the least word begins with, and what is told of Z of i on the way. Where it is told that Z is not possible, no other is looked at.
 fn choose_member(
     text: &[u16],
     table: &[u16],
@@ -232,15 +270,13 @@ fn choose_member(
     ensures { λ r. ⌜ ChoiceMade (now (text .entry)) (now (table .entry)) n (now (given .entry)) (s .mark) i k r ⌝ }
 {
     let told = carry_hint(text, table, n, given, s, i, k);
-    let t = members::first_member(text, table, n, i, s.mark);
-    if t == i {
-        return Choice { member: i, told };
+    if denied(told) {
+        return Choice {
+            member: members::settle_member(text, table, n, i, s.mark, n, false),
+            told,
+        };
     }
-    let b = ask_possible(text, table, n, given, s, i, k, told);
-    Choice {
-        member: members::settle_member(text, table, n, i, s.mark, t, b),
-        told: Told::That(b),
-    }
+    choose_first(text, table, n, given, s, i, k, told)
 }
 
 // The part where u = XYZ w of relation word i, w is the given word from k on, and the least word begins with X and Y of relation word j.
