@@ -49,8 +49,9 @@ use Rattle.answers.specs.declared.Round.the-variants as Rounds
 use Rattle.answers.specs.Answers.{accepted, refusal, ofVerdict, ofRound, ofComparison, ofPrinted, ofLeast}
 use Rattle.answers.specs.Entries.{checkOf, SheetOutcome, sheetOf, RoundOutcome, OutputOutcome, outputOf, roomOf, askedOf, writing, loadedRound, roundOf, compareOf, LeastOutcome, loadedLeast, leastOf}
 use Rattle.answers.specs.Parts.{SheetReady, acceptedSheet, answeredRound, LeastLoaded}
-use Rattle.answers.specs.Demands.{Compared}
+use Rattle.answers.specs.Demands.{Compared, LeastAnswered}
 use Rattle.answers.proofs.Theorems.{compared}
+use Rattle.answers.proofs.LeastWords.{least-answered}
 
 module _ (book : List ℕ) (reading : Reading) (text table : List ℕ) (d : BookLoaded book reading text table) where
   -- the check
@@ -83,9 +84,10 @@ module _ (book : List ℕ) (reading : Reading) (text table : List ℕ) (d : Book
 
   -- the least word
   pub least-unread : (u buffer : List ℕ) (offset : ℕ) (r : Refusal) → reading ≡ Refused r
-      → LeastOutcome.after (ofLeast (Leasts.Refused r)) buffer ≡ leastOf book u buffer offset
+      → LeastAnswered book u buffer offset (LeastOutcome.after (ofLeast (Leasts.Refused r)) buffer)
   unfolding leastOf
-  least-unread u buffer offset r f = sym (rw (load-refused book reading text table d r f))
+  least-unread u buffer offset r f =
+      least-answered book u buffer offset (LeastOutcome.after (ofLeast (Leasts.Refused r)) buffer) (sym (rw (load-refused book reading text table d r f)))
 
   module _ (letters count : ℕ) (e : reading ≡ Read letters count) where
     held : Holding book letters count text table
@@ -134,13 +136,13 @@ module _ (book : List ℕ) (reading : Reading) (text table : List ℕ) (d : Book
     loaded-letters = let h = held in record { ready = loaded-ready; few = omega (arith, h .within .few, h .lettered) }
 
     pub least-loaded : (u buffer : List ℕ) (offset : ℕ) (x : LeastOutcome) → x ≡ loadedLeast letters (wordsIn text table (2 * count)) u buffer offset
-        → x ≡ leastOf book u buffer offset
+        → LeastAnswered book u buffer offset x
     unfolding leastOf
     least-loaded u buffer offset x f =
         let h = held in
         let g = rw (h .words) at f in
         let q : leastOf book u buffer offset ≡ loadedLeast letters (relationWords (h .presentation .relations)) u buffer offset = rw (h .is, ← h .lettered) in
-        g ∙ sym q
+        least-answered book u buffer offset x (g ∙ sym q)
 
 pub memory-made : (text table : List ℕ) → length text ≡ 4160 → length table ≡ 450 → Memory text table
 memory-made text table h k = record { text4160 = h; table450 = k }

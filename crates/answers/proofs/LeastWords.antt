@@ -38,7 +38,7 @@ use Rattle.leastword.specs.Writing.{leastFor}
 use Rattle.leastword.proofs.Rounds.{longest-bound}
 use Rattle.answers.specs.Answers.{Answer, same, different, wrote, refused, refusal}
 use Rattle.answers.specs.Entries.{LeastOutcome, compareOf, lacksSpace, placedAt, loadedLeast, leastOf}
-use Rattle.answers.specs.Demands.{Decides, Placed, WritesLeast, LeastWritten, writtenBytes, LeastDecides}
+use Rattle.answers.specs.Demands.{Decides, Placed, WritesLeast, LeastAnswered, LeastWritten, writtenBytes, LeastDecides}
 use Rattle.answers.proofs.Theorems.{loaded-c4, compared}
 
 -- relation words within the limits are short
@@ -179,6 +179,11 @@ least-written book u old offset p e f =
     let B = relationWords (p .relations) in
     let s = longest-bound B sideMost (length B) (λ i h. words-short (p .letters) (p .relations) (loaded-within book p e .all) i) in
     writes-least B (loaded-least book p e) u (omega arith) (fine-short 0 comparedMost (p .letters) u f) old offset (leastOf book u old offset) (placed-least book u old offset p e f)
+
+-- what is the definition's outcome is all that the least word promises
+pub least-answered : (book : List ℕ) (u : Word) (old : List ℕ) (offset : ℕ) (outcome : LeastOutcome) → outcome ≡ leastOf book u old offset → LeastAnswered book u old offset outcome
+least-answered book u old offset outcome e =
+    record { is = e; writes = λ p l f. subst (WritesLeast (relationWords (p .relations)) u old offset) (sym e) (least-written book u old offset p l f) }
 
 pub least-decides : LeastDecides
 unfolding pairOf

@@ -110,6 +110,12 @@ pub record WritesLeast (B : List Word) (u : Word) (old : List ℕ) (offset : ℕ
   pub narrow : length old < offset + length word → outcome ≡ LeastOutcome.after (refused 14 0) old
   pub short : length word ≤ leastMost
 
+-- what the least word promises of its outcome: it is the definition's; and of an accepted book and a word that is fine, the least word is written
+pub record LeastAnswered (book : List ℕ) (u : Word) (old : List ℕ) (offset : ℕ) (outcome : LeastOutcome) : Type 0 where
+  pub is : outcome ≡ leastOf book u old offset
+  pub writes : (presentation : Presentation) → loadBook book ≡ BookReading.read presentation → oneOf (presentation .letters) u ≡ Words.Fine
+      → WritesLeast (relationWords (presentation .relations)) u old offset outcome
+
 -- of every accepted book and every word that is fine
 abbrev pub LeastWritten : Type 0
 LeastWritten = (book : List ℕ) (u : Word) (old : List ℕ) (offset : ℕ) (presentation : Presentation) → loadBook book ≡ BookReading.read presentation

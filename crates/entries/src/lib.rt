@@ -1,10 +1,10 @@
 // The public entries: what a customer calls. None has a `requires`; each promises that its answer equals a definition's (crate answers, specs/Entries.antt),
-// refusals in document 01's order and lent buffers included: as an equality, or, of `compare`, as the field `is` of the record `Compared`, which holds demand 3
-// beside it. The demands are spelled out in crate answers, specs/Demands.antt.
+// refusals in document 01's order and lent buffers included: as an equality, or, of `compare` and `least_word`, as the field `is` of a record that holds beside it
+// what is owed in words (`Compared`, `LeastAnswered`). The demands are spelled out in crate answers, specs/Demands.antt.
 ghost use mathlib.Core.Path.{_≡_};
 ghost use Rattle.answers.specs.Answers.{ofVerdict, ofRound, ofComparison, ofPrinted, ofLeast};
-ghost use Rattle.answers.specs.Entries.{checkOf, SheetOutcome as Sheets, sheetOf, RoundOutcome as Rounds, roundOf, LeastOutcome as Leasts, leastOf, OutputOutcome as Outputs, outputOf};
-ghost use Rattle.answers.specs.Demands.{Compared};
+ghost use Rattle.answers.specs.Entries.{checkOf, SheetOutcome as Sheets, sheetOf, RoundOutcome as Rounds, roundOf, LeastOutcome as Leasts, OutputOutcome as Outputs, outputOf};
+ghost use Rattle.answers.specs.Demands.{Compared, LeastAnswered};
 pub use answers::Least;
 pub use answers::Printed;
 pub use answers::Round;
@@ -100,7 +100,7 @@ pub fn single_round(
 
 // Writes the least word that is congruent to u into the part of a lent buffer from an offset on.
 pub fn least_word(book: &[u8], u: &[u8], buffer: &mut [u8], offset: usize) -> Least
-    ensures { λ r. ⌜ Leasts.after (ofLeast r) (now (buffer .exit)) ≡ leastOf (now (book .entry)) (now (u .entry)) (now (buffer .entry)) offset ⌝ }
+    ensures { λ r. ⌜ LeastAnswered (now (book .entry)) (now (u .entry)) (now (buffer .entry)) offset (Leasts.after (ofLeast r) (now (buffer .exit))) ⌝ }
 {
     let mut text = [0u16; Text::ROOM];
     let mut table = [0u16; Table::ROOM];

@@ -10,15 +10,15 @@ use Rattle.answers.specs.declared.Round.{Round}
 use Rattle.answers.specs.declared.Printed.{Printed}
 use Rattle.answers.specs.declared.Least.{Least}
 use Rattle.answers.specs.Answers.{Answer, ofVerdict, ofRound, ofComparison, ofPrinted, ofLeast}
-use Rattle.answers.specs.Entries.{checkOf, SheetOutcome, sheetOf, RoundOutcome, roundOf, LeastOutcome, leastOf, OutputOutcome, outputOf}
-use Rattle.answers.specs.Demands.{Compared}
+use Rattle.answers.specs.Entries.{checkOf, SheetOutcome, sheetOf, RoundOutcome, roundOf, LeastOutcome, OutputOutcome, outputOf}
+use Rattle.answers.specs.Demands.{Compared, LeastAnswered}
 use Rattle.results.specs.declared.CheckResult.{CheckResult}
 use Rattle.results.specs.declared.RoundResult.{RoundResult}
 use Rattle.results.specs.declared.CompareResult.{CompareResult}
 use Rattle.results.specs.declared.LeastResult.{LeastResult}
 use Rattle.results.specs.declared.ProgramResult.{ProgramResult}
 use Rattle.results.specs.Numbers.{checkResult, roundResult, compareResult, leastResult, programResult}
-use Rattle.vanecitron.specs.Calls.{SheetNumbers, sheetNumbers, RoundNumbers, roundNumbers, ComparedNumbers, LeastNumbers, leastNumbers, ProgramNumbers, programNumbers}
+use Rattle.vanecitron.specs.Calls.{SheetNumbers, sheetNumbers, RoundNumbers, roundNumbers, ComparedNumbers, LeastNumbered, ProgramNumbers, programNumbers}
 
 -- the numbers of an answer that is the definition's are the definition's numbers
 pub check-passes : (book : List ℕ) (verdict : Verdict) (r : CheckResult) → ofVerdict verdict ≡ checkOf book → r ≡ checkResult (ofVerdict verdict)
@@ -42,9 +42,9 @@ compare-passes book u v allowance comparison r d f =
       compared = subst (λ (a : Answer). Compared book u v allowance a) (d .is) d;
     }
 
-pub least-passes : (book u old buffer : List ℕ) (offset : ℕ) (least : Least) (r : LeastResult) → LeastOutcome.after (ofLeast least) buffer ≡ leastOf book u old offset
-    → r ≡ leastResult (ofLeast least) → LeastNumbers.after r buffer ≡ leastNumbers (leastOf book u old offset)
-least-passes book u old buffer offset least r e f = rw (f, ← e)
+pub least-passes : (book u old buffer : List ℕ) (offset : ℕ) (least : Least) (r : LeastResult) → LeastAnswered book u old offset (LeastOutcome.after (ofLeast least) buffer)
+    → r ≡ leastResult (ofLeast least) → LeastNumbered book u old offset r buffer
+least-passes book u old buffer offset least r e f = record { is = rw (f, ← e .is); answered = subst (LeastAnswered book u old offset) (e .is) e }
 
 pub program-passes : (input old output : List ℕ) (printed : Printed) (r : ProgramResult) → OutputOutcome.after (ofPrinted printed) output ≡ outputOf input old
     → r ≡ programResult (ofPrinted printed) → ProgramNumbers.after r output ≡ programNumbers (outputOf input old)

@@ -3,8 +3,8 @@ use Prim.Native.Nat.{ℕ}
 use mathlib.Core.List.{List}
 use mathlib.Core.Path.{_≡_}
 use Rattle.words.specs.Words.{Word}
-use Rattle.answers.specs.Entries.{SheetOutcome, RoundOutcome, compareOf, LeastOutcome, OutputOutcome}
-use Rattle.answers.specs.Demands.{Compared}
+use Rattle.answers.specs.Entries.{SheetOutcome, RoundOutcome, compareOf, LeastOutcome, leastOf, OutputOutcome}
+use Rattle.answers.specs.Demands.{Compared, LeastAnswered}
 use Rattle.results.specs.declared.CheckResult.{CheckResult}
 use Rattle.results.specs.declared.RoundResult.{RoundResult}
 use Rattle.results.specs.declared.CompareResult.{CompareResult}
@@ -41,6 +41,11 @@ pub data LeastNumbers : Type 0 where
 
 abbrev pub leastNumbers : LeastOutcome → LeastNumbers
 leastNumbers (LeastOutcome.after a buffer) = LeastNumbers.after (leastResult a) buffer
+
+-- the numbers and the buffer are those of the definition's outcome, of which all is promised that the entry promises
+pub record LeastNumbered (book : List ℕ) (u : Word) (old : List ℕ) (offset : ℕ) (r : LeastResult) (buffer : List ℕ) : Type 0 where
+  pub is : LeastNumbers.after r buffer ≡ leastNumbers (leastOf book u old offset)
+  pub answered : LeastAnswered book u old offset (leastOf book u old offset)
 
 -- what the program returns, and the lent buffer after it
 pub data ProgramNumbers : Type 0 where

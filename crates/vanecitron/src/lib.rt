@@ -1,9 +1,9 @@
 // The public entries as C functions, for C and Rust. Each passes on what the entry of crate `entries` answers, as the numbers that crate `results` gives for it;
 // each promise is the entry's own, read through them. None has a `requires`.
 ghost use mathlib.Core.Path.{_≡_};
-ghost use Rattle.answers.specs.Entries.{checkOf, sheetOf, roundOf, leastOf, outputOf};
+ghost use Rattle.answers.specs.Entries.{checkOf, sheetOf, roundOf, outputOf};
 ghost use Rattle.results.specs.Numbers.{checkResult};
-ghost use Rattle.vanecitron.specs.Calls.{version, SheetNumbers as Sheets, sheetNumbers, RoundNumbers as Rounds, roundNumbers, ComparedNumbers, LeastNumbers as Leasts, leastNumbers, ProgramNumbers as Programs, programNumbers};
+ghost use Rattle.vanecitron.specs.Calls.{version, SheetNumbers as Sheets, sheetNumbers, RoundNumbers as Rounds, roundNumbers, ComparedNumbers, LeastNumbered, ProgramNumbers as Programs, programNumbers};
 use results::CheckResult;
 use results::CompareResult;
 use results::LeastResult;
@@ -80,7 +80,7 @@ pub extern "C" fn vanecitron_least(
     buffer: &mut [u8],
     offset: usize,
 ) -> LeastResult
-    ensures { λ r. ⌜ Leasts.after r (now (buffer .exit)) ≡ leastNumbers (leastOf (now (book .entry)) (now (u .entry)) (now (buffer .entry)) offset) ⌝ }
+    ensures { λ r. ⌜ LeastNumbered (now (book .entry)) (now (u .entry)) (now (buffer .entry)) offset r (now (buffer .exit)) ⌝ }
 {
     results::of_least(entries::least_word(book, u, buffer, offset))
 }
