@@ -55,6 +55,14 @@ pub fn common_prefix_in(
     i
 }
 
+// Whether text[from..to) stands in s at place q.
+pub fn begins_in(text: &[u16], from: usize, to: usize, s: &[u16], q: usize) -> bool
+    requires { ⌜ Span (now text) from to ⌝ }
+    ensures { λ r. ⌜ r ≡ isPrefix (part (now (text .entry)) from to) (drop q (now (s .entry))) ⌝ }
+{
+    common_prefix_in(text, from, to, s, q, 0) == to - from
+}
+
 // How many letters of text[from..to) agree with the word at place q, where m are known to.
 pub fn common_prefix(
     text: &[u16],

@@ -120,7 +120,7 @@ pub fn hint_applies(
 {
     let at = q.at;
     let to = q.to;
-    if joined::begins(text, at, to, &given[0..0], given, from) {
+    if joined::begins_in(text, at, to, given, from) {
         return false;
     }
     let own = sites::read_site(table, i);
@@ -206,7 +206,7 @@ pub fn stands_quiet(
     requires { ⌜ QuietAsked (now text) (now table) n (now given) at to k ⌝ }
     ensures { λ r. ⌜ r ≡ quiet (now (text .entry)) (wordsIn (now (text .entry)) (now (table .entry)) n) (now (given .entry)) at to k ⌝ }
 {
-    if joined::begins(text, at, to, &given[0..0], given, k) {
+    if joined::begins_in(text, at, to, given, k) {
         let end = k + (to - at);
         return walks::first_clean(text, table, n, given, k, end) == end;
     }

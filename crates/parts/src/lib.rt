@@ -408,7 +408,7 @@ fn write_member(
         return Stage::None;
     }
     let own = sites::read_site(table, i);
-    if joined::begins(text, own.tail, own.stop, &given[0..0], given, k) {
+    if joined::begins_in(text, own.tail, own.stop, given, k) {
         return write_whole(text, table, n, given, s, i, j, k + (own.stop - own.tail));
     }
     write_apart(text, table, n, given, s, i, k, c)

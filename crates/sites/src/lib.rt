@@ -57,7 +57,7 @@ pub fn mark_in_x(text: &[u16], s: Site, p: &[u16]) -> bool
     if s.middle - from < p.len() {
         return false;
     }
-    joined::begins(text, from, from + p.len(), &p[0..0], p, 0)
+    joined::begins_in(text, from, from + p.len(), p, 0)
 }
 
 // Whether p is a prefix of the X at s or at t.

@@ -6,9 +6,6 @@ pub hint-applies-spec : {M : Type 1} → statement M
 hint-applies-spec =
     tie.close
     (tie.spec
-    (λ c. search applications)
-    (λ c. search applications)
-    (λ c. search applications)
     (λ c κs. search applications)
     (λ c. search applications)
     (λ c κs. search applications)

@@ -6,9 +6,6 @@ pub stands-quiet-spec : {M : Type 1} → statement M
 stands-quiet-spec =
     tie.close
     (tie.spec
-    (λ c. search quiets)
-    (λ c. search quiets)
-    (λ c. search quiets)
     (λ c κs. search quiets)
     (λ c. search quiets)
     (λ c. search quiets)

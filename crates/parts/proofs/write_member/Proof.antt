@@ -8,9 +8,6 @@ write-member-spec =
     (tie.spec
     (λ c. search members)
     (λ c κs. search members)
-    (λ c. search members)
-    (λ c. search members)
-    (λ c. search members)
     (λ c κs. search members)
     (λ c. search members)
     (λ c. search members)

@@ -10,8 +10,5 @@ mark-in-x-spec =
     (λ c. search marks)
     (λ c. search marks)
     (λ c. search marks)
-    (λ c. search marks)
-    (λ c. search marks)
-    (λ c. search marks)
     (λ c κs. search marks)
     (λ c. search marks))
