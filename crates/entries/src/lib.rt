@@ -14,8 +14,8 @@ use format::Reading;
 use layout::Table;
 use layout::Text;
 use loaded::accepted_sheet;
-use loaded::loaded_least;
 use loaded::loaded_round;
+use placing::loaded_least;
 use program::Output;
 use refusals::Refusal;
 

@@ -1,6 +1,6 @@
 use Rattle.answers.proofs.LeastCalls.{placings}
-use Rattle.loaded.proofs.place_least.Statement.{statement}
-use Rattle.loaded.proofs.place_least.Tie as tie
+use Rattle.placing.proofs.place_least.Statement.{statement}
+use Rattle.placing.proofs.place_least.Tie as tie
 
 pub place-least-spec : {M : Type 1} → statement M
 place-least-spec =

@@ -1,6 +1,6 @@
 use Rattle.answers.proofs.LeastCalls.{spaces}
-use Rattle.loaded.proofs.lacks_space.Statement.{statement}
-use Rattle.loaded.proofs.lacks_space.Tie as tie
+use Rattle.placing.proofs.lacks_space.Statement.{statement}
+use Rattle.placing.proofs.lacks_space.Tie as tie
 
 pub lacks-space-spec : {M : Type 1} → statement M
 lacks-space-spec =

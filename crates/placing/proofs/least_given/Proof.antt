@@ -1,6 +1,6 @@
 use Rattle.answers.proofs.LeastCalls.{givenLeasts}
-use Rattle.loaded.proofs.least_given.Statement.{statement}
-use Rattle.loaded.proofs.least_given.Tie as tie
+use Rattle.placing.proofs.least_given.Statement.{statement}
+use Rattle.placing.proofs.least_given.Tie as tie
 
 pub least-given-spec : {M : Type 1} → statement M
 least-given-spec =

@@ -1,6 +1,6 @@
 use Rattle.answers.proofs.LeastCalls.{widened}
-use Rattle.loaded.proofs.place_bytes.Statement.{statement}
-use Rattle.loaded.proofs.place_bytes.Tie as tie
+use Rattle.placing.proofs.place_bytes.Statement.{statement}
+use Rattle.placing.proofs.place_bytes.Tie as tie
 
 pub place-bytes-spec : {M : Type 1} → statement M
 place-bytes-spec =
