@@ -11,13 +11,14 @@ use Rattle.words.specs.Words.{Word}
 use Rattle.words.specs.Relations.{Relation, relationWords}
 use Rattle.overlap.specs.Pieces.{word, IsPiece, C4}
 use Rattle.overlap.specs.Cuts.{longestSuffixPiece}
+use Rattle.overlap.specs.Counts.{PieceCount, pieces, number, FewestPieces}
 use Rattle.overlap.specs.Maximal.{MaximalPiecePrefix, MaximalPieceSuffix}
 use Rattle.overlap.specs.Verdict.{IsRepeated, FewPieces, Lowest, Distinct}
 use Rattle.congruence.specs.Congruence.{Congruent}
 use Rattle.congruence.specs.Rounds.{Rounds}
 use Rattle.least.specs.Order.{houseRank}
 use Rattle.least.specs.Least.{LeastWord}
-use Rattle.limits.specs.Limits.{leastMost}
+use Rattle.limits.specs.Limits.{sideMost, leastMost, sheetX, sheetY, sheetZ, sheetPieces, sheetColumns}
 use Rattle.format.specs.Book.{Presentation, BookReading, readBook}
 use Rattle.presentation.specs.Loading.{loadBook}
 use Rattle.given.specs.declared.Given.the-variants as Words
@@ -37,8 +38,9 @@ pub record Accepts (relations : List Relation) (answer : Answer) : Type 0 where
 abbrev pub Acceptance : Type 0
 Acceptance = (book : List ℕ) (presentation : Presentation) → readBook book ≡ BookReading.read presentation → Accepts (presentation .relations) (checkOf book)
 
--- demand 2, of relation word i and its three bytes on a sheet: they are the lengths of its maximal piece prefix X, its middle word Y and its maximal piece
--- suffix Z, where Y is not empty and no piece
+-- demand 2, of relation word i and its row of bytes on a sheet: the lengths of its maximal piece prefix X, its middle word Y and its maximal piece suffix Z,
+-- where Y is not empty and no piece; and the smallest number of pieces whose product it is, at least four, which is a product of that many pieces and of no fewer;
+-- or 255, and then it is no product of pieces. So small are the numbers of pieces that 255 stands for none alone
 pub record Reports (B : List Word) (sheet : List ℕ) (i : ℕ) : Type 0 where
   pub x : Word
   pub y : Word
@@ -48,24 +50,29 @@ pub record Reports (B : List Word) (sheet : List ℕ) (i : ℕ) : Type 0 where
   pub last : MaximalPieceSuffix B i z
   pub some : 0 < length y
   pub middle : ¬ IsPiece B y
-  pub xByte : getD sheet (3 * i) 0 ≡ length x
-  pub yByte : getD sheet (3 * i + 1) 0 ≡ length y
-  pub zByte : getD sheet (3 * i + 2) 0 ≡ length z
+  pub count : PieceCount
+  pub fewest : FewestPieces B (word B i) count
+  pub small : (n : ℕ) → count ≡ pieces n → n ≤ sideMost
+  pub enough : 4 ≤ number count
+  pub xByte : getD sheet (sheetColumns * i + sheetX) 0 ≡ length x
+  pub yByte : getD sheet (sheetColumns * i + sheetY) 0 ≡ length y
+  pub zByte : getD sheet (sheetColumns * i + sheetZ) 0 ≡ length z
+  pub piecesByte : getD sheet (sheetColumns * i + sheetPieces) 0 ≡ number count
 
--- of the outcome for a lent buffer: the cuts of all relation words are at its start, and its length and the bytes behind them are the old ones
+-- of the outcome for a lent buffer: the rows of all relation words are at its start, and its length and the bytes behind them are the old ones
 pub record Sheeted (relations : List Relation) (old : List ℕ) (outcome : SheetOutcome) : Type 0 where
   pub sheet : List ℕ
   pub is : outcome ≡ SheetOutcome.after (accepted (length relations)) sheet
   pub reports : (i : ℕ) → i < length (relationWords relations) → Reports (relationWords relations) sheet i
   pub kept : length sheet ≡ length old
-  pub behind : (j : ℕ) → 3 * length (relationWords relations) ≤ j → getD sheet j 0 ≡ getD old j 0
+  pub behind : (j : ℕ) → sheetColumns * length (relationWords relations) ≤ j → getD sheet j 0 ≡ getD old j 0
 
--- of every accepted book: the sheet is in the buffer exactly when that has three bytes for each relation word, else 12 and the old buffer
+-- of every accepted book: the sheet is in the buffer exactly when that has a row of bytes for each relation word, else 12 and the old buffer
 pub record CutsReported : Type 0 where
   pub roomy : (book old : List ℕ) (presentation : Presentation) → loadBook book ≡ BookReading.read presentation
-      → 3 * length (relationWords (presentation .relations)) ≤ length old → Sheeted (presentation .relations) old (sheetOf book old)
+      → sheetColumns * length (relationWords (presentation .relations)) ≤ length old → Sheeted (presentation .relations) old (sheetOf book old)
   pub narrow : (book old : List ℕ) (presentation : Presentation) → loadBook book ≡ BookReading.read presentation
-      → length old < 3 * length (relationWords (presentation .relations)) → sheetOf book old ≡ SheetOutcome.after (refused 12 0) old
+      → length old < sheetColumns * length (relationWords (presentation .relations)) → sheetOf book old ≡ SheetOutcome.after (refused 12 0) old
 
 -- demand 3, of two words under relation words B, an allowance and an answer
 pub record Decides (B : List Word) (u v : Word) (allowance : ℕ) (answer : Answer) : Type 0 where

@@ -11,7 +11,7 @@ use Rattle.congruence.specs.Rows.{Next, round}
 use Rattle.congruence.specs.Rows.Next.{end, go}
 use Rattle.refusals.specs.declared.Refusal.{Refusal}
 use Rattle.refusals.specs.declared.Refusal.the-variants.{Narrow, NoSpace}
-use Rattle.limits.specs.Limits.{nextRoom, markMost}
+use Rattle.limits.specs.Limits.{nextRoom, markMost, sheetColumns}
 use Rattle.format.specs.Book.{Presentation, BookReading}
 use Rattle.presentation.specs.Loading.{loadBook}
 use Rattle.given.specs.declared.Given.{Given}
@@ -37,11 +37,11 @@ checkOf book = onLoaded (loadBook book) refusal (λ presentation. accepted (leng
 pub data SheetOutcome : Type 0 where
   after : Answer → List ℕ → SheetOutcome
 
--- the cut sheet: three bytes a relation word at the start of the lent buffer; 12 where it is too small
+-- the cut sheet: a row of bytes for each relation word at the start of the lent buffer; 12 where it is too small
 unfoldable pub sheetOf : List ℕ → List ℕ → SheetOutcome
 sheetOf book sheet =
     onLoaded (loadBook book) (λ r. after (refusal r) sheet) (λ presentation.
-    cond (ltb (length sheet) (6 * length (presentation .relations))) (after (refusal (Narrow 0)) sheet)
+    cond (ltb (length sheet) (sheetColumns * (2 * length (presentation .relations)))) (after (refusal (Narrow 0)) sheet)
     (after (accepted (length (presentation .relations))) (over (cutSheet (relationWords (presentation .relations))) sheet)))
 
 -- the outcome of a round: an answer, and the three lent buffers after it

@@ -5,7 +5,7 @@ use mathlib.Core.List.{List}
 use lib.Dec.{ltb}
 use lib.ListN.{length}
 use Rattle.words.specs.Words.{Word}
-use Rattle.limits.specs.Limits.{lettersMost, comparedMost}
+use Rattle.limits.specs.Limits.{lettersMost, comparedMost, sheetColumns}
 use Rattle.refusals.specs.declared.Refusal.the-variants.{Narrow}
 use Rattle.moves.specs.State.{Ready}
 use Rattle.leastword.specs.Writing.{Asked}
@@ -41,7 +41,7 @@ pub record LeastWidenable (text table : List ℕ) (n : ℕ) (u : Word) (wide : L
 -- the sheet by the table
 unfoldable pub acceptedSheet : List ℕ → ℕ → List ℕ → SheetOutcome
 acceptedSheet table relations sheet =
-    cond (ltb (length sheet) (6 * relations)) (SheetOutcome.after (refusal (Narrow 0)) sheet)
+    cond (ltb (length sheet) (sheetColumns * (2 * relations))) (SheetOutcome.after (refusal (Narrow 0)) sheet)
     (SheetOutcome.after (accepted relations) (over (sheetBytes table (2 * relations)) sheet))
 
 -- a round that was made, as an answer

@@ -1,4 +1,5 @@
-// The cuts of the relation words, by the table of longest pieces: where X ends and where Z starts (document 01, "Pieces, C(4) and cuts").
+// The cuts of the relation words, by the table of longest pieces: where X ends and where Z starts (document 01, "Pieces, C(4) and cuts"). With them the number
+// of pieces goes into the table (document 02, slip 2).
 ghost use mathlib.Core.Path.{_≡_};
 ghost use Prim.Native.Nat.{_-_};
 ghost use Rattle.loose.specs.Pieces.{InTables, AllInTables};
@@ -9,6 +10,7 @@ use layout::start_of;
 use loose::piece;
 use numbers::narrow;
 use numbers::wide;
+use products::number_of;
 
 // Where the longest piece that ends the word starts.
 fn tail_start(longest: &[u8], start: usize, end: usize) -> usize
@@ -46,18 +48,20 @@ fn z_start(longest: &[u8], table: &[u16], i: usize) -> u16
     narrow(a)
 }
 
-// Sets the two cuts of word i.
+// Sets the two cuts and the number of pieces of word i.
 fn cut_word(longest: &[u8], table: &mut [u16], i: usize)
     requires { ⌜ InTables (now longest) (now table) i ⌝ }
     ensures { λ _. ⌜ now (table .exit) ≡ cutWord (now (longest .entry)) (now (table .entry)) i ⌝ }
 {
     let x = x_end(longest, table, i);
     let z = z_start(longest, table, i);
+    let pieces = number_of(longest, table, i);
     table[Table::COLUMNS * i + Table::X_END] = x;
     table[Table::COLUMNS * i + Table::Z_START] = z;
+    table[Table::COLUMNS * i + Table::PIECES] = pieces;
 }
 
-// Sets the cuts of n words.
+// Sets the cuts and the numbers of pieces of n words.
 pub fn cut(longest: &[u8], table: &mut [u16], n: usize)
     requires { ⌜ AllInTables (now longest) (now table) n ⌝ }
     ensures { λ _. ⌜ CutBy (now (longest .entry)) (now (table .entry)) n (now (table .exit)) ⌝ }

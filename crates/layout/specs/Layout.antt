@@ -1,5 +1,5 @@
 -- How the relation words lie in arrays. One text holds them one after the other, and behind each stands its fence, a code of its own that is no letter.
--- A table of numbers has the positions of each word and of its cuts, and behind the last word's the length of all. Behind the positions stands an index: for
+-- A table of numbers has the positions of each word and of its cuts and its number of pieces, and behind the last word's the length of all. Behind the positions stands an index: for
 -- each letter, where the words that begin with it are listed; the list; and how much each shares with the one before it. Places.antt says where in the table.
 use Prim.Native.Nat.{ℕ, zero, suc, _+_, _-_, _<_, _≤_}
 use mathlib.Core.List.{List, [], _∷_, _++_}
@@ -8,7 +8,8 @@ use lib.ListN.{length, getD}
 use Rattle.words.specs.Words.{Word, commonPrefix, part}
 use Rattle.overlap.specs.Pieces.{C4}
 use Rattle.overlap.specs.Cuts.{xlen, zlen}
-use Rattle.layout.specs.Places.{wordsMost, wordMost, lettersBound, fenceOf, startCell, xEndCell, zStartCell, endCell, firstCell, orderCell, sharedCell, tableRoom}
+use Rattle.overlap.specs.Counts.{number, pieceCount}
+use Rattle.layout.specs.Places.{wordsMost, wordMost, lettersBound, fenceOf, startCell, xEndCell, zStartCell, piecesCell, endCell, firstCell, orderCell, sharedCell, tableRoom}
 
 abbrev pub startOf : List ℕ → ℕ → ℕ
 startOf table i = getD table (startCell i) 0
@@ -18,6 +19,9 @@ xEndOf table i = getD table (xEndCell i) 0
 
 abbrev pub zStartOf : List ℕ → ℕ → ℕ
 zStartOf table i = getD table (zStartCell i) 0
+
+abbrev pub piecesOf : List ℕ → ℕ → ℕ
+piecesOf table i = getD table (piecesCell i) 0
 
 abbrev pub endOf : List ℕ → ℕ → ℕ
 endOf table i = getD table (endCell i) 0
@@ -36,7 +40,7 @@ unfoldable pub wordsIn : List ℕ → List ℕ → ℕ → List Word
 wordsIn text table zero = []
 wordsIn text table (suc n) = wordsIn text table n ++ (wordAt text table n ∷ [])
 
--- n relation words are laid out; the positions of cuts are not spoken of
+-- n relation words are laid out; the positions of cuts and the numbers of pieces are not spoken of
 pub record Laid (text table : List ℕ) (n : ℕ) : Type 0 where
   pub few : n ≤ wordsMost
   pub room : startCell n < length table
@@ -61,10 +65,11 @@ pub record WordPair (text table : List ℕ) (h k : ℕ) : Type 0 where
   pub first : h < number
   pub second : k < number
 
--- the table's cuts are the cuts of the relation words
+-- the table's cuts are the cuts of the relation words, and its numbers of pieces are theirs
 pub record Cut (text table : List ℕ) (n : ℕ) : Type 0 where
   pub xEnd : (i : ℕ) → i < n → xEndOf table i ≡ startOf table i + xlen (wordsIn text table n) i
   pub zStart : (i : ℕ) → i < n → zStartOf table i + zlen (wordsIn text table n) i ≡ endOf table i
+  pub pieces : (i : ℕ) → i < n → piecesOf table i ≡ number (pieceCount (wordsIn text table n) i)
 
 -- the words that begin with letter c are listed from place firstOf c on and below firstOf (c + 1)
 abbrev pub firstOf : List ℕ → ℕ → ℕ

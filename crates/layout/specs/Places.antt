@@ -1,4 +1,4 @@
--- Where the relation words, their cuts and the index lie in the text and the table: the limits that this goes by, the columns of the table and its cells.
+-- Where the relation words, their cuts, their numbers of pieces and the index lie in the text and the table: the limits that this goes by, the columns of the table and its cells.
 -- `layout::fixed_places` promises that the constants of the code are these numbers.
 use Prim.Native.Nat.{ℕ, _+_, _*_}
 use mathlib.Core.List.{List, [], _∷_}
@@ -24,9 +24,9 @@ fenceOf i = lettersBound + i
 abbrev pub textRoom : ℕ
 textRoom = wordsMost * (wordMost + 1)
 
--- a relation word has a row of the table: its start, the end of X, the start of Z and its end
+-- a relation word has a row of the table: its start, the end of X, the start of Z, its number of pieces and its end
 abbrev pub columns : ℕ
-columns = 4
+columns = 5
 
 abbrev pub startColumn : ℕ
 startColumn = 0
@@ -37,8 +37,11 @@ xEndColumn = 1
 abbrev pub zStartColumn : ℕ
 zStartColumn = 2
 
+abbrev pub piecesColumn : ℕ
+piecesColumn = 3
+
 abbrev pub endColumn : ℕ
-endColumn = 3
+endColumn = 4
 
 abbrev pub startCell : ℕ → ℕ
 startCell i = columns * i + startColumn
@@ -49,10 +52,13 @@ xEndCell i = columns * i + xEndColumn
 abbrev pub zStartCell : ℕ → ℕ
 zStartCell i = columns * i + zStartColumn
 
+abbrev pub piecesCell : ℕ → ℕ
+piecesCell i = columns * i + piecesColumn
+
 abbrev pub endCell : ℕ → ℕ
 endCell i = columns * i + endColumn
 
--- all positions: behind the last row stands where a further word would start
+-- all rows: behind the last one stands where a further word would start
 abbrev pub positions : ℕ
 positions = columns * wordsMost + 1
 
@@ -83,5 +89,5 @@ tableRoom = sharedFrom + wordsMost
 abbrev pub fixedPlaces : List ℕ
 fixedPlaces =
     wordsMost ∷ wordMost ∷ lettersBound ∷ textRoom
-    ∷ columns ∷ startColumn ∷ xEndColumn ∷ zStartColumn ∷ endColumn
+    ∷ columns ∷ startColumn ∷ xEndColumn ∷ zStartColumn ∷ piecesColumn ∷ endColumn
     ∷ positions ∷ firstFrom ∷ orderFrom ∷ sharedFrom ∷ tableRoom ∷ []

@@ -2,8 +2,8 @@
 ghost use mathlib.Core.Path.{_≡_};
 ghost use Prim.Native.Nat.{_<_};
 ghost use lib.ListN.{length};
-ghost use Rattle.layout.specs.Places.{startCell, xEndCell, zStartCell, endCell, firstCell, orderCell, sharedCell, fixedPlaces};
-ghost use Rattle.layout.specs.Layout.{startOf, xEndOf, zStartOf, endOf, firstOf, orderOf, sharedOf};
+ghost use Rattle.layout.specs.Places.{startCell, xEndCell, zStartCell, piecesCell, endCell, firstCell, orderCell, sharedCell, fixedPlaces};
+ghost use Rattle.layout.specs.Layout.{startOf, xEndOf, zStartOf, piecesOf, endOf, firstOf, orderOf, sharedOf};
 use limits::Head;
 use limits::Relation;
 use numbers::wide16;
@@ -24,20 +24,22 @@ impl Text {
     pub const ROOM: usize = Text::WORDS * (Text::WORD + 1);
 }
 
-// The table: a row of positions for each relation word, and one position more, the length of all; then the index of the relation words by their first letters.
+// The table: a row of numbers for each relation word, and one position more, the length of all; then the index of the relation words by their first letters.
 pub struct Table {}
 
 impl Table {
-    // A row has the start of a relation word, the end of its X, the start of its Z and its end.
+    // A row has the start of a relation word, the end of its X, the start of its Z, its number of pieces and its end.
     pub const START: usize = 0;
 
     pub const X_END: usize = 1;
 
     pub const Z_START: usize = 2;
 
-    pub const END: usize = 3;
+    pub const PIECES: usize = 3;
 
-    pub const COLUMNS: usize = 4;
+    pub const END: usize = 4;
+
+    pub const COLUMNS: usize = 5;
 
     pub const POSITIONS: usize = Table::COLUMNS * Text::WORDS + 1;
 
@@ -54,7 +56,7 @@ impl Table {
 }
 
 // The constants are the numbers that the definitions write again, in the order of specs/Places.antt.
-pub fn fixed_places() -> [usize; 14]
+pub fn fixed_places() -> [usize; 15]
     ensures { λ r. ⌜ r ≡ fixedPlaces ⌝ }
 {
     [
@@ -66,6 +68,7 @@ pub fn fixed_places() -> [usize; 14]
         Table::START,
         Table::X_END,
         Table::Z_START,
+        Table::PIECES,
         Table::END,
         Table::POSITIONS,
         Table::FIRST,
@@ -97,6 +100,14 @@ pub fn z_start_of(table: &[u16], k: usize) -> usize
     ensures { λ r. ⌜ r ≡ zStartOf (now (table .entry)) k ⌝ }
 {
     wide16(table[Table::COLUMNS * k + Table::Z_START])
+}
+
+// Its number of pieces.
+pub fn pieces_of(table: &[u16], k: usize) -> usize
+    requires { ⌜ piecesCell k < length (now table) ⌝ }
+    ensures { λ r. ⌜ r ≡ piecesOf (now (table .entry)) k ⌝ }
+{
+    wide16(table[Table::COLUMNS * k + Table::PIECES])
 }
 
 // Where it ends.

@@ -76,6 +76,22 @@ leastMost = 262144
 abbrev pub placeSpacing : ℕ
 placeSpacing = 5000
 
+-- the cut sheet has a row of bytes for each relation word: the lengths of X, Y and Z, and the number of pieces
+abbrev pub sheetX : ℕ
+sheetX = 0
+
+abbrev pub sheetY : ℕ
+sheetY = 1
+
+abbrev pub sheetZ : ℕ
+sheetZ = 2
+
+abbrev pub sheetPieces : ℕ
+sheetPieces = 3
+
+abbrev pub sheetColumns : ℕ
+sheetColumns = 4
+
 -- the bytes of the program's input are at most
 abbrev pub inputMost : ℕ
 inputMost = 60000
@@ -99,11 +115,12 @@ unfoldable pub inputOf : ℕ → MadeInput
 inputOf bytes = cond (ltb inputMost bytes) Inputs.Heavy (Inputs.Good (record { length = bytes }))
 
 -- the numbers of the definitions, as the code gives its constants: of the head, of every record, of a relation; of the words of comparisons and rounds, and of
--- least words; of the program's input
+-- least words; of the cut sheet; of the program's input
 abbrev pub fixedAmounts : List ℕ
 fixedAmounts =
     headKind ∷ headLength ∷ lettersMost
     ∷ recordPrefix
     ∷ relationKind ∷ relationLength ∷ relationsMost ∷ sideMost
     ∷ comparisonKind ∷ comparisonLength ∷ comparedMost ∷ allowanceMost ∷ roundMost ∷ nextRoom ∷ markMost ∷ leastMost ∷ placeSpacing
+    ∷ sheetX ∷ sheetY ∷ sheetZ ∷ sheetPieces ∷ sheetColumns
     ∷ inputMost ∷ []

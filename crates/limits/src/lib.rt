@@ -128,6 +128,22 @@ impl Word {
     }
 }
 
+// The cut sheet: a row of bytes for each relation word.
+pub struct Sheet {}
+
+impl Sheet {
+    // A row has the lengths of X, Y and Z, and the number of pieces.
+    pub const X: usize = 0;
+
+    pub const Y: usize = 1;
+
+    pub const Z: usize = 2;
+
+    pub const PIECES: usize = 3;
+
+    pub const COLUMNS: usize = 4;
+}
+
 // What the program reads, by its length.
 pub struct Input {
     pub length: usize,
@@ -152,7 +168,7 @@ impl Input {
 }
 
 // The constants are the numbers that the definitions write again, in the order of specs/Limits.antt.
-pub fn fixed_amounts() -> [usize; 18]
+pub fn fixed_amounts() -> [usize; 23]
     ensures { λ r. ⌜ r ≡ fixedAmounts ⌝ }
 {
     [
@@ -173,6 +189,11 @@ pub fn fixed_amounts() -> [usize; 18]
         Word::MARK,
         Word::LEAST,
         Word::SPACING,
+        Sheet::X,
+        Sheet::Y,
+        Sheet::Z,
+        Sheet::PIECES,
+        Sheet::COLUMNS,
         Input::MOST,
     ]
 }

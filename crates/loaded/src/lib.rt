@@ -8,6 +8,7 @@ ghost use Rattle.answers.specs.Parts.{SheetReady, acceptedSheet, answeredRound}
 use answers::Round;
 use answers::Verdict;
 use given::Given;
+use limits::Sheet;
 use limits::Word;
 use refusals::Refusal;
 use rounds::RoundLengths;
@@ -17,7 +18,7 @@ pub fn accepted_sheet(table: &[u16], relations: usize, sheet: &mut [u8]) -> Verd
     requires { ⌜ SheetReady (now table) relations ⌝ }
     ensures { λ r. ⌜ Sheets.after (ofVerdict r) (now (sheet .exit)) ≡ acceptedSheet (now (table .entry)) relations (now (sheet .entry)) ⌝ }
 {
-    if sheet.len() < 6 * relations {
+    if sheet.len() < Sheet::COLUMNS * (2 * relations) {
         return Verdict::Refused(Refusal::Narrow(0));
     }
     sheet::write_sheet(table, 2 * relations, sheet);

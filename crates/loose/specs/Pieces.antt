@@ -8,7 +8,7 @@ use lib.Dec.{leb}
 use lib.ListN.{length, getD}
 use Rattle.words.specs.Search.{least}
 use Rattle.overlap.specs.Cuts.{three, firstLoose}
-use Rattle.layout.specs.Places.{textRoom, endCell}
+use Rattle.layout.specs.Places.{wordMost, textRoom, endCell}
 use Rattle.layout.specs.Layout.{startOf, endOf, wordsIn, Laid}
 use Rattle.longest.specs.Longest.{Tabled}
 
@@ -36,13 +36,14 @@ pub record Measurable (text table : List ℕ) (n : ℕ) (longest : List ℕ) : T
   pub fenced : Fenced text table n
   pub room : textRoom ≤ length longest
 
--- the numbers of word i stay in both tables
+-- the numbers of word i stay in both tables: it is short, and the longest piece at each of its places ends in it
 pub record InTables (longest table : List ℕ) (i : ℕ) : Type 0 where
   pub room : endCell i < length table
   pub upwards : startOf table i ≤ endOf table i
   pub inside : endOf table i < length longest
   pub short : endOf table i ≤ textRoom
-  pub within : startOf table i + getD longest (startOf table i) 0 ≤ endOf table i
+  pub long : endOf table i ≤ startOf table i + wordMost
+  pub within : (p : ℕ) → startOf table i ≤ p → p ≤ endOf table i → p + getD longest p 0 ≤ endOf table i
 
 -- the numbers of n words stay in both tables
 pub record AllInTables (longest table : List ℕ) (n : ℕ) : Type 0 where

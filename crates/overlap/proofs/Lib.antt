@@ -6,3 +6,4 @@ pub mod Agree
 pub mod Maximal
 pub mod Verdicts
 pub mod Theorems
+pub mod Examples

@@ -6,8 +6,9 @@ use mathlib.Core.Logic.{_↔_}
 use mathlib.Core.Path.{_≡_}
 use lib.ListN.{length, take, drop}
 use Rattle.words.specs.Words.{Word, isPrefix}
-use Rattle.overlap.specs.Pieces.{word, Occurs, IsPiece, C4}
-use Rattle.overlap.specs.Cuts.{len, pieceAt, xOf, xyOf, zOf}
+use Rattle.overlap.specs.Pieces.{word, Occurs, IsPiece, IsProduct, SmallOverlap, C4}
+use Rattle.overlap.specs.Cuts.{len, pieceAt, loose, xOf, xyOf, zOf}
+use Rattle.overlap.specs.Counts.{PieceCount, pieces, noProduct, number, FewestPieces, pieceCount, NumbersAtLeast}
 use Rattle.overlap.specs.Maximal.{MaximalPiecePrefix, MaximalPieceSuffix, yOf}
 use Rattle.overlap.specs.Verdict.{Verdict, judge, RightVerdict}
 
@@ -22,6 +23,22 @@ VerdictsRight = (B : List Word) (v : Verdict) → (judge B ≡ v) ↔ RightVerdi
 -- a presentation is accepted exactly when it meets C(4)
 abbrev pub AcceptsC4 : Type 0
 AcceptsC4 = (B : List Word) → (judge B ≡ Verdict.accepted) ↔ C4 B
+
+-- the number of pieces that is computed is the smallest, and no other is
+abbrev pub CountsFewest : Type 0
+CountsFewest = (B : List Word) (i : ℕ) (c : PieceCount) → i < length B → (pieceCount B i ≡ c) ↔ FewestPieces B (word B i) c
+
+-- what the numbers say: C(m) is that all are at least m, so a presentation is accepted exactly when all are at least four; and the search for three pieces
+-- finds them exactly where the number is below four
+pub record NumbersDecide : Type 0 where
+  pub overlap : (B : List Word) (m : ℕ) → m ≤ noProduct → SmallOverlap m B ↔ NumbersAtLeast m B
+  pub accepts : (B : List Word) → (judge B ≡ Verdict.accepted) ↔ NumbersAtLeast 4 B
+  pub searched : (B : List Word) (i : ℕ) → i < length B → (loose B i ≡ true) ↔ (number (pieceCount B i) < 4)
+
+-- no word is a product of more pieces than it has letters unless fewer do as well; so 255 stands for none alone wherever words are shorter than that
+pub record NumbersSmall : Type 0 where
+  pub short : (B : List Word) (i n : ℕ) → i < length B → pieceCount B i ≡ pieces n → n ≤ len B i
+  pub alone : (B : List Word) (i : ℕ) → i < length B → len B i < noProduct → (number (pieceCount B i) ≡ noProduct) ↔ ((n : ℕ) → ¬ IsProduct B n (word B i))
 
 -- X is the maximal piece prefix of its relation word, and Z the maximal piece suffix
 abbrev pub CutsMaximal : Type 0

@@ -1,6 +1,7 @@
 // Pieces, C(4) and cuts: definitions and laws, with no code under them (document 003, section 1).
 // What is shown of them is the contracts of functions that do nothing, so that it is found here and the check holds it fast.
-ghost use Rattle.overlap.specs.Theorems.{TestsPieces, VerdictsRight, AcceptsC4, CutsMaximal, CutsGood, PiecesClosed};
+ghost use Rattle.overlap.specs.Theorems.{TestsPieces, VerdictsRight, AcceptsC4, CountsFewest, NumbersDecide, NumbersSmall, CutsMaximal, CutsGood, PiecesClosed};
+ghost use Rattle.overlap.specs.Examples.{NumbersHold};
 
 // The test for a piece is true exactly of pieces.
 pub fn test_is_for_pieces()
@@ -30,4 +31,24 @@ pub fn cuts_are_good()
 // A factor of a piece is a piece, and more relation words make no fewer pieces.
 pub fn pieces_are_closed()
     ensures { λ _. ⌜ PiecesClosed ⌝ }
+{}
+
+// The number of pieces that is computed, by taking the longest each time, is the smallest.
+pub fn counts_are_fewest()
+    ensures { λ _. ⌜ CountsFewest ⌝ }
+{}
+
+// C(m) is that every number is at least m; a presentation is accepted exactly when every number is at least four.
+pub fn numbers_decide()
+    ensures { λ _. ⌜ NumbersDecide ⌝ }
+{}
+
+// A number of pieces is at most the word's length, so that 255 stands for no product alone.
+pub fn numbers_are_small()
+    ensures { λ _. ⌜ NumbersSmall ⌝ }
+{}
+
+// The numbers that were worked out by hand.
+pub fn worked_numbers_hold()
+    ensures { λ _. ⌜ NumbersHold ⌝ }
 {}

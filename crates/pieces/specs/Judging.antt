@@ -24,7 +24,7 @@ verdictOf (Loose i) = loose i
 unfoldable pub looseVerdict : List Word → Verdict
 looseVerdict B = cond (ltb (firstLoose B) (length B)) (loose (firstLoose B)) accepted
 
--- the cuts of n words are in the table, and no other number has changed
+-- the cuts and the numbers of pieces of n words are in the table, and nothing else has changed
 pub record Recut (text table : List ℕ) (n : ℕ) (after : List ℕ) : Type 0 where
   pub kept : OnlyCuts table n after
   pub cut : Cut text after n

@@ -1,8 +1,12 @@
-// The cut sheet: for each relation word in order the lengths of X, Y and Z, one byte each (document 01, "Pieces, C(4) and cuts").
+// The cut sheet: for each relation word in order the lengths of X, Y and Z and the number of pieces, one byte each (document 01, "Pieces, C(4) and cuts";
+// document 02, slip 2).
 ghost use Prim.Native.Nat.{_+_, _-_, _*_, _<_, _≤_};
 ghost use mathlib.Core.Path.{_≡_};
 ghost use Rattle.writing.specs.Writing.{written, over};
-ghost use Rattle.sheet.specs.Sheet.{CutsIn, LengthsRoom, SheetRoom, xAt, yAt, zAt, lengthsAt, sheetBytes};
+ghost use Rattle.limits.specs.Limits.{sheetColumns};
+ghost use Rattle.layout.specs.Layout.{piecesOf};
+ghost use Rattle.sheet.specs.Sheet.{CutsIn, RowRoom, SheetRoom, xAt, yAt, zAt, rowAt, sheetBytes};
+use limits::Sheet;
 
 // A difference of two positions that is small.
 fn between(from: usize, to: usize) -> u8
@@ -34,13 +38,21 @@ fn z_length(table: &[u16], i: usize) -> u8
     between(layout::z_start_of(table, i), layout::end_of(table, i))
 }
 
-// Writes the lengths of relation word i in their place.
-fn write_lengths(table: &[u16], i: usize, sheet: &mut [u8])
-    requires { ⌜ LengthsRoom (now table) i (now sheet) ⌝ }
-    ensures { λ _. ⌜ now (sheet .exit) ≡ written (3 * i) (lengthsAt (now (table .entry)) i) (now (sheet .entry)) ⌝ }
+// Its number of pieces.
+fn pieces(table: &[u16], i: usize) -> u8
+    requires { ⌜ CutsIn (now table) i ⌝ }
+    ensures { λ r. ⌜ r ≡ piecesOf (now (table .entry)) i ⌝ }
 {
-    let lengths = [x_length(table, i), y_length(table, i), z_length(table, i)];
-    writing::put_bytes(&lengths, sheet, 3 * i);
+    layout::pieces_of(table, i) as u8
+}
+
+// Writes the row of relation word i in its place.
+fn write_row(table: &[u16], i: usize, sheet: &mut [u8])
+    requires { ⌜ RowRoom (now table) i (now sheet) ⌝ }
+    ensures { λ _. ⌜ now (sheet .exit) ≡ written (sheetColumns * i) (rowAt (now (table .entry)) i) (now (sheet .entry)) ⌝ }
+{
+    let row = [x_length(table, i), y_length(table, i), z_length(table, i), pieces(table, i)];
+    writing::put_bytes(&row, sheet, Sheet::COLUMNS * i);
 }
 
 // Writes the sheet of n relation words at the start of a lent buffer.
@@ -50,7 +62,7 @@ pub fn write_sheet(table: &[u16], n: usize, sheet: &mut [u8])
 {
     let mut i = 0;
     while i < n {
-        write_lengths(table, i, sheet);
+        write_row(table, i, sheet);
         i += 1;
     }
 }
