@@ -32,7 +32,13 @@ LIMITS = {
     "Word::ALLOWANCE": "ALLOWANCE",
     "Word::SPACING": "PLACE_SPACING",
     "Input::MOST": "INPUT",
-    "6 * Relation::MOST": "SHEET",
+    "Sheet::COLUMNS": "SHEET_SIDE",
+    "Sheet::X": "SHEET_X",
+    "Sheet::Y": "SHEET_Y",
+    "Sheet::Z": "SHEET_Z",
+    "Sheet::PIECES": "SHEET_PIECES",
+    "Number::NONE": "NO_PRODUCT",
+    "2 * Sheet::COLUMNS * Relation::MOST": "SHEET",
     "Word::NEXT": "NEXT_RUN",
     "Word::MARK ": "NEXT_MARK",
     "Output::MOST": "OUTPUT",
@@ -75,7 +81,11 @@ def macros(text):
 
 
 def rust_constants(text):
-    return {name: int(number) for name, number in re.findall(r"^pub const (\w+): \w+ = ([\d_]+);", text, re.M)}
+    """The values of the wrapper's constants that are expressions over numbers and constants before them."""
+    found = {"__builtins__": {}}
+    for name, expression in re.findall(r"^pub const (\w+): \w+ = ([\w *+]+);", text, re.M):
+        found[name] = eval(expression, found)
+    return found
 
 
 def differ(what, expected, places):
