@@ -48,6 +48,9 @@ LIMITS = {
 # the header's name where it is another
 HEADER_NAMES = {"SHEET": "SHEET_MOST", "LEAST": "LEAST_MOST"}
 
+# what the book tool names too
+TOOL_NAMES = {"SHEET_SIDE", "NO_PRODUCT"}
+
 # the specification's word for a case of `Refusal` whose name is another; the macro and the reason are named by the word
 WORDS = {"UnknownLetter": "unknown step", "TooMany": "thick", "Repeated": "twice"}
 
@@ -88,6 +91,10 @@ def rust_constants(text):
     return found
 
 
+def tool_constants(text):
+    return {name: int(number) for name, number in re.findall(r"^(\w+) = (\d+)\b", text, re.M)}
+
+
 def differ(what, expected, places):
     """A line for each place, by name, whose value is not the expected one."""
     for place, found in places.items():
@@ -96,7 +103,7 @@ def differ(what, expected, places):
 
 
 def limits(header):
-    constants, wrapper = associated_constants(), rust_constants(WRAPPER) | rust_constants(REASONS)
+    constants, wrapper, tool = associated_constants(), rust_constants(WRAPPER) | rust_constants(REASONS), tool_constants(TOOL)
     for expression, name in LIMITS.items():
         try:
             number = value(expression, constants)
@@ -104,7 +111,10 @@ def limits(header):
             yield f"{missing.args[0]} is missing in the proved sources"
             continue
         macro = HEADER_NAMES.get(name, name)
-        yield from differ(expression.strip(), number, {f"VANECITRON_{macro} of the header": header.get(macro), f"{name} of the wrapper": wrapper.get(name)})
+        places = {f"VANECITRON_{macro} of the header": header.get(macro), f"{name} of the wrapper": wrapper.get(name)}
+        if name in TOOL_NAMES:
+            places[f"{name} of the book tool"] = tool.get(name)
+        yield from differ(expression.strip(), number, places)
 
 
 def outcomes(header):
