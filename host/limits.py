@@ -32,7 +32,13 @@ LIMITS = {
     "Word::ALLOWANCE": "ALLOWANCE",
     "Word::SPACING": "PLACE_SPACING",
     "Input::MOST": "INPUT",
-    "6 * Relation::MOST": "SHEET",
+    "Sheet::COLUMNS": "SHEET_SIDE",
+    "Sheet::X": "SHEET_X",
+    "Sheet::Y": "SHEET_Y",
+    "Sheet::Z": "SHEET_Z",
+    "Sheet::PIECES": "SHEET_PIECES",
+    "Number::NONE": "NO_PRODUCT",
+    "2 * Sheet::COLUMNS * Relation::MOST": "SHEET",
     "Word::NEXT": "NEXT_RUN",
     "Word::MARK ": "NEXT_MARK",
     "Output::MOST": "OUTPUT",
@@ -41,6 +47,9 @@ LIMITS = {
 
 # the header's name where it is another
 HEADER_NAMES = {"SHEET": "SHEET_MOST", "LEAST": "LEAST_MOST"}
+
+# what the book tool names too
+TOOL_NAMES = {"SHEET_SIDE", "NO_PRODUCT"}
 
 # the specification's word for a case of `Refusal` whose name is another; the macro and the reason are named by the word
 WORDS = {"UnknownLetter": "unknown step", "TooMany": "thick", "Repeated": "twice"}
@@ -75,7 +84,15 @@ def macros(text):
 
 
 def rust_constants(text):
-    return {name: int(number) for name, number in re.findall(r"^pub const (\w+): \w+ = ([\d_]+);", text, re.M)}
+    """The values of the wrapper's constants that are expressions over numbers and constants before them."""
+    found = {"__builtins__": {}}
+    for name, expression in re.findall(r"^pub const (\w+): \w+ = ([\w *+]+);", text, re.M):
+        found[name] = eval(expression, found)
+    return found
+
+
+def tool_constants(text):
+    return {name: int(number) for name, number in re.findall(r"^(\w+) = (\d+)\b", text, re.M)}
 
 
 def differ(what, expected, places):
@@ -86,7 +103,7 @@ def differ(what, expected, places):
 
 
 def limits(header):
-    constants, wrapper = associated_constants(), rust_constants(WRAPPER) | rust_constants(REASONS)
+    constants, wrapper, tool = associated_constants(), rust_constants(WRAPPER) | rust_constants(REASONS), tool_constants(TOOL)
     for expression, name in LIMITS.items():
         try:
             number = value(expression, constants)
@@ -94,7 +111,10 @@ def limits(header):
             yield f"{missing.args[0]} is missing in the proved sources"
             continue
         macro = HEADER_NAMES.get(name, name)
-        yield from differ(expression.strip(), number, {f"VANECITRON_{macro} of the header": header.get(macro), f"{name} of the wrapper": wrapper.get(name)})
+        places = {f"VANECITRON_{macro} of the header": header.get(macro), f"{name} of the wrapper": wrapper.get(name)}
+        if name in TOOL_NAMES:
+            places[f"{name} of the book tool"] = tool.get(name)
+        yield from differ(expression.strip(), number, places)
 
 
 def outcomes(header):

@@ -3,6 +3,7 @@
 
 This tool is a convenience outside the proved part: it only turns text into a program's input and back,
 and puts the program's output into the words of the text. What the program answers is decided by the program alone.
+Cuts and numbers of pieces are answers of a program too; which pieces they are, `explain` finds by itself.
 
 The text has one item a line; # begins a comment.
 
@@ -245,6 +246,18 @@ def pieces_of(sides):
     return twice
 
 
+def fewest_pieces(side, pieces):
+    """The fewest non-empty pieces whose product the side is: the longest each time, since every part of a piece is a piece. None where there are none."""
+    parts = []
+    while side:
+        length = max((n for n in range(1, len(side) + 1) if side[:n] in pieces), default=None)
+        if length is None:
+            return None
+        parts.append(side[:length])
+        side = side[length:]
+    return parts
+
+
 def three_pieces(side, pieces):
     """Non-empty pieces, at most three, whose product the side is."""
     for a in range(len(side) + 1):
@@ -261,11 +274,14 @@ class Explainer:
     def __init__(self, text):
         self.records = parse(text)
         self.rules = [record for record in self.records if record.kind == RULE]
+        self.sides = [side for rule in self.rules for side in rule.runs]
         self.comparisons = [record for record in self.records if record.kind == COMPARISON]
+        self.book = b"".join(record.to_bytes() for record in self.records if record.kind != COMPARISON)
         self.size = sum(len(record.to_bytes()) for record in self.records)
 
-    def explain(self, output):
-        """One explanation for each line of the output. Lines behind `book` belong to the comparisons in turn."""
+    def explain(self, output, program=None):
+        """One explanation for each line of the output. Lines behind `book` belong to the comparisons in turn. A program that tells the cut sheet adds the
+        lines of an accepted book's sides."""
         lines = output.splitlines()
         told, comparison, counted = [], 0, False
         for line in lines:
@@ -277,6 +293,7 @@ class Explainer:
             if word == "book":
                 counted = True
                 told.append(f"{line}: the book is accepted, with {self.count(int(match.group(2)), 'rule')}")
+                told += sheet_lines(self, program) if program else []
                 continue
             of = None
             if counted or len(self.comparisons) == 1:
@@ -367,14 +384,13 @@ class Explainer:
 
     def refusal_7(self, place, of):
         run, where = self.side(place)
-        sides = [side for rule in self.rules for side in rule.runs]
-        if run is None or run not in sides[:place]:
+        if run is None or run not in self.sides[:place]:
             return f"twice: {where}, equals an earlier side"
-        return f"twice: {where}, equals {self.side(sides.index(run))[1]}"
+        return f"twice: {where}, equals {self.side(self.sides.index(run))[1]}"
 
     def refusal_8(self, place, of):
         run, where = self.side(place)
-        parts = run and three_pieces(run, pieces_of([side for rule in self.rules for side in rule.runs]))
+        parts = run and three_pieces(run, pieces_of(self.sides))
         if not parts:
             return f"loose: {where}, is a product of three or fewer pieces"
         return f"loose: {where}, is a product of three or fewer pieces: {', '.join(map(run_text, parts))}"
@@ -414,10 +430,80 @@ class Explainer:
         return "no space: a buffer lent to the library has no room for the least run; neither program prints this of a text"
 
 
+# --- lines that a program answers ---
+
+BOOK_TOLD, RUN_TOLD = 8192, 4097  # the bytes that the program is told: a longer book or run is refused for what stands in these
+
+
+def ask(program, lines):
+    """What a program answers to some lines, a line for each."""
+    done = subprocess.run([program], input="".join(lines).encode("ascii"), capture_output=True, check=False)
+    answers = done.stdout.decode("ascii", "replace").splitlines()
+    if done.returncode != 0 or len(answers) != len(lines):
+        raise AnswerError(f"{program}: {len(answers)} answers to {len(lines)} lines, status {done.returncode}")
+    return answers
+
+
+def no_answer(program, answer, word, lacked):
+    """The error of an answer that is none."""
+    return AnswerError(f"{program}: '{answer[:40]}' is no answer to a line '{word}'; a program that was built before it {lacked} is built anew by: rt check cases")
+
+
+# --- the cut sheet ---
+
+SHEET_SIDE = 4  # the bytes of a side: the lengths of X, Y and Z, and the number of pieces
+NO_PRODUCT = 255  # the number of a side that is no product of pieces
+FEWEST = 4  # the pieces that C(4) asks of every side
+SHEET_LINE = re.compile(r"sheet (-|(?:[0-9a-f]{2})+)\Z")
+
+
+def is_row(row, side):
+    """Whether a side of an accepted book can have these bytes."""
+    return sum(row[:3]) == len(side) and (row[3] == NO_PRODUCT or FEWEST <= row[3] <= len(side))
+
+
+def sheet_rows(program, answer, sides):
+    """The bytes of each side that an answer tells."""
+    match = SHEET_LINE.match(answer)
+    sheet = bytes.fromhex(match.group(1).strip("-")) if match else b""
+    rows = [sheet[at : at + SHEET_SIDE] for at in range(0, len(sheet), SHEET_SIDE)]
+    if not match or len(sheet) != SHEET_SIDE * len(sides) or not all(map(is_row, rows, sides)):
+        raise no_answer(program, answer, "sheet", "gave four bytes a side")
+    return rows
+
+
+def cut_text(row, side):
+    x, y = row[0], row[0] + row[1]
+    return f"X {run_text(side[:x])}, Y {run_text(side[x:y])}, Z {run_text(side[y:])}"
+
+
+def number_text(number, side, sides, pieces):
+    """How far a side is from trouble, by its number of pieces; which pieces, or which step stands alone, is found here."""
+    if number == NO_PRODUCT:
+        alone = [code for code in side if sum(other.count(code) for other in sides) == 1]
+        reason = f": {run_text(bytes(alone[:1]))} stands nowhere else in the sides, and while that is so this side cannot be loose" if alone else ""
+        return f"no product of pieces{reason}"
+    parts = fewest_pieces(side, pieces) or []
+    named = f" ({', '.join(map(run_text, parts))})" if len(parts) == number else ""
+    if number == FEWEST:
+        return f"{number} pieces{named}, the fewest that are allowed: with one fewer the book would be loose"
+    return f"{number} pieces{named}, {number - FEWEST} more than the fewest allowed"
+
+
+def sheet_lines(explainer, program):
+    """A line for each side of an accepted book: its cut and how far it is from trouble, as the program tells them."""
+    sides, pieces = explainer.sides, pieces_of(explainer.sides)
+    [answer] = ask(program, [f"sheet {explainer.book[:BOOK_TOLD].hex()} {SHEET_SIDE * len(sides)}\n"])
+    if answer.startswith("refused"):
+        raise AnswerError(f"the output is not that of this text: {program} answers '{answer}' to its book")
+    for number, row in enumerate(sheet_rows(program, answer, sides)):
+        side, where = explainer.side(number)
+        yield f"    {where}: {cut_text(row, side)}; {number_text(row[3], side, sides, pieces)}"
+
+
 # --- least runs ---
 
 ROOM = 262144  # the most steps of a least run
-BOOK_TOLD, RUN_TOLD = 8192, 4097  # the bytes that the program is told: a longer book or run is refused for what stands in these
 BATCH = 100  # lines for one start of the program
 OF_BOOK = 8  # refusals up to this number are the book's
 LEAST_LINE = re.compile(r"least (\d+) (-|(?:[0-9a-f]{2})+)\Z|refused (\d+) (\d+)\Z")
@@ -466,15 +552,6 @@ def least_line(book, run):
     return f"least {book[:BOOK_TOLD].hex()} {run[:RUN_TOLD].hex() or '-'} {ROOM} 0\n"
 
 
-def ask(program, lines):
-    """What a program answers to some lines, a line for each."""
-    done = subprocess.run([program], input="".join(lines).encode("ascii"), capture_output=True, check=False)
-    answers = done.stdout.decode("ascii", "replace").splitlines()
-    if done.returncode != 0 or len(answers) != len(lines):
-        raise AnswerError(f"{program}: {len(answers)} answers to {len(lines)} lines, status {done.returncode}")
-    return answers
-
-
 def least_answer(program, answer):
     """The run that an answer tells, or else the number and place of its refusal."""
     match = LEAST_LINE.match(answer)
@@ -482,17 +559,16 @@ def least_answer(program, answer):
         return None, (int(match.group(3)), int(match.group(4)))
     run = bytes.fromhex(match.group(2).strip("-")) if match else None
     if run is None or len(run) != int(match.group(1)):
-        raise AnswerError(f"{program}: '{answer[:40]}' is no answer to a line 'least'; a program that was built before it had one is built anew by: rt check cases")
+        raise no_answer(program, answer, "least", "had one")
     return run, None
 
 
 def least_runs(text, given, program):
     """A line for each given run: its least run, or why it is refused. A refusal of the book is the only line."""
     explainer = Explainer(text)
-    book = b"".join(record.to_bytes() for record in explainer.records if record.kind != COMPARISON)
     for start in range(0, len(given), BATCH):
         batch = given[start : start + BATCH]
-        for of, answer in zip(batch, ask(program, [least_line(book, of.runs[0]) for of in batch])):
+        for of, answer in zip(batch, ask(program, [least_line(explainer.book, of.runs[0]) for of in batch])):
             run, refused = least_answer(program, answer)
             if refused is None:
                 yield run_text(run)
@@ -546,6 +622,8 @@ def arguments():
     command.add_argument("file", metavar="FILE", help="the bytes, or - for standard input")
     command.add_argument("-o", "--output", metavar="FILE", help="where the text goes; standard output if left out")
     command = commands.add_parser("explain", help="the program's output in the terms of the text", epilog=OUTSIDE)
+    command.add_argument("--program", metavar="PROGRAM", help="a program that answers a line 'sheet BOOK LENGTH', target/bin/cases: "
+                         "for an accepted book, the cut of each side and how far it is from trouble")
     command.add_argument("file", metavar="FILE.txt", help="the text")
     command.add_argument("program_output", metavar="OUTPUT", help="what the program printed: a file, - for standard input, or a line such as 'refused 8 3'")
     command = commands.add_parser("least", help="the least run of each run, or why it is refused", epilog=OUTSIDE)
@@ -570,7 +648,7 @@ def main(argv=None):
                 print(line)
         else:
             explainer = Explainer(read_text(options.file))
-            for line in explainer.explain(read_output(options.program_output)):
+            for line in explainer.explain(read_output(options.program_output), options.program):
                 print(line)
     except (TextError, BytesError) as error:
         print(f"{options.file}:{error}", file=sys.stderr)

@@ -1,5 +1,5 @@
-"""Tests of the readable form of books (booktext.py): the specification's example, round trips, every error, every explanation, least runs; and of ./compare and ./least on a
-text with an error."""
+"""Tests of the readable form of books (booktext.py): the specification's example, round trips, every error, every explanation, cut sheets, least runs; and of ./compare and
+./least on a text with an error."""
 
 import glob
 import os
@@ -247,9 +247,133 @@ class InFolder(unittest.TestCase):
             file.write(data)
         return path
 
+    def stand_in(self, name, answers):
+        """A program that stands in for the proved one: it knows these lines and their answers, and gives any other line back."""
+        path = self.file(name, f"#!{sys.executable}\nimport sys\nfor line in sys.stdin:\n    print({answers!r}.get(line[:-1], line[:-1]))\n".encode())
+        os.chmod(path, 0o755)
+        return path
+
+
+class Pieces(unittest.TestCase):
+    def test_the_fewest_pieces_as_worked_out_by_hand(self):
+        for rule, expected in [
+            ("a = b", [None, None]),
+            ("a = aa", ["a", "a a"]),
+            ("aa = b", ["a a", None]),
+            ("abdc = acbd", ["a bd c", "a c bd"]),
+            ("abdc = cadb", ["a b d c", "c a d b"]),
+            ("abcde = edcba", ["a b c d e", "e d c b a"]),
+            ("abab = bac", ["ab ab", None]),
+            ("daaa = dc", ["d aa a", None]),
+        ]:
+            sides = Explainer(f"letters 5\n{rule}\n").sides
+            found = [booktext.fewest_pieces(side, booktext.pieces_of(sides)) for side in sides]
+            with self.subTest(rule=rule):
+                self.assertEqual([parts and " ".join(map(booktext.run_text, parts)) for parts in found], expected)
+
+    def test_no_fewer_pieces_make_a_side(self):
+        chance = random.Random(11)
+        for _ in range(300):
+            letters = chance.randint(1, 4)
+            sides = [bytes(chance.randrange(letters) for _ in range(chance.randint(1, 9))) for _ in range(2 * chance.randint(1, 3))]
+            pieces = booktext.pieces_of(sides)
+            for side in sides:
+                # the fewest pieces of every front of the side, from the shortest on
+                fewest = [0]
+                for end in range(1, len(side) + 1):
+                    fewest.append(1 + min((fewest[at] for at in range(end) if side[at:end] in pieces), default=booktext.NO_PRODUCT))
+                parts = booktext.fewest_pieces(side, pieces)
+                self.assertEqual(parts is None, fewest[-1] > booktext.NO_PRODUCT)
+                self.assertEqual(booktext.three_pieces(side, pieces) is None, fewest[-1] > 3)
+                if parts is not None:
+                    self.assertEqual((len(parts), b"".join(parts)), (fewest[-1], side))
+
+
+class CutSheets(InFolder):
+    """The lines of a book's sides by a program that stands in for the proved one; cuts and numbers are worked out by hand."""
+
+    Q = EXAMPLE_BYTES[:19].hex()
+    ANSWERS = {
+        f"sheet {Q} 8": "sheet 0102010401020104",
+        "sheet 01000100020400020001010001 8": "sheet 000100ff000100ff",
+        "sheet 01000100050c000200050500010203040403020100 8": "sheet 0103010501030105",
+        "sheet 01000100400400020001011b3f 8": "sheet 000100ff000100ff",
+        "sheet 0100010004 0": "sheet -",
+        "sheet 0100010004050002000102000000 8": "refused 8 0",
+    }
+
+    def setUp(self):
+        super().setUp()
+        self.program = self.stand_in("program", self.ANSWERS)
+
+    def lines(self, text):
+        return list(booktext.sheet_lines(Explainer(text), self.program))
+
+    def test_the_fewest_that_are_allowed(self):
+        fewest = "the fewest that are allowed: with one fewer the book would be loose"
+        self.assertEqual(self.lines(EXAMPLE_TEXT), [
+            f"    rule 1, left side, on line 2, column 1: X a, Y bd, Z c; 4 pieces (a, b, d, c), {fewest}",
+            f"    rule 1, right side, on line 2, column 8: X c, Y ad, Z b; 4 pieces (c, a, d, b), {fewest}",
+        ])
+
+    def test_more_than_the_fewest(self):
+        self.assertEqual(self.lines("letters 5\nabcde = edcba\n"), [
+            "    rule 1, left side, on line 2, column 1: X a, Y bcd, Z e; 5 pieces (a, b, c, d, e), 1 more than the fewest allowed",
+            "    rule 1, right side, on line 2, column 9: X e, Y dcb, Z a; 5 pieces (e, d, c, b, a), 1 more than the fewest allowed",
+        ])
+
+    def test_no_product_of_pieces(self):
+        alone = "stands nowhere else in the sides, and while that is so this side cannot be loose"
+        self.assertEqual(self.lines("letters 2\na = b\n"), [
+            f"    rule 1, left side, on line 2, column 1: X -, Y a, Z -; no product of pieces: a {alone}",
+            f"    rule 1, right side, on line 2, column 5: X -, Y b, Z -; no product of pieces: b {alone}",
+        ])
+        self.assertIn(f"Y 63, Z -; no product of pieces: 63 {alone}", self.lines("letters 64\n27 = 63\n")[1])
+
+    def test_the_number_is_the_program_s(self):
+        # a number that is not this text's is told as it is, without pieces that would not fit it
+        sides = Explainer(EXAMPLE_TEXT).sides
+        self.assertEqual(booktext.number_text(6, sides[0], sides, booktext.pieces_of(sides)), "6 pieces, 2 more than the fewest allowed")
+        self.assertEqual(booktext.number_text(255, sides[0], sides, booktext.pieces_of(sides)), "no product of pieces")
+
+    def test_no_rules(self):
+        self.assertEqual(self.lines("letters 4\n"), [])
+
+    def test_they_stand_behind_the_book(self):
+        told = Explainer(EXAMPLE_TEXT).explain("book 1\nsame 2\n", self.program)
+        self.assertEqual([line.split(":")[0] for line in told], ["book 1", "    rule 1, left side, on line 2, column 1", "    rule 1, right side, on line 2, column 8", "same 2"])
+        self.assertEqual(len(Explainer(EXAMPLE_TEXT).explain("refused 8 0\n", self.program)), 1)
+
+    def test_what_is_no_answer(self):
+        with self.assertRaisesRegex(AnswerError, "not that of this text: .* answers 'refused 8 0'"):
+            self.lines("letters 4\na = aa\n")
+        for answer in [
+            "010201010201aaaa",  # three bytes a side
+            "01020104010201",  # a byte too few
+            "010201040102010401020104",  # a side too many
+            "0102010401010104",  # a cut that is shorter than its side
+            "0102010301020104",  # a number that no accepted book has
+            "0102010501020104",  # more pieces than steps
+            "-",
+        ]:
+            self.program = self.stand_in("another", {f"sheet {self.Q} 8": f"sheet {answer}"})
+            with self.subTest(answer=answer), self.assertRaisesRegex(AnswerError, "is no answer to a line 'sheet'; .* rt check cases"):
+                self.lines(EXAMPLE_TEXT)
+        self.program = self.stand_in("another", {f"sheet {self.Q} 8": "touched sheet 0102010401020104"})
+        with self.assertRaisesRegex(AnswerError, "is no answer"):
+            self.lines(EXAMPLE_TEXT)
+
+    def test_the_command(self):
+        text = self.file("book.txt", EXAMPLE_TEXT.encode())
+        code, output, error = run_tool("explain", "--program", self.program, text, "book 1\nsame 2")
+        self.assertEqual((code, error), (0, ""))
+        self.assertEqual(output.decode().splitlines(), Explainer(EXAMPLE_TEXT).explain("book 1\nsame 2\n", self.program))
+        self.assertEqual(run_tool("explain", "--program", self.program + "s", text, "book 1")[:2], (1, b""))
+        self.assertEqual(run_tool("explain", "--program", self.program + "s", text, "refused 1 0")[0], 0)
+
 
 class LeastRuns(InFolder):
-    """Least runs by a program that stands in for the proved one: it knows these lines, and what they must be answered by."""
+    """Least runs by a program that stands in for the proved one."""
 
     Q = EXAMPLE_BYTES[:19].hex()
     ANSWERS = {
@@ -266,8 +390,7 @@ class LeastRuns(InFolder):
 
     def setUp(self):
         super().setUp()
-        self.program = self.file("program", f"#!{sys.executable}\nimport sys\nfor line in sys.stdin:\n    print({self.ANSWERS!r}.get(line[:-1], line[:-1]))\n".encode())
-        os.chmod(self.program, 0o755)
+        self.program = self.stand_in("program", self.ANSWERS)
 
     def least(self, text, *runs):
         return list(booktext.least_runs(text, booktext.given_arguments(runs), self.program))

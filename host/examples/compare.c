@@ -39,6 +39,21 @@ static void print_run(const char *name, const uint8_t *run, uint64_t length)
     }
 }
 
+/* the cut sheet of a book: the cut of each side, and how many pieces it is the product of */
+static void print_sheet(const vanecitron_book *of, uint8_t *sheet, size_t room)
+{
+    vanecitron_check_result s = vanecitron_cut_sheet(of->bytes, of->length, sheet, room);
+    for (uint64_t i = 0; i < 2 * s.rules; i++) {
+        const uint8_t *side = sheet + VANECITRON_SHEET_SIDE * i;
+        printf("side %llu: X %u, Y %u, Z %u, ", (unsigned long long)i, side[VANECITRON_SHEET_X], side[VANECITRON_SHEET_Y], side[VANECITRON_SHEET_Z]);
+        if (side[VANECITRON_SHEET_PIECES] == VANECITRON_NO_PRODUCT) {
+            printf("no product of pieces\n");
+        } else {
+            printf("%u pieces\n", side[VANECITRON_SHEET_PIECES]);
+        }
+    }
+}
+
 static void compare(const char *first, const char *second, uint32_t allowance)
 {
     uint8_t u[16], v[16];
@@ -154,12 +169,8 @@ int main(void)
     printf("check: refused %u, rules %llu\n", c.refusal, (unsigned long long)c.rules);
 
     uint8_t sheet[VANECITRON_SHEET_MOST];
-    vanecitron_check_result s = vanecitron_cut_sheet(book.bytes, book.length, sheet, sizeof sheet);
-    printf("sheet:");
-    for (uint64_t i = 0; i < VANECITRON_SHEET(s.rules); i++) {
-        printf(" %u", sheet[i]);
-    }
-    printf("\nample allowance for 7 steps: %u\n", vanecitron_ample_allowance(sheet, s.rules, 7));
+    print_sheet(&book, sheet, sizeof sheet);
+    printf("ample allowance for 7 steps: %u\n", vanecitron_ample_allowance(sheet, c.rules, 7));
 
     compare("", "", 100);
     compare("a", "", 100);
@@ -167,7 +178,7 @@ int main(void)
     compare("abd", "cad", 100);
     compare("abdc", "cadb", 100);
     compare("abdcad", "cadbad", 100);
-    compare("cadbadb", "abdabdc", vanecitron_ample_allowance(sheet, s.rules, 7));
+    compare("cadbadb", "abdabdc", vanecitron_ample_allowance(sheet, c.rules, 7));
     compare("cadbadb", "abdabdc", 2);
     compare("cadbadb", "abdabdc", 3);
     compare("abde", "abd", 100);
@@ -185,8 +196,11 @@ int main(void)
     least("abde", 8, 0);
 
     uint8_t lent[VANECITRON_BOOK_MOST];
-    vanecitron_book loose = book_of(lent, sizeof lent, "a", "aa");
-    c = vanecitron_check(loose.bytes, loose.length);
+    vanecitron_book another = book_of(lent, sizeof lent, "a", "b");
+    printf("sheet of a = b:\n");
+    print_sheet(&another, sheet, sizeof sheet);
+    another = book_of(lent, sizeof lent, "a", "aa");
+    c = vanecitron_check(another.bytes, another.length);
     printf("check of a = aa: refused %u %llu (%s)\n", c.refusal, (unsigned long long)c.place, vanecitron_refusal_text(c.refusal));
     c = vanecitron_check(book.bytes, book.length - 1);
     printf("check of a book cut off: refused %u %llu (%s)\n", c.refusal, (unsigned long long)c.place, vanecitron_refusal_text(c.refusal));

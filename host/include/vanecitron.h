@@ -50,10 +50,10 @@ extern "C" {
 
 /* The version of this header; vanecitron_version gives that of the archive. */
 #define VANECITRON_VERSION_MAJOR 0u
-#define VANECITRON_VERSION_MINOR 3u
+#define VANECITRON_VERSION_MINOR 4u
 #define VANECITRON_VERSION_PATCH 0u
 #define VANECITRON_VERSION (10000u * VANECITRON_VERSION_MAJOR + 100u * VANECITRON_VERSION_MINOR + VANECITRON_VERSION_PATCH)
-#define VANECITRON_VERSION_TEXT "0.3.0"
+#define VANECITRON_VERSION_TEXT "0.4.0"
 
 /* Limits: more than these is refused. */
 #define VANECITRON_LETTERS 64u           /* the most letters of a book; at least 1 */
@@ -65,9 +65,17 @@ extern "C" {
 #define VANECITRON_ALLOWANCE 4294967295u /* the most rounds that an allowance can give */
 #define VANECITRON_INPUT 60000u          /* the most bytes of the program's input */
 
+/* The cut sheet. */
+#define VANECITRON_SHEET_SIDE 4u         /* the bytes of a side; the places in them: */
+#define VANECITRON_SHEET_X 0u            /* the length of X */
+#define VANECITRON_SHEET_Y 1u            /* the length of Y */
+#define VANECITRON_SHEET_Z 2u            /* the length of Z */
+#define VANECITRON_SHEET_PIECES 3u       /* the number of pieces */
+#define VANECITRON_NO_PRODUCT 255u       /* the number of a side that is no product of pieces */
+
 /* The least sizes of lent buffers. */
-#define VANECITRON_SHEET(rules) (6u * (rules))          /* the cut sheet of a book with so many rules */
-#define VANECITRON_SHEET_MOST VANECITRON_SHEET(VANECITRON_RULES) /* of any book */
+#define VANECITRON_SHEET(rules) (2u * VANECITRON_SHEET_SIDE * (rules)) /* the cut sheet of a book with so many rules */
+#define VANECITRON_SHEET_MOST VANECITRON_SHEET(VANECITRON_RULES)       /* of any book */
 #define VANECITRON_NEXT_RUN 4224u        /* the next u and the next v of a single round */
 #define VANECITRON_NEXT_MARK 64u         /* the next p of a single round */
 #define VANECITRON_OUTPUT 110022u        /* the program's output: no input has a longer one */
@@ -199,9 +207,15 @@ uint32_t vanecitron_version(void);
 vanecitron_check_result vanecitron_check(const uint8_t *book, size_t book_length);
 
 /*
- * Writes the cut sheet of a book: for each side in order the lengths of X, its longest front that is a piece, of Z, its longest end that is a piece,
- * and of Y, the rest between them, as the three bytes X, Y, Z. `sheet` is lent and has at least VANECITRON_SHEET(rules) bytes;
- * VANECITRON_SHEET_MOST is enough for every book.
+ * Writes the cut sheet of a book: VANECITRON_SHEET_SIDE bytes for each side in order, and in them, each in its place:
+ *   VANECITRON_SHEET_X       the length of X, the side's longest front that is a piece;
+ *   VANECITRON_SHEET_Y       the length of Y, the rest between X and Z;
+ *   VANECITRON_SHEET_Z       the length of Z, its longest end that is a piece;
+ *   VANECITRON_SHEET_PIECES  the smallest number of pieces whose product the side is, or VANECITRON_NO_PRODUCT.
+ * The number says how far the side is from trouble: C(4) asks for 4 or more, so that an accepted book has no smaller one. VANECITRON_NO_PRODUCT says
+ * that the side is no product of pieces at all: it has a step that stands nowhere else in the sides. Any other number is at most 64.
+ *
+ * `sheet` is lent and has at least VANECITRON_SHEET(rules) bytes; VANECITRON_SHEET_MOST is enough for every book.
  * Refusals 1 to 8, 12.
  */
 vanecitron_check_result vanecitron_cut_sheet(const uint8_t *book, size_t book_length, uint8_t *sheet, size_t sheet_length);
@@ -224,9 +238,9 @@ vanecitron_round_result vanecitron_round(
  * Compares two runs: VANECITRON_SAME exactly when a chain of exchanges joins them, VANECITRON_DIFFERENT exactly when none does, with the number of
  * rounds that were needed. VANECITRON_SPENT exactly when the two runs need more rounds than the allowance.
  *
- * An allowance that is never spent: the rounds are at most (k + 2) times the number of steps of u, where k is the longest Z, that is, the largest of
- * the third bytes of the cut sheet (0 without rules). vanecitron_ample_allowance reckons it. It is at most 66 times 4096, which fits. The rounds are
- * also at most (k + 1) times the number of steps of the shorter run. Both are proved.
+ * An allowance that is never spent: the rounds are at most (k + 2) times the number of steps of u, where k is the longest Z of the
+ * cut sheet (0 without rules). vanecitron_ample_allowance reckons it. It is at most 66 times 4096, which fits. The rounds are also at most (k + 1)
+ * times the number of steps of the shorter run. Both are proved.
  * Refusals 1 to 11.
  */
 vanecitron_compare_result vanecitron_compare(
@@ -268,9 +282,8 @@ static inline uint32_t vanecitron_ample_allowance(const uint8_t *sheet, size_t r
 {
     uint32_t k = 0;
     for (size_t side = 0; side < 2 * rules; side++) {
-        if (sheet[3 * side + 2] > k) {
-            k = sheet[3 * side + 2];
-        }
+        uint8_t z = sheet[VANECITRON_SHEET_SIDE * side + VANECITRON_SHEET_Z];
+        k = z > k ? z : k;
     }
     return u_length > VANECITRON_ALLOWANCE / (k + 2) ? VANECITRON_ALLOWANCE : (k + 2) * (uint32_t)u_length;
 }

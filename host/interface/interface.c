@@ -1,6 +1,6 @@
 /*
- * Tests of what the C headers add to the archive: outcomes that no refusal has, least runs and where they stand, the version, the texts of refusals, and
- * the writer of books with its bounds.
+ * Tests of what the C headers add to the archive: outcomes that no refusal has, the sides of the cut sheet, least runs and where they stand, the version,
+ * the texts of refusals, and the writer of books with its bounds.
  * Built and run by host/test. Each claim that fails is printed, and the program then ends with 1.
  */
 #include <stdio.h>
@@ -106,6 +106,41 @@ static void outcomes(void)
     CLAIM(VANECITRON_PLACE_RUN(4095) == 0 && VANECITRON_PLACE_POSITION(4095) == 4095);
 }
 
+/* the sheet of a book of one rule in a buffer of so many bytes, and the bytes behind it: each side has a cut x y z and so many pieces; or 12 */
+static void sheet_in(size_t room, const uint8_t *book, size_t book_length, uint8_t x, uint8_t y, uint8_t z, uint8_t pieces)
+{
+    uint8_t sheet[VANECITRON_SHEET(1) + 4], expected[VANECITRON_SHEET(1) + 4];
+    memset(sheet, 0xa5, sizeof sheet);
+    memset(expected, 0xa5, sizeof expected);
+    vanecitron_check_result r = vanecitron_cut_sheet(book, book_length, sheet, room);
+    if (room < VANECITRON_SHEET(1)) {
+        CLAIM(r.refusal == VANECITRON_NARROW && r.place == 0 && r.rules == 0);
+    } else {
+        CLAIM(r.refusal == VANECITRON_ACCEPTED && r.place == 0 && r.rules == 1);
+        for (uint8_t *side = expected; side < expected + VANECITRON_SHEET(1); side += VANECITRON_SHEET_SIDE) {
+            side[VANECITRON_SHEET_X] = x;
+            side[VANECITRON_SHEET_Y] = y;
+            side[VANECITRON_SHEET_Z] = z;
+            side[VANECITRON_SHEET_PIECES] = pieces;
+        }
+    }
+    CLAIM(memcmp(sheet, expected, sizeof sheet) == 0);
+}
+
+/* of Q each letter is a piece and no longer run is, and so of abcde = edcba; of a = b no letter is */
+static void sheets(void)
+{
+    static const uint8_t letters[] = {1, 0, 1, 0, 2, 4, 0, 2, 0, 1, 1, 0, 1};
+    static const uint8_t mirrored[] = {1, 0, 1, 0, 5, 12, 0, 2, 0, 5, 5, 0, 1, 2, 3, 4, 4, 3, 2, 1, 0};
+    CLAIM(VANECITRON_SHEET(1) == 8 && VANECITRON_SHEET_MOST == 256);
+    for (size_t room = 0; room <= VANECITRON_SHEET(1) + 4; room++) {
+        sheet_in(room, example, Q, 1, 2, 1, 4);
+        sheet_in(room, letters, sizeof letters, 0, 1, 0, VANECITRON_NO_PRODUCT);
+        sheet_in(room, mirrored, sizeof mirrored, 1, 3, 1, 5);
+    }
+    CLAIM(vanecitron_cut_sheet(example, VANECITRON_BOOK_HEAD, NULL, 0).refusal == VANECITRON_ACCEPTED);
+}
+
 /* the least run of each side of book Q is abdc; where it has no space, and where the empty run has */
 static void least_runs(void)
 {
@@ -195,7 +230,7 @@ static void writer(void)
 
 static void allowances(void)
 {
-    const uint8_t sheet[] = {1, 2, 1, 1, 2, 63};
+    const uint8_t sheet[] = {1, 2, 1, 4, 1, 2, 63, VANECITRON_NO_PRODUCT};
     CLAIM(vanecitron_ample_allowance(sheet, 0, 7) == 14 && vanecitron_ample_allowance(sheet, 1, 7) == 455);
     CLAIM(vanecitron_ample_allowance(sheet, 1, VANECITRON_RUN) == 65 * VANECITRON_RUN);
     CLAIM(vanecitron_ample_allowance(sheet, 1, SIZE_MAX) == VANECITRON_ALLOWANCE);
@@ -204,6 +239,7 @@ static void allowances(void)
 int main(void)
 {
     outcomes();
+    sheets();
     least_runs();
     version();
     texts();

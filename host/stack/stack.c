@@ -530,6 +530,8 @@ static void limits(void)
     begin_book(5);
     add_rule(sides[0], 1, sides[1], VANECITRON_SIDE);
     add_rule(sides[2], 1, sides[3], VANECITRON_SIDE);
+    begin_call();
+    measure(&cut_sheet, "rules 2"); /* no side is a product of pieces */
     runs_of_step(0, VANECITRON_ROUND_RUN, VANECITRON_ROUND_RUN, 0);
     measure(&single_round, "next 4222 4222 -");
     runs_of_step(0, VANECITRON_RUN, VANECITRON_RUN, 0);

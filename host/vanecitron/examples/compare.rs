@@ -2,7 +2,9 @@
 
 use std::error::Error;
 
-use vanecitron::{ample_allowance, check, compare, cut_sheet, cut_sheet_into, least, least_into, program, round, BookWriter, BOOK, SHEET};
+use vanecitron::{
+    ample_allowance, check, compare, cut_sheet, cut_sheet_into, least, least_into, program, round, BookWriter, BOOK, SHEET, SHEET_SIDE,
+};
 
 fn main() -> Result<(), Box<dyn Error>> {
     // abdc and cadb over four letters
@@ -13,12 +15,14 @@ fn main() -> Result<(), Box<dyn Error>> {
     let book = writer.bytes();
 
     println!("rules: {}", check(book)?);
-    println!("cuts: {:?}", cut_sheet(book)?);
+    for (side, cut) in cut_sheet(book)?.iter().enumerate() {
+        println!("side {side}: X {}, Y {}, Z {}; {}", cut.x, cut.y, cut.z, cut.pieces);
+    }
     println!("first round: {:?}", round(book, &u, &v, &[])?);
 
     let mut sheet = [0; SHEET];
     let rules = cut_sheet_into(book, &mut sheet)?;
-    let allowance = ample_allowance(&sheet[..6 * rules], u.len());
+    let allowance = ample_allowance(&sheet[..2 * SHEET_SIDE * rules], u.len());
     println!("comparison within {allowance} rounds: {:?}", compare(book, &u, &v, allowance)?);
     match compare(book, &u, &v, 1) {
         Err(refusal) => println!("with an allowance of 1: {refusal}"),

@@ -12,7 +12,7 @@
 //! come with the feature `alloc`, which is on unless it is turned off.
 //!
 //! ```
-//! use vanecitron::{ample_allowance, compare, cut_sheet_into, BookWriter, Comparison, BOOK, SHEET};
+//! use vanecitron::{ample_allowance, compare, cut_sheet_into, BookWriter, Comparison, BOOK, SHEET, SHEET_SIDE};
 //!
 //! // four letters, and the rule abdc = cadb
 //! let mut bytes = [0; BOOK];
@@ -22,7 +22,7 @@
 //! // an allowance that no comparison of a first run of 7 steps spends
 //! let mut sheet = [0; SHEET];
 //! let rules = cut_sheet_into(book.bytes(), &mut sheet)?;
-//! let allowance = ample_allowance(&sheet[..6 * rules], 7);
+//! let allowance = ample_allowance(&sheet[..2 * SHEET_SIDE * rules], 7);
 //! assert_eq!(allowance, 21);
 //!
 //! // cadbadb and abdabdc are joined by a chain of exchanges; cadbadb and abdabda are not
@@ -42,11 +42,13 @@ mod book;
 mod owned;
 mod raw;
 mod refusal;
+mod sheet;
 
 pub use book::{BookWriter, NoRoom, BOOK};
 #[cfg(feature = "alloc")]
-pub use owned::{cut_sheet, least, program, round, Cut, Round};
+pub use owned::{cut_sheet, least, program, round, Round};
 pub use refusal::{Place, Reason, Refusal, Run, PLACE_SPACING};
+pub use sheet::{cuts, Cut, PieceCount};
 
 /// The most letters of a book.
 pub const LETTERS: usize = 64;
@@ -62,8 +64,20 @@ pub const ROUND_RUN: usize = 4_160;
 pub const ROUND_MARK: usize = 64;
 /// The most rounds that an allowance can give.
 pub const ALLOWANCE: u32 = 4_294_967_295;
-/// The least size of the buffer lent for the cut sheet of any book; six bytes a rule are enough for one.
-pub const SHEET: usize = 192;
+/// The bytes of a side on the cut sheet.
+pub const SHEET_SIDE: usize = 4;
+/// The place of the length of X in a side's bytes on the cut sheet.
+pub const SHEET_X: usize = 0;
+/// The place of the length of Y.
+pub const SHEET_Y: usize = 1;
+/// The place of the length of Z.
+pub const SHEET_Z: usize = 2;
+/// The place of the number of pieces.
+pub const SHEET_PIECES: usize = 3;
+/// The number of a side that is no product of pieces.
+pub const NO_PRODUCT: u8 = 255;
+/// The least size of the buffer lent for the cut sheet of any book; [`SHEET_SIDE`] bytes for each of its sides are enough for one.
+pub const SHEET: usize = 2 * SHEET_SIDE * RULES;
 /// The least size of the buffers lent for the next u and the next v.
 pub const NEXT_RUN: usize = 4_224;
 /// The least size of the buffer lent for the next p.
@@ -119,8 +133,21 @@ pub fn check(book: &[u8]) -> Result<usize, Refusal> {
     Ok(result.rules as usize)
 }
 
-/// Writes the lengths of X, Y and Z of each side in order, three bytes a side, and gives the number of rules.
-/// X is the longest front of the side that is a piece, Z its longest end that is one, and Y the rest. Bytes behind them are untouched.
+/// Writes the cut sheet of a book and gives the number of its rules. Each side in order has [`SHEET_SIDE`] bytes: the lengths of X, Y and Z, and the smallest
+/// number of pieces whose product the side is, [`NO_PRODUCT`] where it is none. X is the longest front of the side that is a piece, Z its longest end that is
+/// one, and Y the rest. Bytes behind the sheet are untouched. [`cuts`] tells the sides of a sheet.
+///
+/// ```
+/// use vanecitron::{cut_sheet_into, cuts, PieceCount, SHEET_SIDE};
+///
+/// // abcde = edcba over five letters: each letter is a piece, and no longer run is
+/// let book = [1, 0, 1, 0, 5, 12, 0, 2, 0, 5, 5, 0, 1, 2, 3, 4, 4, 3, 2, 1, 0];
+/// let mut sheet = [0; 2 * SHEET_SIDE];
+/// assert_eq!(cut_sheet_into(&book, &mut sheet)?, 1);
+/// assert_eq!(sheet, [1, 3, 1, 5, 1, 3, 1, 5]);
+/// assert!(cuts(&sheet).all(|cut| cut.pieces == PieceCount::Pieces(5)));
+/// # Ok::<(), vanecitron::Refusal>(())
+/// ```
 pub fn cut_sheet_into(book: &[u8], sheet: &mut [u8]) -> Result<usize, Refusal> {
     let result = raw::cut_sheet(book, sheet);
     refusal::none(result.refusal, result.place)?;
@@ -130,7 +157,7 @@ pub fn cut_sheet_into(book: &[u8], sheet: &mut [u8]) -> Result<usize, Refusal> {
 /// An allowance that no comparison of a first run of this length uses up: (k + 2) times the length, where k is the longest Z of the sheet, which is
 /// given as its bytes. Plain Rust, outside the proof.
 pub fn ample_allowance(sheet: &[u8], first_length: usize) -> u32 {
-    let k = sheet.chunks_exact(3).map(|side| side[2] as u64).max().unwrap_or(0);
+    let k = cuts(sheet).map(|cut| cut.z as u64).max().unwrap_or(0);
     u32::try_from((k + 2).saturating_mul(first_length as u64)).unwrap_or(ALLOWANCE)
 }
 

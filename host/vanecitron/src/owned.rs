@@ -3,15 +3,8 @@
 use alloc::vec;
 use alloc::vec::Vec;
 
-use crate::{cut_sheet_into, least_into, program_into, round_into, Refusal, RoundLengths, NEXT_MARK, NEXT_RUN, OUTPUT, RUN, SHEET, SIDE};
-
-/// The lengths of the three parts of a side: X, its longest front that is a piece, Z, its longest end that is a piece, and Y, the rest.
-#[derive(Debug, Clone, Copy, PartialEq, Eq, Hash)]
-pub struct Cut {
-    pub x: u8,
-    pub y: u8,
-    pub z: u8,
-}
+use crate::{cut_sheet_into, cuts, least_into, program_into, round_into, Cut, Refusal, RoundLengths};
+use crate::{NEXT_MARK, NEXT_RUN, OUTPUT, RUN, SHEET, SHEET_SIDE, SIDE};
 
 /// What a single round gives: the end, or the next u, v and p.
 #[derive(Debug, Clone, PartialEq, Eq, Hash)]
@@ -21,20 +14,20 @@ pub enum Round {
     Next { u: Vec<u8>, v: Vec<u8>, p: Vec<u8> },
 }
 
-/// The cut of each side in order.
+/// The cut of each side in order, with its number of pieces.
 ///
 /// ```
-/// use vanecitron::{cut_sheet, Cut};
+/// use vanecitron::{cut_sheet, Cut, PieceCount};
 ///
 /// // a = b over two letters: no side has a piece but the empty run
 /// let book = [1, 0, 1, 0, 2, 4, 0, 2, 0, 1, 1, 0, 1];
-/// assert_eq!(cut_sheet(&book)?, [Cut { x: 0, y: 1, z: 0 }; 2]);
+/// assert_eq!(cut_sheet(&book)?, [Cut { x: 0, y: 1, z: 0, pieces: PieceCount::NoProduct }; 2]);
 /// # Ok::<(), vanecitron::Refusal>(())
 /// ```
 pub fn cut_sheet(book: &[u8]) -> Result<Vec<Cut>, Refusal> {
     let mut sheet = [0; SHEET];
     let rules = cut_sheet_into(book, &mut sheet)?;
-    Ok(sheet[..6 * rules].chunks_exact(3).map(|side| Cut { x: side[0], y: side[1], z: side[2] }).collect())
+    Ok(cuts(&sheet[..2 * SHEET_SIDE * rules]).collect())
 }
 
 /// One round from u, v and the front mark p.

@@ -1,6 +1,10 @@
-//! What the wrapper adds to the archive: typed places and reasons, the writer of books with its bounds, and room enough for a least run.
+//! What the wrapper adds to the archive: typed places and reasons, the sides of the cut sheet, the writer of books with its bounds, and room enough for a least
+//! run.
 
-use vanecitron::{check, least, least_into, BookWriter, NoRoom, Place, Reason, Run, BOOK, LEAST, RULES, RUN, SIDE};
+use vanecitron::{
+    ample_allowance, check, cut_sheet, cut_sheet_into, cuts, least, least_into, BookWriter, Cut, NoRoom, PieceCount, Place, Reason, Run,
+};
+use vanecitron::{BOOK, LEAST, NO_PRODUCT, RULES, RUN, SHEET, SHEET_SIDE, SIDE};
 
 /// Book Q and the comparison abdc, cadb with the allowance 100, as the specification writes their bytes ("The program").
 const EXAMPLE: [u8; 39] = [
@@ -87,6 +91,62 @@ fn reasons_and_places_have_their_numbers() {
 
 /// Book Q is the front of the example.
 const Q: &[u8] = EXAMPLE.split_at(19).0;
+
+#[test]
+fn a_sheet_has_four_bytes_a_side() {
+    let expected = [1, 2, 1, 4, 1, 2, 1, 4];
+    for room in 0..12 {
+        let mut bytes = [0xa5; 12];
+        let result = cut_sheet_into(Q, &mut bytes[..room]);
+        if room < 2 * SHEET_SIDE {
+            let refusal = result.unwrap_err();
+            assert_eq!((refusal.reason, refusal.place), (Reason::Narrow, Place::Buffer(0)), "{room}");
+        } else {
+            assert_eq!(result, Ok(1));
+            assert_eq!(bytes[..8], expected);
+            bytes[..8].fill(0xa5);
+        }
+        assert_eq!(bytes, [0xa5; 12], "{room}");
+    }
+    let cut = Cut { x: 1, y: 2, z: 1, pieces: PieceCount::Pieces(4) };
+    assert_eq!(cut_sheet(Q).unwrap(), [cut; 2]);
+    assert!(cuts(&expected).eq([cut; 2]));
+    assert_eq!(SHEET, 256);
+}
+
+#[test]
+fn a_full_sheet_has_every_side() {
+    let mut bytes = [0; BOOK];
+    let mut book = BookWriter::new(&mut bytes, 64).unwrap();
+    for rule in 0..RULES as u8 {
+        book.rule(&[2 * rule], &[2 * rule + 1]).unwrap();
+    }
+    let cut = Cut { x: 0, y: 1, z: 0, pieces: PieceCount::NoProduct };
+    assert_eq!(cut_sheet(book.bytes()).unwrap(), [cut; 2 * RULES]);
+    assert_eq!(cut_sheet_into(book.bytes(), &mut [0; SHEET - 1]).unwrap_err().reason, Reason::Narrow);
+}
+
+#[test]
+fn counts_of_pieces_have_their_numbers() {
+    for number in 0..=255 {
+        let count = PieceCount::from_number(number);
+        assert_eq!(count.number(), number);
+        assert_eq!(count == PieceCount::NoProduct, number == NO_PRODUCT);
+        assert_eq!(count.spare(), (number != NO_PRODUCT).then(|| number.saturating_sub(4)));
+    }
+    assert_eq!(PieceCount::Pieces(5).to_string(), "5 pieces, 1 more than the fewest allowed");
+    assert_eq!(PieceCount::Pieces(64).to_string(), "64 pieces, 60 more than the fewest allowed");
+    assert_eq!(PieceCount::Pieces(3).to_string(), "fewer pieces than are allowed: 3");
+}
+
+/// k is the longest Z, whatever the other bytes are.
+#[test]
+fn an_allowance_goes_by_the_longest_z() {
+    assert_eq!(ample_allowance(&[], 7), 14);
+    assert_eq!(ample_allowance(&[1, 2, 1, 4, 1, 2, 1, 4], 7), 21);
+    assert_eq!(ample_allowance(&[0, 64, 0, 255, 1, 2, 61, 64], 7), 441);
+    assert_eq!(ample_allowance(&[0, 1, 63, 4], usize::MAX), u32::MAX);
+}
 
 #[test]
 fn a_least_run_stands_at_its_offset() {
