@@ -15,6 +15,7 @@ use Rattle.words.specs.Search.{greatest}
 use Rattle.words.proofs.Searching.{greatest-bound, greatest-is, greatest-same}
 use Rattle.overlap.specs.Cuts.{len, pieceAt, xlen, zlen}
 use Rattle.overlap.specs.Counts.{number, fewest, longestPiece, pieceCount}
+use Rattle.overlap.proofs.Reaching.{fewest-same}
 use Rattle.layout.specs.Places.{startCell, xEndCell, zStartCell, piecesCell, endCell}
 use Rattle.layout.specs.Layout.{Laid, Cut, wordsIn, startOf, xEndOf, zStartOf, piecesOf, endOf}
 use Rattle.layout.proofs.Placed.{word-length, end-before, words-of-places, laid-of-places}
@@ -23,7 +24,6 @@ use Rattle.loose.specs.Pieces.{Fenced, InTables, AllInTables}
 use Rattle.cuts.specs.Cutting.{xBy, tailBy, zBy, cutWord, Tail, OnlyCuts, CutBy}
 use Rattle.loose.proofs.Fences.{longest-inside, piece-longest}
 use Rattle.products.specs.Products.{pieceBy, numberFrom, numberBy}
-use Rattle.products.proofs.Reaching.{fewest-same}
 
 -- the search for the start of Z
 
@@ -304,8 +304,9 @@ module _ (text table longest : List ℕ) (n : ℕ) (f : Fenced text table n) (t 
   number-cut =
       let l = word-length text table n (f .laid) i h in
       ap number
-      (fewest-same (pieceBy longest (startOf table i)) (longestPiece (wordsIn text table n) i) (endOf table i - startOf table i)
+      (fewest-same (pieceBy longest (startOf table i)) (endOf table i - startOf table i)
       (λ a u. let e = entry-here a u in let c = entry-inside a u in omega (arith, e, c, u))
+      (longestPiece (wordsIn text table n) i)
       (λ a u. entry-here a u ∙ sym (piece-here a u))
       ∙ ap (fewest (longestPiece (wordsIn text table n) i)) (sym l))
 

@@ -18,65 +18,9 @@ use Rattle.words.proofs.Searching.{least-bound, least-passes, least-first, grea
 use Rattle.overlap.specs.Pieces.{word, Occurs, IsPiece, IsProduct, SmallOverlap}
 use Rattle.overlap.specs.Cuts.{len, pieceAt}
 use Rattle.overlap.specs.Counts.{PieceCount, pieces, none, noProduct, number, FewestPieces, reach, fewest, longestPiece, pieceCount, NumbersAtLeast}
+use Rattle.overlap.proofs.Reaching.{reach-next, Reaches, fewest-reaches, fewest-is, fewest-short, reach-inside}
 use Rattle.overlap.proofs.Places.{Piece, nothing, piece-of-test, test-of-piece, piece-part}
 use Rattle.overlap.proofs.Occurrences.{is-piece-of-place, place-of-is-piece, occurs-fits}
-
--- one piece behind the other, whatever pieces stand at the places of a word
-module _ (piece : ℕ → ℕ) where
-  pub reach-next : (k : ℕ) → reach piece (suc k) ≡ reach piece k + piece (reach piece k)
-  unfolding reach
-  reach-next k = refl
-
-  pub reach-rises : (k d : ℕ) → reach piece k ≤ reach piece (d + k)
-  reach-rises k zero = let e = ap (reach piece) {x = zero + k} {y = k} (omega arith) in omega (arith, e)
-  reach-rises k (suc d) =
-      let e = ap (reach piece) {x = suc d + k} {y = suc (d + k)} (omega arith) in
-      omega (arith, e, reach-next (d + k), reach-rises k d)
-
-  -- what k pieces reach, so many pieces reach as there are letters up to there, or fewer
-  pub reach-few : (k : ℕ) → (j : ℕ) × (j ≤ reach piece k) × (reach piece j ≡ reach piece k)
-  reach-few zero = (zero, omega arith, refl)
-  reach-few (suc k) =
-      let (j, l, e) = reach-few k in
-      by-cases (ℕ-discrete (piece (reach piece k)) 0) (λ z. (j, omega (arith, l, reach-next k), omega (arith, e, z, reach-next k)))
-      (λ z. (suc j, omega (arith, l, z, reach-next k), omega (arith, e, reach-next k, reach-next j, ap piece e)))
-
--- k pieces reach the end of a word of n letters, and no fewer do; or no number of them does
-abbrev pub Reaches : (ℕ → ℕ) → ℕ → PieceCount → Type 0
-Reaches piece n (pieces k) = (reach piece k ≡ n) × ((m : ℕ) → m < k → ¬ (reach piece m ≡ n))
-Reaches piece n none = (k : ℕ) → ¬ (reach piece k ≡ n)
-
-module _ (piece : ℕ → ℕ) (n : ℕ) where
-  -- the test by which the fewest are searched
-  abbrev ends : ℕ → Bool
-  ends k = eqb (reach piece k) n
-
-  pub fewest-reaches : Reaches piece n (fewest piece n)
-  unfolding fewest
-  fewest-reaches = by-cases (decLe (least (n + 1) ends) n) some rest
-    where
-      fewer : (m : ℕ) → m < least (n + 1) ends → ¬ (reach piece m ≡ n)
-      fewer m l e = true≢false (sym (eq-eqb (reach piece m) n e) ∙ least-first (n + 1) ends .none m l)
-
-      some : least (n + 1) ends ≤ n → Reaches piece n (fewest piece n)
-      some h = rw (le-leb (least (n + 1) ends) n h) (eqb-true (reach piece (least (n + 1) ends)) n (least-passes (n + 1) ends (omega arith)), fewer)
-
-      rest : ¬ (least (n + 1) ends ≤ n) → Reaches piece n (fewest piece n)
-      rest h =
-          rw (lt-leb (least (n + 1) ends) n (omega arith)) (λ k e. let (j, l, d) = reach-few piece k in fewer j (omega arith) (d ∙ e))
-
-  -- at most as many as the word has letters
-  pub fewest-short : (k : ℕ) → fewest piece n ≡ pieces k → k ≤ n
-  fewest-short k e = let (j, l, d) = reach-few piece k in
-      let (r, f) = subst (Reaches piece n) e fewest-reaches in
-      by-cases (decLe k n) (λ a. a) (λ a. absurd (f j (omega arith) (d ∙ r)))
-
-  pub reaches-only : (c d : PieceCount) → Reaches piece n c → Reaches piece n d → c ≡ d
-  reaches-only (pieces k) (pieces m) (r, f) (s, g) =
-      by-cases (decLt k m) (λ a. absurd (g k a r)) (λ a. by-cases (decLt m k) (λ b. absurd (f m b s)) (λ b. ap pieces (omega arith)))
-  reaches-only (pieces k) none (r, f) g = absurd (g k r)
-  reaches-only none (pieces m) f (s, g) = absurd (f m s)
-  reaches-only none none f g = refl
 
 -- the longest piece at a place of a relation word
 module _ (B : List Word) (i : ℕ) where
@@ -98,12 +42,10 @@ module _ (B : List Word) (i : ℕ) where
       absurd (true≢false (sym (test-of-piece B i a m h p) ∙ greatest-last (len B i - a) (pieceAt B i a) m (omega arith) (omega arith))))
 
   pub reach-bound : (k : ℕ) → reach (longestPiece B i) k ≤ len B i
-  unfolding reach
-  reach-bound zero = omega arith
-  reach-bound (suc k) = let h = reach-bound k in let b = longest-bound (reach (longestPiece B i) k) in omega arith
+  reach-bound = reach-inside (longestPiece B i) (len B i) (λ a h. let b = longest-bound a in omega arith)
 
 -- where m longest pieces reach place a or further, and from a on comes a piece of l letters, one longest piece more reaches its end or further
-longest-reaches : (B : List Word) (i m a l : ℕ) → a ≤ reach (longestPiece B i) m → a + l ≤ len B i → Piece B i a l → a + l ≤ reach (longestPiece B i) (suc m)
+longest-reaches : (B : List Word) (i m a l : ℕ) → a ≤ reach (longestPiece B i) m → a + l ≤ len B i → Piece B i a l → a + l ≤ reach (longestPiece B i) (m + 1)
 longest-reaches B i m a l h f p =
     let n = reach-next (longestPiece B i) m in
     let b = reach-bound B i m in
@@ -131,7 +73,7 @@ product-reached B i h (suc k) a m l (p, b, e, c, r) =
     let o = occurs-from B i a p b h (omega arith) e in
     let q = longest-reaches B i m a (length p) l (occurs-fits o) (place-of-is-piece o c) in
     let d : b ≡ drop (a + length p) (word B i) = sym (drop-at p b (length p) refl) ∙ ap (drop (length p)) e ∙ drop-drop (length p) a (word B i) in
-    ap (reach (longestPiece B i)) {x = suc k + m} {y = k + suc m} (omega arith) ∙ product-reached B i h k (a + length p) (suc m) q (subst (IsProduct B k) d r)
+    ap (reach (longestPiece B i)) {x = suc k + m} {y = k + (m + 1)} (omega arith) ∙ product-reached B i h k (a + length p) (m + 1) q (subst (IsProduct B k) d r)
 
 -- where k longest pieces more reach the end, what comes behind m of them is a product of k pieces
 reached-product : (B : List Word) (i : ℕ) → i < length B → (k m : ℕ) → reach (longestPiece B i) (k + m) ≡ len B i
@@ -145,13 +87,13 @@ reached-product B i h (suc k) m e =
     let l = longestPiece B i a in
     let u = reach-bound B i m in
     let b = longest-bound B i a in
-    let z = ap (reach (longestPiece B i)) {x = k + suc m} {y = suc k + m} (omega arith) in
-    let d : drop l (drop a (word B i)) ≡ drop (reach (longestPiece B i) (suc m)) (word B i) = drop-drop l a (word B i) ∙ ap (λ j. drop j (word B i)) (sym (reach-next (longestPiece B i) m)) in (
+    let z = ap (reach (longestPiece B i)) {x = k + (m + 1)} {y = suc k + m} (omega arith) in
+    let d : drop l (drop a (word B i)) ≡ drop (reach (longestPiece B i) (m + 1)) (word B i) = drop-drop l a (word B i) ∙ ap (λ j. drop j (word B i)) (sym (reach-next (longestPiece B i) m)) in (
       take l (drop a (word B i)),
-      drop (reach (longestPiece B i) (suc m)) (word B i),
+      drop (reach (longestPiece B i) (m + 1)) (word B i),
       ap (take l (drop a (word B i)) ++_) (sym d) ∙ take-append-drop l (drop a (word B i)),
       is-piece-of-place B i a l h (omega arith) (longest-piece B i a u),
-      reached-product B i h k (suc m) (z ∙ e),
+      reached-product B i h k (m + 1) (z ∙ e),
     )
 
 -- a relation word is a product of k pieces exactly when k longest pieces reach its end
@@ -175,10 +117,11 @@ unfolding pieceCount
 count-fewest B i h = fewest-iff-reaches B i (pieceCount B i) h .1 (fewest-reaches (longestPiece B i) (len B i))
 
 pub count-iff-fewest : (B : List Word) (i : ℕ) (c : PieceCount) → i < length B → (pieceCount B i ≡ c) ↔ FewestPieces B (word B i) c
+unfolding pieceCount
 count-iff-fewest B i c h = (
   λ e. subst (FewestPieces B (word B i)) e (count-fewest B i h),
   λ f.
-      reaches-only (longestPiece B i) (len B i) (pieceCount B i) c (fewest-iff-reaches B i (pieceCount B i) h .0 (count-fewest B i h)) (fewest-iff-reaches B i c h .0 f),
+      fewest-is (longestPiece B i) (len B i) c (fewest-iff-reaches B i c h .0 f),
 )
 
 -- a number of pieces is at most the word's length

@@ -5,6 +5,7 @@ pub mod Facts
 pub mod Agree
 pub mod Maximal
 pub mod Verdicts
+pub mod Reaching
 pub mod Counts
 pub mod Theorems
 pub mod Examples

@@ -1,20 +1,20 @@
 -- The number of pieces of a word by the table of longest pieces: the loop that takes the longest piece each time, and a law for each way on.
 use Prim.Native.Nat.{ℕ, _+_, _-_, _<_, _≤_}
 use mathlib.Core.List.{List}
+use mathlib.Core.Logic.{by-cases}
 use mathlib.Core.Path.{_≡_, refl, sym, ap, _∙_}
 use native.Mathlib.Omega.{arith}
+use native.Mathlib.Decide.{decLt}
 use mir.Syntax.{w8}
 use mir.Val.{Fits}
 use borrow.Author.Needs.{needs}
-use borrow.Author.Tests.{ne-eqb}
 use lib.ListN.{length, getD}
-use Rattle.words.proofs.Searching.{NoneBelow, none-start, none-more}
-use Rattle.overlap.specs.Counts.{number, reach, fewest, noProduct}
+use Rattle.overlap.specs.Counts.{pieces, none, noProduct, number, reach}
+use Rattle.overlap.proofs.Reaching.{reach-first, reach-next, reach-stays, fewest-is}
 use Rattle.layout.specs.Places.{startCell, endCell}
 use Rattle.layout.specs.Layout.{startOf, endOf}
 use Rattle.loose.specs.Pieces.{InTables}
 use Rattle.products.specs.Products.{pieceBy, numberFrom, numberBy, Enclosed}
-use Rattle.products.proofs.Reaching.{ends, reach-none, reach-more, fewest-is, fewest-none}
 
 -- one piece
 
@@ -30,11 +30,11 @@ pub record Numbering (longest : List ℕ) (start n a count : ℕ) : Type 0 where
   pub reached : a ≡ reach (pieceBy longest start) count
   pub upto : a ≤ n
   pub few : count ≤ a
-  pub none : NoneBelow (ends (pieceBy longest start) n) count
+  pub fewer : (k : ℕ) → k < count → ¬ (reach (pieceBy longest start) k ≡ n)
 
 pub number-start : (longest : List ℕ) (start n : ℕ) → Enclosed longest start n → Numbering longest start n 0 0
 number-start longest start n f =
-    record { enclosed = f; reached = sym (reach-none (pieceBy longest start)); upto = omega arith; few = omega arith; none = none-start _ }
+    record { enclosed = f; reached = sym (reach-first (pieceBy longest start)); upto = omega arith; few = omega arith; fewer = λ k h. absurd (omega (arith, h)) }
 
 module _ (longest : List ℕ) (start n a count : ℕ) (s : Numbering longest start n a count) where
   pub number-inside : a < n → start + a < length longest
@@ -44,9 +44,8 @@ module _ (longest : List ℕ) (start n a count : ℕ) (s : Numbering longest sta
   unfolding numberFrom number
   number-end h =
       let u = s .upto in
-      let k = s .few in
       let r = s .reached in
-      rw (fewest-is (pieceBy longest start) n count (omega (arith, k, u)) (s .none) (omega (arith, r, u, h)))
+      rw (fewest-is (pieceBy longest start) n (pieces count) (omega (arith, r, u, h), s .fewer))
 
   module _ (h : a < n) (piece : ℕ) (e : piece ≡ pieceBy longest start a) where
     here : piece ≡ pieceBy longest start (reach (pieceBy longest start) count)
@@ -54,9 +53,11 @@ module _ (longest : List ℕ) (start n a count : ℕ) (s : Numbering longest sta
 
     pub number-none : piece ≡ 0 → noProduct ≡ numberFrom longest start n
     unfolding numberFrom number
-    number-none z =
+    number-none z = rw (fewest-is (pieceBy longest start) n none (λ k e. by-cases (decLt k count) (λ l. s .fewer k l e) (λ l.
         let r = s .reached in
-        rw (fewest-none (pieceBy longest start) n count (s .none) (omega (arith, r, h)) (sym here ∙ z))
+        let d = ap (reach (pieceBy longest start)) {x = count + (k - count)} {y = k} (omega (arith, l)) in
+        let f = reach-stays (pieceBy longest start) count (k - count) (sym here ∙ z) in
+        absurd (omega (arith, r, d, e, f, h)))))
 
     pub number-fits : Fits w8 (a + piece)
     number-fits = let w = s .enclosed .within a h in let k = s .enclosed .short in omega (arith, w, k, e)
@@ -76,10 +77,12 @@ module _ (longest : List ℕ) (start n a count : ℕ) (s : Numbering longest sta
           let p = here in
           record {
             enclosed = s .enclosed;
-            reached = omega (arith, r, p, reach-more (pieceBy longest start) count);
+            reached = omega (arith, r, p, reach-next (pieceBy longest start) count);
             upto = omega (arith, w, e);
             few = omega (arith, f, some);
-            none = none-more _ count (s .none) (ne-eqb (reach (pieceBy longest start) count) n (λ c. absurd (omega (arith, c, r, h))));
+            fewer = λ k l e. by-cases (decLt k count) (λ b. s .fewer k b e) (λ b.
+                let d = ap (reach (pieceBy longest start)) {x = k} {y = count} (omega (arith, l, b)) in
+                absurd (omega (arith, d, e, r, h)));
           }
 
 pub ruleset numbering = (number-start, number-inside, number-end, number-none, number-fits, count-fits, number-less, number-more, needs)
