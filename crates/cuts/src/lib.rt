@@ -1,5 +1,5 @@
-// The cuts of the relation words, by the table of longest pieces: where X ends and where Z starts (document 01, "Pieces, C(4) and cuts"). With them the number
-// of pieces goes into the table (document 02, slip 2).
+// The cuts of the relation words, by the table of longest pieces: where X ends and where Z starts (document 01, "Pieces, C(4) and cuts"). They go into the table of
+// the relation words together with the numbers of pieces.
 ghost use mathlib.Core.Path.{_≡_};
 ghost use Prim.Native.Nat.{_-_};
 ghost use Rattle.loose.specs.Pieces.{InTables, AllInTables};

@@ -1,23 +1,19 @@
--- The number of pieces (document 02, slip 2): taking the longest piece each time reaches the end of a relation word after k pieces exactly when the word is a
+-- The number of pieces (document 01, "Pieces, C(4) and cuts"): taking the longest piece each time reaches the end of a relation word after k pieces exactly when the word is a
 -- product of k pieces, since every part of a piece is a piece. So the count that is computed is the smallest.
 use Prim.Native.Nat.{ℕ, zero, suc, _+_, _-_, _≤_, _<_}
-use mathlib.Core.Bool.{Bool, true, false, true≢false}
-use mathlib.Core.List.{List, [], _++_}
+use mathlib.Core.Bool.{true≢false}
+use mathlib.Core.List.{List, _++_}
 use mathlib.Core.Path.{_≡_, refl, sym, ap, _∙_, subst}
 use mathlib.Core.Logic.{by-cases, _↔_}
 use native.Mathlib.Omega.{arith}
-use native.Mathlib.Decide.{decLt, decLe, ℕ-discrete}
-use lib.Dec.{eqb}
-use borrow.Author.Tests.{eqb-true, eq-eqb, le-leb, lt-leb}
-use lib.ListN.{length, take, drop, length-append, length-drop, take-append-drop}
+use native.Mathlib.Decide.{decLt, decLe}
+use lib.ListN.{length, take, drop, length-drop, take-append-drop}
 use lib.Seq.{drop-drop, drop-length, drop-at, length-take-le}
-use Rattle.words.specs.Search.{least}
 use Rattle.words.specs.Words.{Word}
-use Rattle.words.proofs.Lists.{no-letters}
-use Rattle.words.proofs.Searching.{least-bound, least-passes, least-first, greatest-bound, greatest-passes, greatest-last}
-use Rattle.overlap.specs.Pieces.{word, Occurs, IsPiece, IsProduct, SmallOverlap}
+use Rattle.words.proofs.Searching.{greatest-bound, greatest-passes, greatest-last}
+use Rattle.overlap.specs.Pieces.{word, Occurs, IsProduct}
 use Rattle.overlap.specs.Cuts.{len, pieceAt}
-use Rattle.overlap.specs.Counts.{PieceCount, pieces, none, noProduct, number, FewestPieces, reach, fewest, longestPiece, pieceCount, NumbersAtLeast}
+use Rattle.overlap.specs.Counts.{PieceCount, pieces, none, noProduct, number, FewestPieces, reach, longestPiece, pieceCount}
 use Rattle.overlap.proofs.Reaching.{reach-next, Reaches, fewest-reaches, fewest-is, fewest-short, reach-inside}
 use Rattle.overlap.proofs.Places.{Piece, nothing, piece-of-test, test-of-piece, piece-part}
 use Rattle.overlap.proofs.Occurrences.{is-piece-of-place, place-of-is-piece, occurs-fits}

@@ -1,4 +1,4 @@
--- Of how many pieces a relation word is the product (document 02, slip 2): the smallest number, in words and as it is computed.
+-- The number of pieces (document 01, "Pieces, C(4) and cuts"): the smallest number of pieces whose product a relation word is, in words and as it is computed.
 use Prim.Native.Nat.{ℕ, zero, suc, _+_, _-_, _<_, _≤_}
 use mathlib.Core.Bool.{cond}
 use mathlib.Core.List.{List}
@@ -18,7 +18,7 @@ pub data PieceCount : Type 0 where
 abbrev pub noProduct : ℕ
 noProduct = 255
 
--- document 02's number for each of the two
+-- document 01's number for each of the two
 unfoldable pub number : PieceCount → ℕ
 number (pieces n) = n
 number none = noProduct

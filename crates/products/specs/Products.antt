@@ -1,4 +1,4 @@
--- The number of pieces of a relation word (document 02, slip 2), by the table of longest pieces.
+-- The number of pieces of a relation word, by the table of longest pieces (document 01, "Pieces, C(4) and cuts").
 use Prim.Native.Nat.{ℕ, _+_, _-_, _<_, _≤_}
 use mathlib.Core.List.{List}
 use lib.ListN.{length, getD}

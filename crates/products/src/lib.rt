@@ -1,5 +1,5 @@
-// Of how many pieces a relation word is the product, by the table of longest pieces (document 02, slip 2). Taking the longest piece each time needs the fewest,
-// since every part of a piece is a piece. Lengths and places inside a word are bytes.
+// The number of pieces of a relation word, by the table of longest pieces (document 01, "Pieces, C(4) and cuts"): taking the longest piece each time needs the
+// fewest, since every part of a piece is a piece. Lengths and places inside a word are bytes.
 ghost use mathlib.Core.Path.{_≡_};
 ghost use Prim.Native.Nat.{_+_, _<_};
 ghost use lib.ListN.{length};

@@ -1,4 +1,4 @@
--- The cut sheet (document 01, "Pieces, C(4) and cuts"; document 02, slip 2): by the cuts and numbers of pieces of the relation words, and by the numbers of a table.
+-- The cut sheet (document 01, "The cut sheet"): by the cuts and numbers of pieces of the relation words, and by the numbers of a table.
 use Prim.Native.Nat.{ℕ, zero, suc, _+_, _*_, _-_, _≤_, _<_}
 use mathlib.Core.List.{List, [], _∷_, _++_}
 use lib.ListN.{length}

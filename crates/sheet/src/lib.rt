@@ -1,5 +1,4 @@
-// The cut sheet: for each relation word in order the lengths of X, Y and Z and the number of pieces, one byte each (document 01, "Pieces, C(4) and cuts";
-// document 02, slip 2).
+// The cut sheet: for each relation word in order the lengths of X, Y and Z and the number of pieces, one byte each (document 01, "The cut sheet").
 ghost use Prim.Native.Nat.{_+_, _-_, _*_, _<_, _≤_};
 ghost use mathlib.Core.Path.{_≡_};
 ghost use Rattle.writing.specs.Writing.{written, over};
