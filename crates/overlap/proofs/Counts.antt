@@ -1,22 +1,26 @@
 -- The number of pieces (document 01, "Pieces, C(4) and cuts"): taking the longest piece each time reaches the end of a relation word after k pieces exactly when the word is a
 -- product of k pieces, since every part of a piece is a piece. So the count that is computed is the smallest.
 use Prim.Native.Nat.{ℕ, zero, suc, _+_, _-_, _≤_, _<_}
-use mathlib.Core.Bool.{true≢false}
+use mathlib.Core.Bool.{Bool, true, false, not, true≢false}
 use mathlib.Core.List.{List, _++_}
 use mathlib.Core.Path.{_≡_, refl, sym, ap, _∙_, subst}
 use mathlib.Core.Logic.{by-cases, _↔_}
 use native.Mathlib.Omega.{arith}
+use native.Mathlib.Numerals.{add-one}
 use native.Mathlib.Decide.{decLt, decLe}
+use borrow.Author.Tests.{not-true, not-false}
 use lib.ListN.{length, take, drop, length-drop, take-append-drop}
 use lib.Seq.{drop-drop, drop-length, drop-at, length-take-le}
 use Rattle.words.specs.Words.{Word}
-use Rattle.words.proofs.Searching.{greatest-bound, greatest-passes, greatest-last}
-use Rattle.overlap.specs.Pieces.{word, Occurs, IsProduct}
+use Rattle.words.specs.Search.{anyBelow}
+use Rattle.words.proofs.Searching.{any-found, none-of, greatest-bound, greatest-passes, greatest-last}
+use Rattle.overlap.specs.Pieces.{word, Occurs, IsPiece, IsProduct}
 use Rattle.overlap.specs.Cuts.{len, pieceAt}
 use Rattle.overlap.specs.Counts.{PieceCount, pieces, none, noProduct, number, FewestPieces, reach, longestPiece, pieceCount}
 use Rattle.overlap.proofs.Reaching.{reach-next, Reaches, fewest-reaches, fewest-is, fewest-short, reach-inside}
 use Rattle.overlap.proofs.Places.{Piece, nothing, piece-of-test, test-of-piece, piece-part}
 use Rattle.overlap.proofs.Occurrences.{is-piece-of-place, place-of-is-piece, occurs-fits}
+use Rattle.overlap.proofs.Agree.{pieceAt-iff-segment-piece}
 
 -- the longest piece at a place of a relation word
 module _ (B : List Word) (i : ℕ) where
@@ -124,6 +128,55 @@ count-iff-fewest B i c h = (
 pub count-short : (B : List Word) (i n : ℕ) → pieceCount B i ≡ pieces n → n ≤ len B i
 unfolding pieceCount
 count-short B i n e = fewest-short (longestPiece B i) (len B i) n e
+
+-- where every letter is a piece, k longest pieces reach k letters or more
+letters-reach : (B : List Word) (i : ℕ) → ((a : ℕ) → a < len B i → Piece B i a 1) → (k : ℕ) → k ≤ len B i → k ≤ reach (longestPiece B i) k
+letters-reach B i f zero h = omega arith
+letters-reach B i f (suc k) h =
+    let r = letters-reach B i f k (omega arith) in
+    let n = ap (reach (longestPiece B i)) (sym (add-one k)) ∙ reach-next (longestPiece B i) k in
+    by-cases (decLt (reach (longestPiece B i) k) (len B i)) (λ l.
+    let m = longest-most B i (reach (longestPiece B i) k) 1 (omega arith) (f (reach (longestPiece B i) k) l) in
+    omega arith) (λ l. omega arith)
+
+-- where the letter at place a is no piece, no number of pieces gets past it
+lone-stops : (B : List Word) (i a : ℕ) → a < len B i → ¬ Piece B i a 1 → (k : ℕ) → reach (longestPiece B i) k ≤ a
+unfolding reach
+lone-stops B i a h c zero = omega arith
+lone-stops B i a h c (suc k) =
+    let r = lone-stops B i a h c k in
+    let b = longest-bound B i (reach (longestPiece B i) k) in
+    by-cases (decLe (reach (longestPiece B i) k + longestPiece B i (reach (longestPiece B i) k)) a) (λ l. l) (λ l.
+    absurd (c (piece-part (longest-piece B i (reach (longestPiece B i) k) (omega arith)) (omega arith))))
+
+-- so a relation word is no product exactly when one of its letters is no piece
+pub none-iff-lone : (B : List Word) (i : ℕ) → i < length B
+    → ((n : ℕ) → ¬ IsProduct B n (word B i)) ↔ ((a : ℕ) × (a < len B i) × (¬ IsPiece B (take 1 (drop a (word B i)))))
+none-iff-lone B i h = (there, back)
+  where
+    whole : ((a : ℕ) → a < len B i → Piece B i a 1) → IsProduct B (len B i) (word B i)
+    whole f =
+        let r = letters-reach B i f (len B i) (omega arith) in
+        let b = reach-bound B i (len B i) in
+        product-iff-reached B i (len B i) h .1 (omega arith)
+
+    lone : ℕ → Bool
+    lone a = not (pieceAt B i a 1)
+
+    there : ((n : ℕ) → ¬ IsProduct B n (word B i)) → (a : ℕ) × (a < len B i) × (¬ IsPiece B (take 1 (drop a (word B i))))
+    there f = go (anyBelow (len B i) lone) refl
+      where
+        go : (t : Bool) → anyBelow (len B i) lone ≡ t → (a : ℕ) × (a < len B i) × (¬ IsPiece B (take 1 (drop a (word B i))))
+        go true e =
+            let (a, l, q) = any-found (len B i) lone e in
+            (a, l, λ c. true≢false (sym (pieceAt-iff-segment-piece B i a 1 h (omega arith) .1 c) ∙ not-true (pieceAt B i a 1) q))
+        go false e = absurd (f (len B i) (whole (λ a l. piece-of-test B i a 1 (omega arith) (not-false (pieceAt B i a 1) (none-of (len B i) lone e a l)))))
+
+    back : (a : ℕ) × (a < len B i) × (¬ IsPiece B (take 1 (drop a (word B i)))) → (n : ℕ) → ¬ IsProduct B n (word B i)
+    back (a, l, c) n p =
+        let r = lone-stops B i a l (λ q. c (is-piece-of-place B i a 1 h (omega arith) q)) n in
+        let e = product-iff-reached B i n h .0 p in
+        absurd (omega arith)
 
 -- what the number of a count says of the word that it counts
 module _ (B : List Word) (w : Word) where

@@ -7,9 +7,9 @@ use native.Mathlib.Decide.{decLt}
 use Rattle.words.specs.Words.{Word}
 use Rattle.overlap.specs.Pieces.{word, SmallOverlap}
 use Rattle.overlap.specs.Counts.{noProduct, number, pieceCount, NumbersAtLeast}
-use Rattle.overlap.specs.Theorems.{TestsPieces, VerdictsRight, AcceptsC4, CountsFewest, NumbersDecide, NumbersSmall, CutsMaximal, CutsGood, PiecesClosed}
+use Rattle.overlap.specs.Theorems.{TestsPieces, VerdictsRight, AcceptsC4, CountsFewest, NumbersDecide, NumbersSmall, LoneLetters, CutsMaximal, CutsGood, PiecesClosed}
 use Rattle.overlap.proofs.Agree.{pieceAt-iff-segment-piece, loose-iff-few-pieces}
-use Rattle.overlap.proofs.Counts.{count-fewest, count-iff-fewest, count-short, number-iff-no-fewer, number-below, number-iff-none}
+use Rattle.overlap.proofs.Counts.{count-fewest, count-iff-fewest, count-short, number-iff-no-fewer, number-below, number-iff-none, none-iff-lone}
 use Rattle.overlap.proofs.Maximal.{x-maximal, z-maximal, cut-whole, y-has-letters, y-is-no-piece, xy-occurs-once, piece-prefix-in-x}
 use Rattle.overlap.proofs.Occurrences.{factor-of-piece, piece-of-more}
 use Rattle.overlap.proofs.Verdicts.{judge-iff-right, judge-accepts-iff-c4}
@@ -53,6 +53,9 @@ numbers-small =
       short = λ B i n h e. count-short B i n e;
       alone = λ B i h l. number-iff-none B (word B i) (pieceCount B i) (λ n e. let s = count-short B i n e in omega arith) (count-fewest B i h);
     }
+
+pub lone-letters : LoneLetters
+lone-letters = none-iff-lone
 
 pub cuts-maximal : CutsMaximal
 cuts-maximal B i h = (x-maximal B i h, z-maximal B i h)

@@ -40,6 +40,11 @@ pub record NumbersSmall : Type 0 where
   pub short : (B : List Word) (i n : ℕ) → i < length B → pieceCount B i ≡ pieces n → n ≤ len B i
   pub alone : (B : List Word) (i : ℕ) → i < length B → len B i < noProduct → (number (pieceCount B i) ≡ noProduct) ↔ ((n : ℕ) → ¬ IsProduct B n (word B i))
 
+-- a relation word is no product of pieces exactly when one of its letters is no piece: it stands nowhere else
+abbrev pub LoneLetters : Type 0
+LoneLetters = (B : List Word) (i : ℕ) → i < length B
+    → ((n : ℕ) → ¬ IsProduct B n (word B i)) ↔ ((a : ℕ) × (a < len B i) × (¬ IsPiece B (take 1 (drop a (word B i)))))
+
 -- X is the maximal piece prefix of its relation word, and Z the maximal piece suffix
 abbrev pub CutsMaximal : Type 0
 CutsMaximal = (B : List Word) (i : ℕ) → i < length B → MaximalPiecePrefix B i (xOf B i) × MaximalPieceSuffix B i (zOf B i)

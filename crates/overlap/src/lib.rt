@@ -1,6 +1,6 @@
 // Pieces, C(4) and cuts: definitions and laws, with no code under them (document 003, section 1).
 // What is shown of them is the contracts of functions that do nothing, so that it is found here and the check holds it fast.
-ghost use Rattle.overlap.specs.Theorems.{TestsPieces, VerdictsRight, AcceptsC4, CountsFewest, NumbersDecide, NumbersSmall, CutsMaximal, CutsGood, PiecesClosed};
+ghost use Rattle.overlap.specs.Theorems.{TestsPieces, VerdictsRight, AcceptsC4, CountsFewest, NumbersDecide, NumbersSmall, LoneLetters, CutsMaximal, CutsGood, PiecesClosed};
 ghost use Rattle.overlap.specs.Examples.{NumbersHold};
 
 // The test for a piece is true exactly of pieces.
@@ -31,6 +31,11 @@ pub fn numbers_decide()
 // A number of pieces is at most the word's length, so that 255 stands for no product alone.
 pub fn numbers_are_small()
     ensures { λ _. ⌜ NumbersSmall ⌝ }
+{}
+
+// A relation word is no product of pieces exactly when one of its letters stands nowhere else.
+pub fn lone_letters_tell()
+    ensures { λ _. ⌜ LoneLetters ⌝ }
 {}
 
 // The numbers that were worked out by hand.
