@@ -5,5 +5,6 @@ pub mod Facts
 pub mod Agree
 pub mod Maximal
 pub mod Verdicts
+pub mod Counts
 pub mod Theorems
 pub mod Examples

@@ -18,21 +18,6 @@ pub fn accepted_is_c4()
     ensures { λ _. ⌜ AcceptsC4 ⌝ }
 {}
 
-// X is the maximal piece prefix, and Z the maximal piece suffix.
-pub fn cuts_are_maximal()
-    ensures { λ _. ⌜ CutsMaximal ⌝ }
-{}
-
-// Under C(4), Y is not empty and no piece, XY occurs nowhere else, and a prefix that is a piece is a prefix of X.
-pub fn cuts_are_good()
-    ensures { λ _. ⌜ CutsGood ⌝ }
-{}
-
-// A factor of a piece is a piece, and more relation words make no fewer pieces.
-pub fn pieces_are_closed()
-    ensures { λ _. ⌜ PiecesClosed ⌝ }
-{}
-
 // The number of pieces that is computed, by taking the longest each time, is the smallest.
 pub fn counts_are_fewest()
     ensures { λ _. ⌜ CountsFewest ⌝ }
@@ -51,4 +36,19 @@ pub fn numbers_are_small()
 // The numbers that were worked out by hand.
 pub fn worked_numbers_hold()
     ensures { λ _. ⌜ NumbersHold ⌝ }
+{}
+
+// X is the maximal piece prefix, and Z the maximal piece suffix.
+pub fn cuts_are_maximal()
+    ensures { λ _. ⌜ CutsMaximal ⌝ }
+{}
+
+// Under C(4), Y is not empty and no piece, XY occurs nowhere else, and a prefix that is a piece is a prefix of X.
+pub fn cuts_are_good()
+    ensures { λ _. ⌜ CutsGood ⌝ }
+{}
+
+// A factor of a piece is a piece, and more relation words make no fewer pieces.
+pub fn pieces_are_closed()
+    ensures { λ _. ⌜ PiecesClosed ⌝ }
 {}
