@@ -68,7 +68,11 @@ whole-checked text table n c t e =
     record {
       laid = whole-laid text table n f t e;
       accepted = subst C4 w (c .accepted);
-      cut = record { xEnd = λ k h. rw (← w) (c .cut .xEnd k h); zStart = λ k h. rw (← w) (c .cut .zStart k h) };
+      cut = record {
+        xEnd = λ k h. rw (← w) (c .cut .xEnd k h);
+        zStart = λ k h. rw (← w) (c .cut .zStart k h);
+        pieces = λ k h. rw (← w) (c .cut .pieces k h);
+      };
       indexed = record {
         room = i .room;
         listed = i .listed;

@@ -105,14 +105,16 @@ module _ (text table longest : List ℕ) (n : ℕ) (f : Fenced text table n) (t 
         let r = f .laid .room in
         let k = text-short text table n f in
         let o = t .room in
-        let e = t .at (startOf table i) (omega (arith, s, g, w)) in
-        let c = longest-inside text table n f i (startOf table i) h (omega arith) (omega (arith, s)) in
         record {
           room = omega (arith, h, r);
           upwards = omega (arith, s);
           inside = omega (arith, g, w, o);
           short = omega (arith, g, w, k);
-          within = omega (arith, e, c, s);
+          long = f .laid .short i h;
+          within = λ p l u.
+              let e = t .at p (omega (arith, u, g, w)) in
+              let c = longest-inside text table n f i p h l u in
+              omega (arith, e, c, u);
         };
   }
 
