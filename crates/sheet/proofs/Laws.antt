@@ -1,20 +1,16 @@
 -- The table's numbers give the cuts and the numbers of pieces of the relation words, and a law for each way that writing the sheet can go.
 use Prim.Native.Nat.{ℕ, zero, suc, _+_, _*_, _≤_, _<_}
-use mathlib.Core.Bool.{Bool, true, false}
 use mathlib.Core.List.{List, [], _∷_, _++_}
-use mathlib.Core.Logic.{⊎-elim, _⊎_, inl, inr}
 use mathlib.Core.Path.{_≡_, refl, sym, ap, _∙_}
 use native.Mathlib.Omega.{arith}
 use native.Mathlib.Numerals.{add-one}
 use borrow.Author.Needs.{needs}
-use borrow.Author.Tests.{leb-true}
-use lib.Dec.{eqb, leb}
 use lib.ListN.{length, length-append}
 use Rattle.limits.specs.Limits.{sheetColumns}
-use Rattle.words.specs.Search.{least}
 use Rattle.words.specs.Words.{Word}
 use Rattle.overlap.specs.Cuts.{len, xlen, ylen, zlen}
-use Rattle.overlap.specs.Counts.{number, reach, fewest, longestPiece, pieceCount}
+use Rattle.overlap.specs.Counts.{PieceCount, pieces, none, number, pieceCount}
+use Rattle.overlap.proofs.Counts.{count-short}
 use Rattle.overlap.proofs.Facts.{rigid-of-c4}
 use Rattle.layout.specs.Layout.{piecesOf, wordsIn, Checked}
 use Rattle.layout.proofs.Placed.{words-length, word-length}
@@ -23,29 +19,17 @@ use Rattle.writing.specs.Writing.{written, over}
 use Rattle.writing.proofs.Writing.{written-zero, written-length, written-behind}
 use Rattle.sheet.specs.Sheet.{cutBytes, cutSheet, cutRow, xAt, yAt, zAt, rowAt, sheetBytes, CutsIn, RowRoom, SheetRoom}
 
--- a number of pieces is at most the word's length, or it is the number that stands for none
-fewest-bound : (piece : ℕ → ℕ) (n : ℕ) → (number (fewest piece n) ≤ n) ⊎ (number (fewest piece n) ≡ 255)
-unfolding number fewest
-fewest-bound piece n = go (leb (least (n + 1) (λ k. eqb (reach piece k) n)) n) refl
+-- the number of pieces of a short word is a byte
+number-byte : (B : List Word) (i : ℕ) → len B i < 256 → number (pieceCount B i) < 256
+unfolding number
+number-byte B i h = go (pieceCount B i) refl
   where
-    go : (t : Bool) → leb (least (n + 1) (λ k. eqb (reach piece k) n)) n ≡ t → (number (fewest piece n) ≤ n) ⊎ (number (fewest piece n) ≡ 255)
-    go true e = inl (rw e (leb-true _ _ e))
-    go false e = inr (rw e)
-
-number-bound : (B : List Word) (i : ℕ) → (number (pieceCount B i) ≤ len B i) ⊎ (number (pieceCount B i) ≡ 255)
-unfolding pieceCount
-number-bound B i = fewest-bound (longestPiece B i) (len B i)
+    go : (c : PieceCount) → pieceCount B i ≡ c → number c < 256
+    go (pieces n) e = omega (arith, count-short B i n e)
+    go none e = omega arith
 
 module _ (text table : List ℕ) (n : ℕ) (c : Checked text table n) where
-  -- the number of pieces of a word in the table is a byte
-  pieces-small : (i : ℕ) → i < n → piecesOf table i < 256
-  pieces-small i h =
-      let e = c .cut .pieces i h in
-      let l = c .laid .short i h in
-      let w = word-length text table n (c .laid) i h in
-      ⊎-elim (λ b. omega arith) (λ b. omega arith) (number-bound (wordsIn text table n) i)
-
-  -- the positions are in order: Y is not empty
+  -- the positions are in order, since Y is not empty, and the number of pieces is a byte
   pub cuts-in : (i : ℕ) → i < n → CutsIn table i
   cuts-in i h =
       let l = c .laid in
@@ -58,7 +42,7 @@ module _ (text table : List ℕ) (n : ℕ) (c : Checked text table n) where
         y = omega (arith, xy-long text table n l (c .cut) i h, k .2);
         z = k .3;
         short = omega (arith, l .short i h, l .some i h);
-        pieces = pieces-small i h;
+        pieces = rw (c .cut .pieces i h) (number-byte (wordsIn text table n) i (omega (arith, word-length text table n l i h, l .short i h)));
       }
 
   row-cut : (i : ℕ) → i < n → rowAt table i ≡ cutRow (wordsIn text table n) i
