@@ -39,8 +39,8 @@ abbrev pub Acceptance : Type 0
 Acceptance = (book : List ℕ) (presentation : Presentation) → readBook book ≡ BookReading.read presentation → Accepts (presentation .relations) (checkOf book)
 
 -- demand 2, of relation word i and its row of bytes on a sheet: the lengths of its maximal piece prefix X, its middle word Y and its maximal piece suffix Z,
--- where Y is not empty and no piece; and the smallest number of pieces whose product it is, at least four, which is a product of that many pieces and of no fewer;
--- or 255, and then it is no product of pieces. So small are the numbers of pieces that 255 stands for none alone
+-- where Y is not empty and no piece; and its number of pieces, the smallest n such that it is a product of n pieces, or 255 where it is a product of no number
+-- of them. It is at least four and, unless it is 255, at most 64, so that 255 stands for none alone
 pub record Reports (B : List Word) (sheet : List ℕ) (i : ℕ) : Type 0 where
   pub x : Word
   pub y : Word
