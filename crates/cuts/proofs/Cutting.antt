@@ -1,4 +1,4 @@
--- The cuts of the relation words: the loops that set them, and that they are the definition's.
+-- The cuts of the relation words and their numbers of pieces: the loops that set them, and that they are the definition's.
 use Prim.Native.Nat.{ℕ, _+_, _-_, _<_, _≤_}
 use mathlib.Core.Bool.{Bool, true, false}
 use mathlib.Core.List.{List}
@@ -11,15 +11,19 @@ use borrow.Author.Tests.{le-leb, lt-leb}
 use lib.Dec.{leb}
 use lib.ListN.{length, getD, set, length-set}
 use lib.Seq.{getD-set-same, getD-set-other}
+use Rattle.words.specs.Search.{greatest}
 use Rattle.words.proofs.Searching.{greatest-bound, greatest-is, greatest-same}
-use Rattle.overlap.specs.Cuts.{pieceAt, xlen, zlen}
-use Rattle.layout.specs.Places.{startCell, xEndCell, zStartCell, endCell}
-use Rattle.layout.specs.Layout.{Laid, Cut, wordsIn, startOf, xEndOf, zStartOf, endOf}
+use Rattle.overlap.specs.Cuts.{len, pieceAt, xlen, zlen}
+use Rattle.overlap.specs.Counts.{number, fewest, longestPiece, pieceCount}
+use Rattle.layout.specs.Places.{startCell, xEndCell, zStartCell, piecesCell, endCell}
+use Rattle.layout.specs.Layout.{Laid, Cut, wordsIn, startOf, xEndOf, zStartOf, piecesOf, endOf}
 use Rattle.layout.proofs.Placed.{word-length, end-before, words-of-places, laid-of-places}
 use Rattle.longest.specs.Longest.{longestAt, Tabled}
 use Rattle.loose.specs.Pieces.{Fenced, InTables, AllInTables}
 use Rattle.cuts.specs.Cutting.{xBy, tailBy, zBy, cutWord, Tail, OnlyCuts, CutBy}
 use Rattle.loose.proofs.Fences.{longest-inside, piece-longest}
+use Rattle.products.specs.Products.{pieceBy, numberFrom, numberBy}
+use Rattle.products.proofs.Reaching.{fewest-same}
 
 -- the search for the start of Z
 
@@ -81,7 +85,7 @@ module _ (longest table : List ℕ) (i : ℕ) (f : InTables longest table i) whe
 
   pub x-small : (s x : ℕ) → s ≡ startOf table i → x ≡ getD longest s 0 → s + x < 65536
   x-small s x d e =
-      let w = f .within in
+      let w = f .within (startOf table i) (omega arith) (f .upwards) in
       let k = f .short in
       let c = ap (λ j. getD longest j 0) d in
       omega (arith, d, e, c, w, k)
@@ -99,15 +103,23 @@ module _ (longest table : List ℕ) (i : ℕ) (f : InTables longest table i) whe
 
 pub ruleset ends = (cells-start, cells-end, tail-here, start-inside, x-small, x-here, z-small, z-here, needs)
 
--- both are written
+-- both are written, and the number of pieces
 module _ (longest table : List ℕ) (i : ℕ) where
   pub second-inside : InTables longest table i → (x : ℕ) → zStartCell i < length (set table (xEndCell i) x)
   second-inside f x = let r = f .room in let l = length-set table (xEndCell i) x in omega (arith, r, l)
 
-  pub word-cut : (x z : ℕ) → x ≡ xBy longest table i → z ≡ zBy longest table i → set (set table (xEndCell i) x) (zStartCell i) z ≡ cutWord longest table i
-  word-cut x z d e = rw (d, e)
+  pub third-inside : InTables longest table i → (x z : ℕ) → piecesCell i < length (set (set table (xEndCell i) x) (zStartCell i) z)
+  third-inside f x z =
+      let r = f .room in
+      let l = length-set table (xEndCell i) x in
+      let m = length-set (set table (xEndCell i) x) (zStartCell i) z in
+      omega (arith, r, l, m)
 
-pub ruleset writing = (second-inside, word-cut, needs)
+  pub word-cut : (x z p : ℕ) → x ≡ xBy longest table i → z ≡ zBy longest table i → p ≡ numberBy longest table i
+      → set (set (set table (xEndCell i) x) (zStartCell i) z) (piecesCell i) p ≡ cutWord longest table i
+  word-cut x z p d e g = rw (d, e, g)
+
+pub ruleset writing = (second-inside, third-inside, word-cut, needs)
 
 -- the loop over the words
 
@@ -127,19 +139,38 @@ cut-start longest table n p =
         kept = record { long = refl; starts = λ i. refl; ends = λ i. refl; beyond = λ k h. refl };
         xEnd = λ i h. absurd (omega (arith, h));
         zStart = λ i h. absurd (omega (arith, h));
+        pieces = λ i h. absurd (omega (arith, h));
       };
     }
 
--- two neighbours are set
-module _ (b : List ℕ) (k x z : ℕ) (h : k + 1 < length b) where
-  pub pair-other : (j : ℕ) → (j ≡ k → ⊥) → (j ≡ k + 1 → ⊥) → getD (set (set b k x) (k + 1) z) j 0 ≡ getD b j 0
-  pair-other j d e = getD-set-other (set b k x) (k + 1) j z 0 e ∙ getD-set-other b k j x 0 d
+-- three neighbours are set
+module _ (b : List ℕ) (k x z p : ℕ) (h : k + 2 < length b) where
+  abbrev pub threeSet : List ℕ
+  threeSet = set (set (set b k x) (k + 1) z) (k + 2) p
 
-  pub pair-first : getD (set (set b k x) (k + 1) z) k 0 ≡ x
-  pair-first = getD-set-other (set b k x) (k + 1) k z 0 (λ g. absurd (omega (arith, g))) ∙ getD-set-same b k x 0 (omega (arith, h))
+  pub three-length : length threeSet ≡ length b
+  three-length = length-set (set (set b k x) (k + 1) z) (k + 2) p ∙ length-set (set b k x) (k + 1) z ∙ length-set b k x
 
-  pub pair-second : getD (set (set b k x) (k + 1) z) (k + 1) 0 ≡ z
-  pair-second = let l = length-set b k x in getD-set-same (set b k x) (k + 1) z 0 (omega (arith, h, l))
+  pub three-other : (j : ℕ) → (j ≡ k → ⊥) → (j ≡ k + 1 → ⊥) → (j ≡ k + 2 → ⊥) → getD threeSet j 0 ≡ getD b j 0
+  three-other j d e g =
+      getD-set-other (set (set b k x) (k + 1) z) (k + 2) j p 0 g ∙ getD-set-other (set b k x) (k + 1) j z 0 e ∙ getD-set-other b k j x 0 d
+
+  pub three-first : getD threeSet k 0 ≡ x
+  three-first =
+      getD-set-other (set (set b k x) (k + 1) z) (k + 2) k p 0 (λ g. absurd (omega (arith, g)))
+      ∙ getD-set-other (set b k x) (k + 1) k z 0 (λ g. absurd (omega (arith, g)))
+      ∙ getD-set-same b k x 0 (omega (arith, h))
+
+  pub three-second : getD threeSet (k + 1) 0 ≡ z
+  three-second =
+      let l = length-set b k x in
+      getD-set-other (set (set b k x) (k + 1) z) (k + 2) (k + 1) p 0 (λ g. absurd (omega (arith, g)))
+      ∙ getD-set-same (set b k x) (k + 1) z 0 (omega (arith, h, l))
+
+  pub three-third : getD threeSet (k + 2) 0 ≡ p
+  three-third =
+      let l = length-set (set b k x) (k + 1) z ∙ length-set b k x in
+      getD-set-same (set (set b k x) (k + 1) z) (k + 2) p 0 (omega (arith, h, l))
 
 module _ (longest table : List ℕ) (n i : ℕ) (b : List ℕ) (s : Cutting longest table n i b) where
   start-same : startOf b i ≡ startOf table i
@@ -154,13 +185,13 @@ module _ (longest table : List ℕ) (n i : ℕ) (b : List ℕ) (s : Cutting long
       let d = start-same in
       let e = end-same in
       let l = s .long in
-      let c = ap (λ k. getD longest k 0) d in
       record {
         room = omega (arith, p .room, l);
         upwards = omega (arith, p .upwards, d, e);
         inside = omega (arith, p .inside, e);
         short = omega (arith, p .short, e);
-        within = omega (arith, p .within, d, e, c);
+        long = omega (arith, p .long, d, e);
+        within = λ q a z. let w = p .within q (omega (arith, a, d)) (omega (arith, z, e)) in omega (arith, w, e);
       }
 
   x-same : xBy longest b i ≡ xBy longest table i
@@ -170,17 +201,24 @@ module _ (longest table : List ℕ) (n i : ℕ) (b : List ℕ) (s : Cutting long
   z-same : zBy longest b i ≡ zBy longest table i
   z-same = rw (start-same, end-same)
 
+  number-same : numberBy longest b i ≡ numberBy longest table i
+  number-same = rw (start-same, end-same)
+
   pub cut-more : (c : List ℕ) → i < n → c ≡ cutWord longest b i → Cutting longest table n (i + 1) c
   cut-more c h e =
       let p = s .placed .each i h in
       let l = s .long in
       let k = s .done .kept in
-      let q : xEndCell i + 1 < length b = omega (arith, p .room, l) in
-      let g : zStartCell i ≡ xEndCell i + 1 = omega arith in
-      let e₂ : c ≡ set (set b (xEndCell i) (xBy longest b i)) (xEndCell i + 1) (zBy longest b i) = rw (← g) e in
-      let m : length c ≡ length table = rw e (length-set (set b (xEndCell i) (xBy longest b i)) (zStartCell i) (zBy longest b i) ∙ length-set b (xEndCell i) (xBy longest b i) ∙ l) in
-      let other : (j : ℕ) → (j ≡ xEndCell i → ⊥) → (j ≡ xEndCell i + 1 → ⊥) → getD c j 0 ≡ getD b j 0 =
-      λ j d f. rw e₂ (pair-other b (xEndCell i) (xBy longest b i) (zBy longest b i) q j d f) in
+      let q : xEndCell i + 2 < length b = omega (arith, p .room, l) in
+      let g₁ : zStartCell i ≡ xEndCell i + 1 = omega arith in
+      let g₂ : piecesCell i ≡ xEndCell i + 2 = omega arith in
+      let x = xBy longest b i in
+      let z = zBy longest b i in
+      let v = numberBy longest b i in
+      let e₂ : c ≡ threeSet b (xEndCell i) (xBy longest b i) (zBy longest b i) (numberBy longest b i) q = rw (← g₁, ← g₂) e in
+      let m : length c ≡ length table = rw e₂ (three-length b (xEndCell i) x z v q ∙ l) in
+      let other : (j : ℕ) → (j ≡ xEndCell i → ⊥) → (j ≡ xEndCell i + 1 → ⊥) → (j ≡ xEndCell i + 2 → ⊥) → getD c j 0 ≡ getD b j 0 =
+      λ j d f a. rw e₂ (three-other b (xEndCell i) x z v q j d f a) in
       record {
         placed = s .placed;
         upto = omega (arith, h);
@@ -188,16 +226,24 @@ module _ (longest table : List ℕ) (n i : ℕ) (b : List ℕ) (s : Cutting long
         done = record {
           kept = record {
             long = m;
-            starts = λ j. other (startCell j) (λ d. absurd (omega (arith, d))) (λ d. absurd (omega (arith, d))) ∙ k .starts j;
-            ends = λ j. other (endCell j) (λ d. absurd (omega (arith, d))) (λ d. absurd (omega (arith, d))) ∙ k .ends j;
-            beyond = λ j t. other j (λ d. absurd (omega (arith, d, t))) (λ d. absurd (omega (arith, d, t))) ∙ k .beyond j (omega (arith, t));
+            starts = λ j. other (startCell j) (λ d. absurd (omega (arith, d))) (λ d. absurd (omega (arith, d))) (λ d. absurd (omega (arith, d))) ∙ k .starts j;
+            ends = λ j. other (endCell j) (λ d. absurd (omega (arith, d))) (λ d. absurd (omega (arith, d))) (λ d. absurd (omega (arith, d))) ∙ k .ends j;
+            beyond = λ j t.
+                other j (λ d. absurd (omega (arith, d, t))) (λ d. absurd (omega (arith, d, t))) (λ d. absurd (omega (arith, d, t)))
+                ∙ k .beyond j (omega (arith, t));
           };
           xEnd = λ j t. by-cases (ℕ-discrete j i)
-              (λ d. ap (xEndOf c) d ∙ rw e₂ (pair-first b (xEndCell i) (xBy longest b i) (zBy longest b i) q) ∙ x-same ∙ ap (xBy longest table) (sym d))
-              (λ d. other (xEndCell j) (λ a. absurd (omega (arith, a, d))) (λ a. absurd (omega (arith, a))) ∙ s .done .xEnd j (omega (arith, t, d)));
+              (λ d. ap (xEndOf c) d ∙ rw e₂ (three-first b (xEndCell i) x z v q) ∙ x-same ∙ ap (xBy longest table) (sym d))
+              (λ d. other (xEndCell j) (λ a. absurd (omega (arith, a, d))) (λ a. absurd (omega (arith, a))) (λ a. absurd (omega (arith, a)))
+              ∙ s .done .xEnd j (omega (arith, t, d)));
           zStart = λ j t. by-cases (ℕ-discrete j i)
-              (λ d. ap (zStartOf c) d ∙ ap (λ a. getD c a 0) g ∙ rw e₂ (pair-second b (xEndCell i) (xBy longest b i) (zBy longest b i) q) ∙ z-same ∙ ap (zBy longest table) (sym d))
-              (λ d. other (zStartCell j) (λ a. absurd (omega (arith, a))) (λ a. absurd (omega (arith, a, d))) ∙ s .done .zStart j (omega (arith, t, d)));
+              (λ d. ap (zStartOf c) d ∙ ap (λ a. getD c a 0) g₁ ∙ rw e₂ (three-second b (xEndCell i) x z v q) ∙ z-same ∙ ap (zBy longest table) (sym d))
+              (λ d. other (zStartCell j) (λ a. absurd (omega (arith, a))) (λ a. absurd (omega (arith, a, d))) (λ a. absurd (omega (arith, a)))
+              ∙ s .done .zStart j (omega (arith, t, d)));
+          pieces = λ j t. by-cases (ℕ-discrete j i)
+              (λ d. ap (piecesOf c) d ∙ ap (λ a. getD c a 0) g₂ ∙ rw e₂ (three-third b (xEndCell i) x z v q) ∙ number-same ∙ ap (numberBy longest table) (sym d))
+              (λ d. other (piecesCell j) (λ a. absurd (omega (arith, a))) (λ a. absurd (omega (arith, a))) (λ a. absurd (omega (arith, a, d)))
+              ∙ s .done .pieces j (omega (arith, t, d)));
         };
       }
 
@@ -214,29 +260,54 @@ module _ (text table after : List ℕ) (n : ℕ) (k : OnlyCuts table n after) wh
   pub laid-kept : Laid text table n → Laid text after n
   laid-kept f = laid-of-places text table after n (λ i h. k .starts i) (λ i h. k .ends i) (k .long) f
 
--- the cuts by the table of longest pieces are the cuts of the relation words
+-- the cuts and the numbers of pieces by the table of longest pieces are those of the relation words
 module _ (text table longest : List ℕ) (n : ℕ) (f : Fenced text table n) (t : Tabled text longest) (i : ℕ) (h : i < n) where
-  x-longest : xlen (wordsIn text table n) i ≡ longestAt text (startOf table i)
-  unfolding xlen
-  x-longest =
-      let l = word-length text table n (f .laid) i h in
-      let s = f .laid .some i h in
-      let c = longest-inside text table n f i (startOf table i) h (omega arith) (omega (arith, s)) in
-      let z : startOf table i + 0 ≡ startOf table i = omega arith in
-      let test : (m : ℕ) → m ≤ endOf table i - startOf table i → pieceAt (wordsIn text table n) i 0 m ≡ leb m (longestAt text (startOf table i)) =
-      λ m u. piece-longest text table n f i 0 m h (omega (arith, u, s)) ∙ ap (λ k. leb m (longestAt text k)) z in
-      rw l
-      (greatest-is (endOf table i - startOf table i) (pieceAt (wordsIn text table n) i 0) (longestAt text (startOf table i)) c
-      (λ b. test (longestAt text (startOf table i)) c ∙ le-leb (longestAt text (startOf table i)) (longestAt text (startOf table i)) (omega arith))
-      (λ k b u. test k u ∙ lt-leb k (longestAt text (startOf table i)) b))
-
-  pub x-cut : xBy longest table i ≡ startOf table i + xlen (wordsIn text table n) i
-  unfolding xBy
-  x-cut =
+  -- the table's entry at place a of the word
+  entry-here : (a : ℕ) → a ≤ endOf table i - startOf table i → getD longest (startOf table i + a) 0 ≡ longestAt text (startOf table i + a)
+  entry-here a u =
       let w = f .whole in
       let g = end-before text table n (f .laid) i h in
       let s = f .laid .some i h in
-      rw x-longest (ap (startOf table i +_) (t .at (startOf table i) (omega (arith, s, g, w))))
+      t .at (startOf table i + a) (omega (arith, u, s, g, w))
+
+  entry-inside : (a : ℕ) → a ≤ endOf table i - startOf table i → longestAt text (startOf table i + a) ≤ endOf table i - startOf table i - a
+  entry-inside a u =
+      let s = f .laid .some i h in
+      let c = longest-inside text table n f i (startOf table i + a) h (omega arith) (omega (arith, u, s)) in
+      omega (arith, c)
+
+  -- the longest piece at place a
+  piece-here : (a : ℕ) → a ≤ endOf table i - startOf table i
+      → greatest (len (wordsIn text table n) i - a) (pieceAt (wordsIn text table n) i a) ≡ longestAt text (startOf table i + a)
+  piece-here a u =
+      let l = word-length text table n (f .laid) i h in
+      let s = f .laid .some i h in
+      let c = entry-inside a u in
+      let test : (m : ℕ) → m ≤ endOf table i - startOf table i - a → pieceAt (wordsIn text table n) i a m ≡ leb m (longestAt text (startOf table i + a)) =
+      λ m v. piece-longest text table n f i a m h (omega (arith, u, v, s)) in
+      rw l
+      (greatest-is (endOf table i - startOf table i - a) (pieceAt (wordsIn text table n) i a) (longestAt text (startOf table i + a)) c
+      (λ b. test (longestAt text (startOf table i + a)) c ∙ le-leb (longestAt text (startOf table i + a)) (longestAt text (startOf table i + a)) (omega arith))
+      (λ k b v. test k v ∙ lt-leb k (longestAt text (startOf table i + a)) b))
+
+  pub x-cut : xBy longest table i ≡ startOf table i + xlen (wordsIn text table n) i
+  unfolding xBy xlen
+  x-cut =
+      let p = piece-here 0 (omega arith) in
+      let e = entry-here 0 (omega arith) in
+      let z : startOf table i + 0 ≡ startOf table i = omega arith in
+      let y : len (wordsIn text table n) i - 0 ≡ len (wordsIn text table n) i = omega arith in
+      ap (startOf table i +_) (rw z at (e ∙ sym (rw y at p)))
+
+  pub number-cut : numberBy longest table i ≡ number (pieceCount (wordsIn text table n) i)
+  unfolding numberFrom pieceCount longestPiece
+  number-cut =
+      let l = word-length text table n (f .laid) i h in
+      ap number
+      (fewest-same (pieceBy longest (startOf table i)) (longestPiece (wordsIn text table n) i) (endOf table i - startOf table i)
+      (λ a u. let e = entry-here a u in let c = entry-inside a u in omega (arith, e, c, u))
+      (λ a u. entry-here a u ∙ sym (piece-here a u))
+      ∙ ap (fewest (longestPiece (wordsIn text table n) i)) (sym l))
 
   pub z-cut : tailBy longest (startOf table i) (endOf table i) ≡ zlen (wordsIn text table n) i
   unfolding tailBy zlen
@@ -267,4 +338,5 @@ cut-true text table longest after n f t c =
           let e = k .ends i in
           let b = tail-bound longest (startOf table i) (endOf table i) in
           rw (w, e, ← z) (omega (arith, a, b));
+      pieces = λ i h. rw w (c .pieces i h ∙ number-cut text table longest n f t i h);
     }

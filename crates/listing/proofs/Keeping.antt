@@ -1,9 +1,9 @@
--- A table whose index changes keeps its list of relation words and their cuts.
+-- A table whose index changes keeps its list of relation words, their cuts and their numbers of pieces.
 use Prim.Native.Nat.{ℕ, _≤_}
 use mathlib.Core.List.{List}
 use mathlib.Core.Path.{_≡_, sym, _∙_, subst}
 use native.Mathlib.Omega.{arith}
-use Rattle.layout.specs.Places.{wordsMost, xEndCell, zStartCell}
+use Rattle.layout.specs.Places.{wordsMost, xEndCell, zStartCell, piecesCell}
 use Rattle.layout.specs.Layout.{wordsIn, Laid, Cut, Checked}
 use Rattle.overlap.specs.Pieces.{C4}
 use Rattle.layout.proofs.Placed.{words-of-places}
@@ -20,6 +20,7 @@ module _ (t u : List ℕ) (g : SamePositions t u) where
       record {
         xEnd = λ i h. rw (words-kept text n f, start-kept t u g i (omega arith)) (g .same (xEndCell i) (omega arith) ∙ c .xEnd i h);
         zStart = λ i h. rw (words-kept text n f, end-kept t u g i (omega arith), g .same (zStartCell i) (omega arith)) (c .zStart i h);
+        pieces = λ i h. rw (words-kept text n f) (g .same (piecesCell i) (omega arith) ∙ c .pieces i h);
       }
 
 -- a book whose words are laid out, accepted and cut is ready for rounds once its index is made

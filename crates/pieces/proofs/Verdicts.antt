@@ -112,7 +112,7 @@ module _ (text table : List ℕ) (n : ℕ) (f : Laid text table n) (t : ℕ) (e 
         let k = r .kept in
         let w = words-take text after t n (λ i h. let a = whole-ends text table n f t e i h in let c = k .ends i in omega (arith, a, c)) in
         let c = r .cut in
-        record { kept = k; cut = record { xEnd = λ i h. rw w at (c .xEnd i h); zStart = λ i h. rw w at (c .zStart i h) } }
+        record { kept = k; cut = record { xEnd = λ i h. rw w at (c .xEnd i h); zStart = λ i h. rw w at (c .zStart i h); pieces = λ i h. rw w at (c .pieces i h) } }
 
     pub copied-judged : (after : List ℕ) (r : Judged) → Judging (looseVerdict (wordsIn (take t b) table n)) (take t b) table n after r
         → Judging (looseVerdict (wordsIn text table n)) text table n after r

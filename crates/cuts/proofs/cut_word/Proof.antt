@@ -8,6 +8,11 @@ cut-word-spec =
     (tie.spec
     (λ c κs. search writing)
     (λ c κs. search writing)
+    (λ c κs. search writing)
+    (λ c. search writing)
+    (λ c. search writing)
+    (λ c. search writing)
+    (λ c. search writing)
     (λ c. search writing)
     (λ c. search writing)
     (λ c. search writing)

@@ -1,0 +1,117 @@
+-- The number of pieces of a word by the table of longest pieces: the loop that takes the longest piece each time, and a law for each way on.
+use Prim.Native.Nat.{ℕ, _+_, _-_, _<_, _≤_}
+use mathlib.Core.List.{List}
+use mathlib.Core.Path.{_≡_, refl, sym, ap, _∙_}
+use native.Mathlib.Omega.{arith}
+use mir.Syntax.{w8}
+use mir.Val.{Fits}
+use borrow.Author.Needs.{needs}
+use borrow.Author.Tests.{ne-eqb}
+use lib.ListN.{length, getD}
+use Rattle.words.proofs.Searching.{NoneBelow, none-start, none-more}
+use Rattle.overlap.specs.Counts.{number, reach, fewest, noProduct}
+use Rattle.layout.specs.Places.{startCell, endCell}
+use Rattle.layout.specs.Layout.{startOf, endOf}
+use Rattle.loose.specs.Pieces.{InTables}
+use Rattle.products.specs.Products.{pieceBy, numberFrom, numberBy, Enclosed}
+use Rattle.products.proofs.Reaching.{ends, reach-none, reach-more, fewest-is, fewest-none}
+
+-- one piece
+
+module _ (longest : List ℕ) (start a w : ℕ) (e : w ≡ a) where
+  pub piece-here : (r : ℕ) → r ≡ getD longest (start + w) 0 → r ≡ pieceBy longest start a
+  piece-here r d = d ∙ ap (λ k. getD longest (start + k) 0) e
+
+pub ruleset piecing = (piece-here, needs)
+
+-- the loop: `count` pieces end at place a, and no fewer reach the end of the word
+pub record Numbering (longest : List ℕ) (start n a count : ℕ) : Type 0 where
+  pub enclosed : Enclosed longest start n
+  pub reached : a ≡ reach (pieceBy longest start) count
+  pub upto : a ≤ n
+  pub few : count ≤ a
+  pub none : NoneBelow (ends (pieceBy longest start) n) count
+
+pub number-start : (longest : List ℕ) (start n : ℕ) → Enclosed longest start n → Numbering longest start n 0 0
+number-start longest start n f =
+    record { enclosed = f; reached = sym (reach-none (pieceBy longest start)); upto = omega arith; few = omega arith; none = none-start _ }
+
+module _ (longest : List ℕ) (start n a count : ℕ) (s : Numbering longest start n a count) where
+  pub number-inside : a < n → start + a < length longest
+  number-inside h = let i = s .enclosed .inside in omega (arith, h, i)
+
+  pub number-end : n ≤ a → count ≡ numberFrom longest start n
+  unfolding numberFrom number
+  number-end h =
+      let u = s .upto in
+      let k = s .few in
+      let r = s .reached in
+      rw (fewest-is (pieceBy longest start) n count (omega (arith, k, u)) (s .none) (omega (arith, r, u, h)))
+
+  module _ (h : a < n) (piece : ℕ) (e : piece ≡ pieceBy longest start a) where
+    here : piece ≡ pieceBy longest start (reach (pieceBy longest start) count)
+    here = e ∙ ap (pieceBy longest start) (s .reached)
+
+    pub number-none : piece ≡ 0 → noProduct ≡ numberFrom longest start n
+    unfolding numberFrom number
+    number-none z =
+        let r = s .reached in
+        rw (fewest-none (pieceBy longest start) n count (s .none) (omega (arith, r, h)) (sym here ∙ z))
+
+    pub number-fits : Fits w8 (a + piece)
+    number-fits = let w = s .enclosed .within a h in let k = s .enclosed .short in omega (arith, w, k, e)
+
+    pub count-fits : Fits w8 (count + 1)
+    count-fits = let f = s .few in let k = s .enclosed .short in omega (arith, f, k, h)
+
+    module _ (some : piece ≡ 0 → ⊥) where
+      pub number-less : n - (a + piece) < n - a
+      number-less = let w = s .enclosed .within a h in omega (arith, w, e, h, some)
+
+      pub number-more : Numbering longest start n (a + piece) (count + 1)
+      number-more =
+          let w = s .enclosed .within a h in
+          let f = s .few in
+          let r = s .reached in
+          let p = here in
+          record {
+            enclosed = s .enclosed;
+            reached = omega (arith, r, p, reach-more (pieceBy longest start) count);
+            upto = omega (arith, w, e);
+            few = omega (arith, f, some);
+            none = none-more _ count (s .none) (ne-eqb (reach (pieceBy longest start) count) n (λ c. absurd (omega (arith, c, r, h))));
+          }
+
+pub ruleset numbering = (number-start, number-inside, number-end, number-none, number-fits, count-fits, number-less, number-more, needs)
+
+-- word i
+
+module _ (longest table : List ℕ) (i : ℕ) (f : InTables longest table i) where
+  pub cells-start : startCell i < length table
+  cells-start = let r = f .room in omega (arith, r)
+
+  pub cells-end : endCell i < length table
+  cells-end = f .room
+
+  module _ (s e : ℕ) (d : s ≡ startOf table i) (g : e ≡ endOf table i) where
+    pub word-up : s ≤ e
+    word-up = let u = f .upwards in omega (arith, d, g, u)
+
+    pub word-short : e - s < 256
+    word-short = let l = f .long in omega (arith, d, g, l)
+
+    pub enclosed-here : Enclosed longest s (e - s)
+    enclosed-here =
+        let u = f .upwards in
+        let k = f .inside in
+        let l = f .long in
+        record {
+          inside = omega (arith, d, g, u, k);
+          short = omega (arith, d, g, l);
+          within = λ a h. let w = f .within (s + a) (omega (arith, d)) (omega (arith, d, g, h)) in omega (arith, w, g);
+        }
+
+    pub number-here : (r : ℕ) → r ≡ numberFrom longest s (e - s) → r ≡ numberBy longest table i
+    number-here r h = h ∙ rw (d, g)
+
+pub ruleset words = (cells-start, cells-end, word-up, word-short, enclosed-here, number-here, needs)
