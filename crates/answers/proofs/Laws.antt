@@ -14,6 +14,7 @@ use Rattle.words.specs.Words.{Word}
 use Rattle.writing.specs.Writing.{over}
 use Rattle.writing.proofs.Writing.{written-zero}
 use Rattle.words.specs.Relations.{relationWords}
+use Rattle.layout.specs.Places.{textRoom, tableRoom}
 use Rattle.layout.specs.Layout.{wordsIn}
 use Rattle.refusals.specs.declared.Refusal.{Refusal}
 use Rattle.refusals.specs.declared.Refusal.the-variants.{Narrow}
@@ -21,7 +22,7 @@ use Rattle.format.specs.declared.Reading.{Reading}
 use Rattle.format.specs.declared.Reading.the-variants.{Read, Refused}
 use Rattle.congruence.specs.Rows.{Next, round}
 use Rattle.congruence.specs.Rows.Next.{end, go}
-use Rattle.limits.specs.Limits.{roundMost, markMost, nextRoom}
+use Rattle.limits.specs.Limits.{roundMost, markMost, nextRoom, sheetColumns}
 use Rattle.rounds.specs.Writing as Writing
 use Rattle.rounds.specs.Writing.{writtenBy, Lent}
 use Rattle.presentation.specs.Loading.{Holding, Memory, BookLoaded}
@@ -144,7 +145,7 @@ module _ (book : List ℕ) (reading : Reading) (text table : List ℕ) (d : Book
         let q : leastOf book u buffer offset ≡ loadedLeast letters (relationWords (h .presentation .relations)) u buffer offset = rw (h .is, ← h .lettered) in
         least-answered book u buffer offset x (g ∙ sym q)
 
-pub memory-made : (text table : List ℕ) → length text ≡ 4160 → length table ≡ 450 → Memory text table
+pub memory-made : (text table : List ℕ) → length text ≡ textRoom → length table ≡ tableRoom → Memory text table
 memory-made text table h k = record { text4160 = h; table450 = k }
 
 pub ruleset checks = (memory-made, check-refused, check-accepted, needs)
@@ -159,20 +160,20 @@ pub ruleset leasts = (memory-made, least-unread, loaded-fits, loaded-letters, le
 
 -- the sheet by the table
 module _ (table : List ℕ) (count : ℕ) (s : SheetReady table count) (sheet : List ℕ) where
-  pub sheet-fits : Fits w64 (6 * count)
+  pub sheet-fits : Fits w64 (sheetColumns * (2 * count))
   sheet-fits = omega (arith, s .few)
 
   pub words-fit : Fits w64 (2 * count)
   words-fit = omega (arith, s .few)
 
-  pub sheet-narrow : length sheet < 6 * count → SheetOutcome.after (ofVerdict (Verdicts.Refused (Narrow 0))) sheet ≡ acceptedSheet table count sheet
+  pub sheet-narrow : length sheet < sheetColumns * (2 * count) → SheetOutcome.after (ofVerdict (Verdicts.Refused (Narrow 0))) sheet ≡ acceptedSheet table count sheet
   unfolding acceptedSheet
   sheet-narrow h = rw (lt-ltb _ _ h)
 
-  pub sheet-roomy : 6 * count ≤ length sheet → SheetRoom table (2 * count) sheet
+  pub sheet-roomy : sheetColumns * (2 * count) ≤ length sheet → SheetRoom table (2 * count) sheet
   sheet-roomy h = record { cuts = s .cuts; place = omega arith; few = omega (arith, s .few) }
 
-  pub sheet-written : (out : List ℕ) → 6 * count ≤ length sheet → out ≡ over (sheetBytes table (2 * count)) sheet
+  pub sheet-written : (out : List ℕ) → sheetColumns * (2 * count) ≤ length sheet → out ≡ over (sheetBytes table (2 * count)) sheet
       → SheetOutcome.after (ofVerdict (Verdicts.Accepted count)) out ≡ acceptedSheet table count sheet
   unfolding acceptedSheet
   sheet-written out h e = rw (le-ltb _ _ h, e)

@@ -1,7 +1,7 @@
 -- The demands on least words, from the theorems of crate `least`: what the rounds write is the least word, and least words decide congruence.
-use Prim.Native.Nat.{ℕ, zero, suc, _+_, _*_, _-_, _≤_, _<_}
+use Prim.Native.Nat.{ℕ, _+_, _*_, _-_, _≤_, _<_}
 use mathlib.Core.Bool.{Bool, true, false}
-use mathlib.Core.List.{List, [], _∷_, _++_}
+use mathlib.Core.List.{List, [], _++_}
 use mathlib.Core.Logic.{_↔_, _⊎_, inl, inr}
 use mathlib.Core.Path.{_≡_, refl, sym, ap, _∙_, subst}
 use native.Mathlib.Omega.{arith}
@@ -11,9 +11,9 @@ use lib.Dec.{ltb}
 use lib.ListN.{length, getD, take, drop, length-append, length-drop, List·getD-append}
 use lib.Seq.{length-take-le, getD-take, getD-append-add, getD-drop, drop-at, take-at}
 use Rattle.words.specs.Words.{Word}
-use Rattle.words.specs.Relations.{Relation, relationWords}
+use Rattle.words.specs.Relations.{relationWords}
 use Rattle.overlap.specs.Pieces.{word}
-use Rattle.overlap.specs.Cuts.{len, longestSuffixPiece}
+use Rattle.overlap.specs.Cuts.{longestSuffixPiece}
 use Rattle.congruence.specs.Congruence.{Congruent}
 use Rattle.least.specs.Order.{houseRank}
 use Rattle.least.specs.Least.{LeastWord}
@@ -24,11 +24,8 @@ use Rattle.least.proofs.Order.{house-injective}
 use Rattle.least.proofs.Theorem.{least-words-decide}
 use Rattle.limits.specs.Limits.{comparedMost, sideMost}
 use Rattle.refusals.specs.declared.Refusal.the-variants.{NoSpace}
-use Rattle.format.specs.Book.{Presentation, BookReading, readBook}
-use Rattle.format.specs.Bytes.{Within, AllWithin, none, more}
-use Rattle.format.proofs.Readings.{read-within}
-use Rattle.presentation.specs.Loading.{loadBook, byVerdict}
-use Rattle.overlap.specs.Verdict.{Verdict, judge}
+use Rattle.format.specs.Book.{Presentation, BookReading}
+use Rattle.presentation.specs.Loading.{loadBook}
 use Rattle.given.specs.declared.Given.the-variants as Words
 use Rattle.given.specs.Given.{givenOf, oneOf, pairOf}
 use Rattle.given.proofs.Laws.{fine-short, fine-both, fine-again}
@@ -39,32 +36,8 @@ use Rattle.leastword.proofs.Rounds.{longest-bound}
 use Rattle.answers.specs.Answers.{Answer, same, different, wrote, refused, refusal}
 use Rattle.answers.specs.Entries.{LeastOutcome, compareOf, lacksSpace, placedAt, loadedLeast, leastOf}
 use Rattle.answers.specs.Demands.{Decides, Placed, WritesLeast, LeastAnswered, LeastWritten, writtenBytes, LeastDecides}
-use Rattle.answers.proofs.Theorems.{loaded-c4, compared}
-
--- relation words within the limits are short
-words-short : (letters : ℕ) (rs : List Relation) → AllWithin letters rs → (i : ℕ) → len (relationWords rs) i ≤ sideMost
-unfolding relationWords
-words-short letters [] none i = omega arith
-words-short letters (r ∷ rs) (more w ws) zero = w .left .short
-words-short letters (r ∷ rs) (more w ws) (suc zero) = w .right .short
-words-short letters (r ∷ rs) (more w ws) (suc (suc i)) = words-short letters rs ws i
-
--- what is loaded was read
-by-verdict-read : (p q : Presentation) (v : Verdict) → byVerdict q v ≡ BookReading.read p → q ≡ p
-by-verdict-read p q Verdict.accepted e = cc
-by-verdict-read p q (Verdict.repeated i) e = let z : _≡_ {A = ℕ} 0 1 = cc in absurd (omega arith)
-by-verdict-read p q (Verdict.loose i) e = let z : _≡_ {A = ℕ} 0 1 = cc in absurd (omega arith)
-
-loaded-within : (book : List ℕ) (p : Presentation) → loadBook book ≡ BookReading.read p → Within p
-unfolding loadBook
-loaded-within book p e = go (readBook book) refl
-  where
-    go : (x : BookReading) → readBook book ≡ x → Within p
-    go (BookReading.read q) f = subst Within (by-verdict-read p q (judge (relationWords (q .relations))) (rw f at e)) (read-within book q f)
-    go (BookReading.refused r) f =
-        let d : BookReading.refused r ≡ BookReading.read p = rw f at e in
-        let z : _≡_ {A = ℕ} 0 1 = cc in
-        absurd (omega arith)
+use Rattle.answers.proofs.Loaded.{loaded-c4, loaded-short}
+use Rattle.answers.proofs.Theorems.{compared}
 
 -- a word in a buffer that has room for it
 module _ (w old : List ℕ) (offset : ℕ) (h : offset + length w ≤ length old) where
@@ -177,7 +150,7 @@ loaded-least book p e = least-words-decide (p .relations) (loaded-c4 book p e) h
 pub least-written : LeastWritten
 least-written book u old offset p e f =
     let B = relationWords (p .relations) in
-    let s = longest-bound B sideMost (length B) (λ i h. words-short (p .letters) (p .relations) (loaded-within book p e .all) i) in
+    let s = longest-bound B sideMost (length B) (λ i h. loaded-short book p e i) in
     writes-least B (loaded-least book p e) u (omega arith) (fine-short 0 comparedMost (p .letters) u f) old offset (leastOf book u old offset) (placed-least book u old offset p e f)
 
 -- what is the definition's outcome is all that the least word promises

@@ -3,13 +3,12 @@ use Prim.Native.Nat.{ℕ, _<_, _≤_}
 use mathlib.Core.Bool.{Bool, true, false}
 use mathlib.Core.List.{List}
 use mathlib.Core.Logic.{_↔_, _⊎_, inl, inr, by-cases}
-use mathlib.Core.Path.{_≡_, refl, sym, ap, _∙_, subst}
+use mathlib.Core.Path.{_≡_, refl, sym, ap, _∙_}
 use native.Mathlib.Omega.{arith}
 use native.Mathlib.Decide.{decLt}
 use lib.ListN.{length}
 use Rattle.words.specs.Words.{Word}
 use Rattle.words.specs.Relations.{relationWords}
-use Rattle.overlap.specs.Pieces.{C4}
 use Rattle.overlap.specs.Verdict.{Verdict, judge}
 use Rattle.overlap.proofs.Verdicts.{judge-iff-right, judge-accepts-iff-c4}
 use Rattle.congruence.specs.Congruence.{Congruent}
@@ -18,13 +17,14 @@ use Rattle.congruence.specs.Rounds.{compareUnder}
 use Rattle.congruence.specs.Theorem.{Decision}
 use Rattle.congruence.proofs.Theorem.{rows-decide}
 use Rattle.format.specs.Book.{Presentation, BookReading, readBook}
-use Rattle.presentation.specs.Loading.{loadBook, byVerdict}
+use Rattle.presentation.specs.Loading.{loadBook}
 use Rattle.given.specs.declared.Given.the-variants as Words
 use Rattle.given.specs.Given.{pairOf}
 use Rattle.comparison.specs.Comparing.{answerOf, comparisonOf}
 use Rattle.answers.specs.Answers.{Answer, accepted, same, different, refused}
 use Rattle.answers.specs.Entries.{checkOf, compareOf}
 use Rattle.answers.specs.Demands.{Acceptance, Decides, Compared}
+use Rattle.answers.proofs.Loaded.{loaded-c4}
 
 -- the verdict as an answer
 verdictAnswer : ℕ → Verdict → Answer
@@ -90,25 +90,6 @@ acceptance book p e =
       );
       only = rw c (verdict-only n (judge B));
     }
-
--- a loaded book meets C(4)
-by-verdict-c4 : (p q : Presentation) (v : Verdict) → judge (relationWords (q .relations)) ≡ v → byVerdict q v ≡ BookReading.read p → C4 (relationWords (p .relations))
-by-verdict-c4 p q Verdict.accepted f e =
-    let g : q ≡ p = cc in
-    subst (λ (r : Presentation). C4 (relationWords (r .relations))) g (judge-accepts-iff-c4 (relationWords (q .relations)) .0 f)
-by-verdict-c4 p q (Verdict.repeated i) f e = let z : _≡_ {A = ℕ} 0 1 = cc in absurd (omega arith)
-by-verdict-c4 p q (Verdict.loose i) f e = let z : _≡_ {A = ℕ} 0 1 = cc in absurd (omega arith)
-
-pub loaded-c4 : (book : List ℕ) (p : Presentation) → loadBook book ≡ BookReading.read p → C4 (relationWords (p .relations))
-unfolding loadBook
-loaded-c4 book p e = go (readBook book) refl
-  where
-    go : (x : BookReading) → readBook book ≡ x → C4 (relationWords (p .relations))
-    go (BookReading.read q) f = by-verdict-c4 p q (judge (relationWords (q .relations))) refl (rw f at e)
-    go (BookReading.refused r) f =
-        let d : BookReading.refused r ≡ BookReading.read p = rw f at e in
-        let z : _≡_ {A = ℕ} 0 1 = cc in
-        absurd (omega arith)
 
 -- the rows' answer in document 01's words
 inWords : Rows.CompareAnswer → Answer

@@ -1,4 +1,4 @@
--- The table's positions give the cuts of the relation words, and a law for each way that writing the sheet can go.
+-- The table's numbers give the cuts and the numbers of pieces of the relation words, and a law for each way that writing the sheet can go.
 use Prim.Native.Nat.{ℕ, zero, suc, _+_, _*_, _≤_, _<_}
 use mathlib.Core.List.{List, [], _∷_, _++_}
 use mathlib.Core.Path.{_≡_, refl, sym, ap, _∙_}
@@ -6,17 +6,30 @@ use native.Mathlib.Omega.{arith}
 use native.Mathlib.Numerals.{add-one}
 use borrow.Author.Needs.{needs}
 use lib.ListN.{length, length-append}
-use Rattle.overlap.specs.Cuts.{xlen, ylen, zlen}
+use Rattle.limits.specs.Limits.{sheetColumns}
+use Rattle.words.specs.Words.{Word}
+use Rattle.overlap.specs.Cuts.{len, xlen, ylen, zlen}
+use Rattle.overlap.specs.Counts.{PieceCount, pieces, none, number, pieceCount}
+use Rattle.overlap.proofs.Counts.{count-short}
 use Rattle.overlap.proofs.Facts.{rigid-of-c4}
-use Rattle.layout.specs.Layout.{wordsIn, Checked}
+use Rattle.layout.specs.Layout.{piecesOf, wordsIn, Checked}
 use Rattle.layout.proofs.Placed.{words-length, word-length}
 use Rattle.layout.proofs.CutPlaces.{cuts-inside, xy-long}
 use Rattle.writing.specs.Writing.{written, over}
 use Rattle.writing.proofs.Writing.{written-zero, written-length, written-behind}
-use Rattle.sheet.specs.Sheet.{cutBytes, cutSheet, xAt, yAt, zAt, lengthsAt, sheetBytes, CutsIn, LengthsRoom, SheetRoom}
+use Rattle.sheet.specs.Sheet.{cutBytes, cutSheet, cutRow, xAt, yAt, zAt, rowAt, sheetBytes, CutsIn, RowRoom, SheetRoom}
+
+-- the number of pieces of a short word is a byte
+number-byte : (B : List Word) (i : ℕ) → len B i < 256 → number (pieceCount B i) < 256
+unfolding number
+number-byte B i h = go (pieceCount B i) refl
+  where
+    go : (c : PieceCount) → pieceCount B i ≡ c → number c < 256
+    go (pieces n) e = omega (arith, count-short B i n e)
+    go none e = omega arith
 
 module _ (text table : List ℕ) (n : ℕ) (c : Checked text table n) where
-  -- the positions are in order: Y is not empty
+  -- the positions are in order, since Y is not empty, and the number of pieces is a byte
   pub cuts-in : (i : ℕ) → i < n → CutsIn table i
   cuts-in i h =
       let l = c .laid in
@@ -29,10 +42,11 @@ module _ (text table : List ℕ) (n : ℕ) (c : Checked text table n) where
         y = omega (arith, xy-long text table n l (c .cut) i h, k .2);
         z = k .3;
         short = omega (arith, l .short i h, l .some i h);
+        pieces = rw (c .cut .pieces i h) (number-byte (wordsIn text table n) i (omega (arith, word-length text table n l i h, l .short i h)));
       }
 
-  lengths-cut : (i : ℕ) → i < n → lengthsAt table i ≡ xlen (wordsIn text table n) i ∷ ylen (wordsIn text table n) i ∷ zlen (wordsIn text table n) i ∷ []
-  lengths-cut i h =
+  row-cut : (i : ℕ) → i < n → rowAt table i ≡ cutRow (wordsIn text table n) i
+  row-cut i h =
       let k = cuts-in i h in
       let w = word-length text table n (c .laid) i h in
       let ex = c .cut .xEnd i h in
@@ -40,28 +54,28 @@ module _ (text table : List ℕ) (n : ℕ) (c : Checked text table n) where
       let x : xAt table i ≡ xlen (wordsIn text table n) i = omega arith in
       let z : zAt table i ≡ zlen (wordsIn text table n) i = omega arith in
       let y : yAt table i ≡ ylen (wordsIn text table n) i = omega (arith, k .x, k .y, k .z) in
-      rw (x, y, z)
+      rw (x, y, z, c .cut .pieces i h)
 
   bytes-cut : (m : ℕ) → m ≤ n → sheetBytes table m ≡ cutBytes (wordsIn text table n) m
   unfolding sheetBytes cutBytes
   bytes-cut zero h = refl
-  bytes-cut (suc m) h = rw (bytes-cut m (omega arith), lengths-cut m (omega arith))
+  bytes-cut (suc m) h = rw (bytes-cut m (omega arith), row-cut m (omega arith))
 
   -- the sheet by the table is the cut sheet of the relation words
   pub sheet-cut : sheetBytes table n ≡ cutSheet (wordsIn text table n)
   sheet-cut = bytes-cut n (omega arith) ∙ sym (rw (words-length text table n))
 
-pub length-sheet : (table : List ℕ) (n : ℕ) → length (sheetBytes table n) ≡ 3 * n
+pub length-sheet : (table : List ℕ) (n : ℕ) → length (sheetBytes table n) ≡ sheetColumns * n
 unfolding sheetBytes
 length-sheet table zero = refl
 length-sheet table (suc n) = simp length-append (omega (arith, length-sheet table n))
 
--- the lengths are written
-pub lengths-written : (table : List ℕ) (i : ℕ) (sheet : List ℕ) (x y z : ℕ) (after : List ℕ) → x ≡ xAt table i → y ≡ yAt table i → z ≡ zAt table i
-    → after ≡ written (3 * i) (x ∷ y ∷ z ∷ []) sheet → after ≡ written (3 * i) (lengthsAt table i) sheet
-lengths-written table i sheet x y z after ex ey ez e = rw (← ex, ← ey, ← ez) e
+-- the row is written
+pub row-written : (table : List ℕ) (i : ℕ) (sheet : List ℕ) (x y z p : ℕ) (after : List ℕ) → x ≡ xAt table i → y ≡ yAt table i → z ≡ zAt table i → p ≡ piecesOf table i
+    → after ≡ written (sheetColumns * i) (x ∷ y ∷ z ∷ p ∷ []) sheet → after ≡ written (sheetColumns * i) (rowAt table i) sheet
+row-written table i sheet x y z p after ex ey ez ep e = rw (← ex, ← ey, ← ez, ← ep) e
 
-pub ruleset lengths = (lengths-written, needs)
+pub ruleset rows = (row-written, needs)
 
 -- i relation words are on the sheet
 pub record Sheeted (table : List ℕ) (n : ℕ) (sheet : List ℕ) (i : ℕ) (b : List ℕ) : Type 0 where
@@ -75,22 +89,22 @@ unfolding sheetBytes
 sheeted-start table n sheet r = record { room = r; within = omega arith; same = sym (written-zero [] sheet); kept = refl }
 
 module _ (table : List ℕ) (n : ℕ) (sheet : List ℕ) (i : ℕ) (b : List ℕ) (s : Sheeted table n sheet i b) where
-  pub sheeted-room : i < n → LengthsRoom table i b
+  pub sheeted-room : i < n → RowRoom table i b
   sheeted-room h =
       let p = s .room .place in
       record { cuts = s .room .cuts i h; place = omega (arith, s .kept); early = omega (arith, s .room .few) }
 
-  pub sheeted-more : (a : List ℕ) → i < n → a ≡ written (3 * i) (lengthsAt table i) b → Sheeted table n sheet (i + 1) a
+  pub sheeted-more : (a : List ℕ) → i < n → a ≡ written (sheetColumns * i) (rowAt table i) b → Sheeted table n sheet (i + 1) a
   unfolding sheetBytes
   sheeted-more a h e =
       let l = length-sheet table i in
       let room = s .room .place in
-      let next : sheetBytes table (i + 1) ≡ sheetBytes table i ++ lengthsAt table i = ap (sheetBytes table) (add-one i) in
+      let next : sheetBytes table (i + 1) ≡ sheetBytes table i ++ rowAt table i = ap (sheetBytes table) (add-one i) in
       record {
         room = s .room;
         within = omega arith;
-        same = e ∙ ap (written (3 * i) (lengthsAt table i)) (s .same) ∙ written-behind 0 (sheetBytes table i) (lengthsAt table i) sheet (3 * i) (omega arith) (omega arith) ∙ rw next;
-        kept = ap length e ∙ written-length (3 * i) (lengthsAt table i) b (omega (arith, s .kept)) ∙ s .kept;
+        same = e ∙ ap (written (sheetColumns * i) (rowAt table i)) (s .same) ∙ written-behind 0 (sheetBytes table i) (rowAt table i) sheet (sheetColumns * i) (omega arith) (omega arith) ∙ rw next;
+        kept = ap length e ∙ written-length (sheetColumns * i) (rowAt table i) b (omega (arith, s .kept)) ∙ s .kept;
       }
 
   pub sheeted-end : n ≤ i → b ≡ over (sheetBytes table n) sheet
