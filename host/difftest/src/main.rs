@@ -3,13 +3,15 @@
 use std::time::{Duration, Instant};
 
 use difftest::{chosen, trials, Entries, Tally, Trial};
+use gen::books::AT_THE_LIMITS;
 use gen::Chance;
 
 /// A trial by name.
 type Named = (&'static str, fn(&mut Trial, &mut Chance));
 
-const TRIALS: [Named; 17] = [
+const TRIALS: [Named; 18] = [
     ("generated books", |trial, chance| trials::generated_books(trial, chance, 1_000)),
+    ("sheets", |trial, chance| trials::sheets(trial, chance, 1_000)),
     ("damaged books", |trial, chance| trials::damaged_books(trial, chance, 1_000)),
     ("every byte", |trial, chance| trials::every_byte(trial, chance, 4)),
     ("wrong lengths", |trial, chance| trials::wrong_lengths(trial, chance, 4)),
@@ -18,7 +20,7 @@ const TRIALS: [Named; 17] = [
     ("long comparisons", |trial, chance| trials::comparisons(trial, chance, 10, 1_500)),
     ("rounds", |trial, chance| trials::rounds(trial, chance, 400)),
     ("rounds make comparisons", |trial, chance| trials::rounds_make_comparisons(trial, chance, 200)),
-    ("limits", |trial, chance| trials::limits(trial, chance, 7)),
+    ("limits", |trial, chance| trials::limits(trial, chance, AT_THE_LIMITS)),
     ("programs", |trial, chance| trials::programs(trial, chance, 1_000)),
     ("chains", |trial, chance| trials::chains(trial, chance, 40, 700)),
     ("classes", |trial, chance| trials::classes(trial, chance, 1_000)),

@@ -12,6 +12,10 @@ use crate::tally::Tally;
 /// The sizes that the single round's buffers need.
 pub const NEXT: [usize; 3] = [4_224, 4_224, 64];
 
+/// The bytes of the cut sheet for each side, and those of the sheet of a full book.
+pub const SHEET_SIDE: usize = 4;
+pub const SHEET: usize = 64 * SHEET_SIDE;
+
 /// The most letters of a least word.
 pub const LEAST: usize = 262_144;
 
@@ -57,20 +61,19 @@ impl<'a> Trial<'a> {
     pub fn cut_sheet(&mut self, book: &[u8], known: &Known, size: usize) {
         let expected = match known {
             Err(refusal) => Err(of_reference(*refusal)),
-            Ok(accepted) if size < 3 * accepted.cuts.len() => Err((12, 0)),
+            Ok(accepted) if size < SHEET_SIDE * accepted.cuts.len() => Err((12, 0)),
             Ok(accepted) => Ok(accepted.relations() as u64),
         };
-        let mut written = Vec::new();
-        if let (Ok(_), Ok(accepted)) = (&expected, known) {
-            for cut in &accepted.cuts {
-                written.extend([cut.x().len() as u8, cut.y().len() as u8, cut.z().len() as u8]);
-            }
-        }
         let mut sheet = Lent::new(size);
         let result = self.entries.cut_sheet(book, sheet.slice());
         assert_eq!(result, expected, "sheet {} {size}", hex(book));
-        assert_eq!(sheet.fault(&written), None, "a byte of the sheet: sheet {} {size}", hex(book));
         self.met(&expected);
+        let mut written = Vec::new();
+        if let (Ok(_), Ok(accepted)) = (&expected, known) {
+            written = accepted.sheet();
+            self.tally.meet_numbers(&accepted.numbers);
+        }
+        assert_eq!(sheet.fault(&written), None, "a byte of the sheet: sheet {} {size}", hex(book));
     }
 
     /// The comparison; gives the answer.

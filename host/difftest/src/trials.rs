@@ -4,10 +4,11 @@ use std::collections::HashMap;
 
 use gen::books::{renamed, Renaming};
 use gen::{books, damage, inputs, words, Book, Chance};
-use reference::pieces::longest_tail;
+use reference::pieces::{longest_tail, numbers};
+use reference::Refusal;
 
 use crate::entries::Compared;
-use crate::trial::{Known, KnownLeast, Trial, LEAST, NEXT};
+use crate::trial::{Known, KnownLeast, Trial, LEAST, NEXT, SHEET, SHEET_SIDE};
 
 /// A book that the reference accepts, with its bytes.
 fn accepted(chance: &mut Chance, make: fn(&mut Chance) -> Book) -> (Book, Vec<u8>, Known) {
@@ -27,8 +28,30 @@ pub fn generated_books(trial: &mut Trial, chance: &mut Chance, cases: usize) {
         let book = books::any(chance);
         let bytes = book.bytes();
         let known = trial.check(&bytes);
-        let fits = 3 * book.words.len();
-        for size in [fits, fits.saturating_sub(1), fits + chance.below(20), 0, 192] {
+        let fits = SHEET_SIDE * book.words.len();
+        for size in [fits, fits.saturating_sub(1), fits + 1, fits + chance.below(20), 0, SHEET] {
+            trial.cut_sheet(&bytes, &known, size);
+        }
+    }
+}
+
+/// Sheets of books whose sides are products of few pieces, of many and of none, in buffers of every size within a side's bytes of theirs, of three bytes
+/// a side, and of a few at random. A book is accepted just where every number is at least 4, and refused at the lowest side whose number is not.
+pub fn sheets(trial: &mut Trial, chance: &mut Chance, cases: usize) {
+    let kinds = [books::of_many_numbers, books::of_many_numbers, books::small, books::any];
+    for case in 0..cases {
+        let book = kinds[case % kinds.len()](chance);
+        let bytes = book.bytes();
+        let known = trial.check(&bytes);
+        let low = numbers(&book.words).iter().position(|&number| number < 4);
+        match known {
+            Ok(_) => assert_eq!(low, None, "{book:?}"),
+            Err(Refusal { number: 8, place }) => assert_eq!(low, Some(place as usize), "{book:?}"),
+            Err(Refusal { number, .. }) => assert_eq!(number, 7, "{book:?}"),
+        }
+        let fits = SHEET_SIDE * book.words.len();
+        let near = fits.saturating_sub(SHEET_SIDE)..=fits + SHEET_SIDE;
+        for size in near.chain([3 * book.words.len(), chance.below(SHEET), SHEET]) {
             trial.cut_sheet(&bytes, &known, size);
         }
     }
@@ -50,7 +73,7 @@ pub fn damaged_books(trial: &mut Trial, chance: &mut Chance, cases: usize) {
 
 /// The entries that take a book and more.
 fn every_entry(trial: &mut Trial, bytes: &[u8], known: &Known, u: &[u8], v: &[u8]) {
-    trial.cut_sheet(bytes, known, 192);
+    trial.cut_sheet(bytes, known, SHEET);
     let _ = trial.compare(bytes, known, u, v, u32::MAX);
     trial.round(bytes, known, [u, v, &[]], NEXT);
     if let Some(least) = trial.search_least(known, u, 100) {
@@ -242,7 +265,8 @@ pub fn limits(trial: &mut Trial, chance: &mut Chance, cases: usize) {
         let bytes = book.bytes();
         let known = trial.check(&bytes);
         assert!(known.is_ok(), "book {number} at the limits");
-        for size in [192, 3 * book.words.len() - 1] {
+        let fits = SHEET_SIDE * book.words.len();
+        for size in [SHEET, fits - 1, fits, fits + 1] {
             trial.cut_sheet(&bytes, &known, size);
         }
         let mut u = words::of_sides(chance, &book, 4_096);
@@ -356,7 +380,7 @@ pub fn chains(trial: &mut Trial, chance: &mut Chance, cases: usize, count: usize
 }
 
 /// All books of one relation over two letters up to a length of the longer side: how many are accepted is known from document 000, Table 1
-/// (which leaves out a = b). For those accepted, breadth-first search on all words of a length and below.
+/// (which leaves out a = b). For those accepted, the sheet, and breadth-first search on all words of a length and below.
 pub fn two_letters(trial: &mut Trial, most: usize, words_of: usize) {
     for (n, total) in (1..).zip([1, 0, 0, 0, 0, 0, 2, 26, 760]).take(most) {
         let mut accepted = 0;
@@ -365,6 +389,7 @@ pub fn two_letters(trial: &mut Trial, most: usize, words_of: usize) {
             let known = trial.check(&bytes);
             if known.is_ok() {
                 accepted += 1;
+                trial.cut_sheet(&bytes, &known, 2 * SHEET_SIDE);
                 if accepted <= 26 {
                     all_pairs(trial, &book, &bytes, &known, words_of);
                 }
@@ -594,7 +619,7 @@ pub fn least_at_the_limits(trial: &mut Trial, chance: &mut Chance) {
         let word = [&long[..], &[last]].concat();
         trial.least(&bytes, &Ok(least.unwrap_or_else(|| word.clone())), &word, 4_096, 0);
     }
-    for number in 0..7 {
+    for number in 0..books::AT_THE_LIMITS {
         let book = books::at_the_limits(chance, number);
         let bytes = book.bytes();
         let mut u = words::of_sides(chance, &book, 4_096);

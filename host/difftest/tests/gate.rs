@@ -1,6 +1,7 @@
 //! The fixed part of the differential tests: fixed seeds and sizes, some tens of seconds.
 
 use difftest::{chosen, trials, Tally, Trial};
+use gen::books::AT_THE_LIMITS;
 use gen::Chance;
 
 /// Runs a trial with a fixed seed and gives what it met.
@@ -17,6 +18,14 @@ fn generated_books() {
     let tally = tried(1, |trial, chance| trials::generated_books(trial, chance, 4_000));
     assert!(tally.accepted > 2_000);
     assert!([7, 8, 12].iter().all(|&number| tally.refused[number] > 100));
+}
+
+#[test]
+fn sheets() {
+    let tally = tried(23, |trial, chance| trials::sheets(trial, chance, 4_000));
+    assert!(tally.accepted > 1_500);
+    assert!([8, 12].iter().all(|&number| tally.refused[number] > 1_000));
+    assert!(tally.numbers.iter().all(|&met| met > 1_000));
 }
 
 #[test]
@@ -61,7 +70,7 @@ fn rounds_make_comparisons() {
 
 #[test]
 fn limits() {
-    let tally = tried(9, |trial, chance| trials::limits(trial, chance, 7));
+    let tally = tried(9, |trial, chance| trials::limits(trial, chance, AT_THE_LIMITS));
     assert!(tally.refused[9] > 10);
     tried(10, |trial, _| trials::longest_next(trial));
     tried(11, |trial, _| trials::most_rounds(trial, 256));

@@ -1,6 +1,7 @@
 //! The recorded calls and inputs, and document 01's bench cases, with answers that are written down: the reference has no part in these.
 
 use difftest::entries::{Compared, Refused, Rounded};
+use difftest::trial::{SHEET, SHEET_SIDE};
 use difftest::{chosen, Entries};
 use gen::{books, Book};
 use vectors::{bytes, hex, Call};
@@ -69,10 +70,28 @@ fn word(text: &str) -> Vec<u8> {
     text.bytes().map(|letter| letter - b'a').collect()
 }
 
-/// A book over four letters, its rules written as in the paper.
-fn book(rules: &str) -> Vec<u8> {
+/// A book, its rules written as in the paper.
+fn book_over(letters: u8, rules: &str) -> Vec<u8> {
     let sides = rules.split(", ").filter(|rule| !rule.is_empty()).flat_map(|rule| rule.split(" = ")).map(word).collect();
-    Book::new(4, sides).bytes()
+    Book::new(letters, sides).bytes()
+}
+
+/// A book over four letters.
+fn book(rules: &str) -> Vec<u8> {
+    book_over(4, rules)
+}
+
+/// The number of relations, and for each side the lengths of X, Y, Z and the number of pieces; or the refusal.
+fn sheet(book: &[u8], size: usize) -> String {
+    let mut sheet = vec![0; size];
+    match chosen().cut_sheet(book, &mut sheet) {
+        Ok(relations) => {
+            let sides = sheet.chunks(SHEET_SIDE).take(2 * relations as usize);
+            let rows: Vec<String> = sides.map(|row| row.iter().map(u8::to_string).collect::<Vec<_>>().join(" ")).collect();
+            format!("{relations}: {}", rows.join(", "))
+        }
+        Err(refusal) => refused(refusal),
+    }
 }
 
 #[test]
@@ -81,30 +100,55 @@ fn bench_cases_of_books() {
         ("", "0: "),
         ("a = aa", "refused 8 0"),
         ("aa = b", "refused 8 0"),
-        ("a = b", "1: 010 010"),
+        ("a = b", "1: 0 1 0 255, 0 1 0 255"),
         ("ab = ab", "refused 7 1"),
         ("abdc = acbd", "refused 8 0"),
-        ("abdc = cadb", "1: 121 121"),
+        ("abdc = cadb", "1: 1 2 1 4, 1 2 1 4"),
         ("daaa = dc", "refused 8 0"),
         // document 000, section 1
         ("abc = cba", "refused 8 0"),
-        ("acba = aabc", "1: 121 121"),
+        ("acba = aabc", "1: 1 2 1 4, 1 2 1 4"),
         ("acba = aabc, acba = dbbbd", "refused 7 2"),
-        ("aabc = aabd", "1: 310 310"),
+        ("aabc = aabd", "1: 3 1 0 255, 3 1 0 255"),
     ];
     for (rules, expected) in cases {
-        let mut sheet = [0; 192];
-        let answer = match chosen().cut_sheet(&book(rules), &mut sheet) {
-            Ok(relations) => {
-                let cuts: Vec<String> = sheet[..6 * relations as usize].chunks(3).map(|cut| format!("{}{}{}", cut[0], cut[1], cut[2])).collect();
-                format!("{relations}: {}", cuts.join(" "))
-            }
-            Err(refusal) => refused(refusal),
-        };
-        assert_eq!(answer, expected, "{rules}");
+        assert_eq!(sheet(&book(rules), SHEET), expected, "{rules}");
         let checked = chosen().check(&book(rules)).map_or_else(refused, |relations| relations.to_string());
         assert_eq!(checked, expected.split(':').next().expect("a part"), "{rules}");
     }
+}
+
+#[test]
+fn numbers_of_pieces() {
+    let cases = [
+        ("abcde = edcba", "1: 1 3 1 5, 1 3 1 5"),
+        ("abdc = cadbe", "1: 1 2 1 4, 1 4 0 255"),
+        ("caedb = abdc", "1: 1 3 1 255, 1 2 1 4"),
+        ("abcdghef = efabghcd", "1: 2 4 2 4, 2 4 2 4"),
+        ("abdcf = cadbg, gfabe = h", "2: 2 2 1 4, 1 3 1 5, 1 4 0 255, 0 1 0 255"),
+        ("abdc = cadbe, eacfde = fbcedaf", "2: 1 2 1 4, 1 3 1 5, 1 4 1 6, 1 5 1 7"),
+        // numbers below 4
+        ("abdc = b", "refused 8 1"),
+        ("cab = aa", "refused 8 1"),
+        ("cdbea = abc", "refused 8 1"),
+        ("abdc = cadb, bcd = a", "refused 8 2"),
+        ("abdc = cadb, a = bcd", "refused 8 2"),
+        ("abdc = cadb, eaf = ba", "refused 8 3"),
+        ("abdc = cadb, abe = f", "refused 8 0"),
+    ];
+    for (rules, expected) in cases {
+        let bytes = book_over(8, rules);
+        assert_eq!(sheet(&bytes, SHEET), expected, "{rules}");
+        if let Some(relations) = expected.split_once(": ").map(|(relations, _)| relations.parse::<usize>().expect("a number")) {
+            let fits = 2 * relations * SHEET_SIDE;
+            assert_eq!([sheet(&bytes, fits - 1), sheet(&bytes, fits)], ["refused 12 0", expected], "{rules}");
+        }
+    }
+    let forwards: Vec<u8> = (0..64).collect();
+    let backwards: Vec<u8> = (0..64).rev().collect();
+    assert_eq!(sheet(&Book::new(64, vec![forwards, backwards]).bytes(), SHEET), "1: 1 62 1 64, 1 62 1 64");
+    let full = vec!["1 62 1 64"; 64].join(", ");
+    assert_eq!(sheet(&books::full_letter_by_letter().bytes(), SHEET), format!("32: {full}"));
 }
 
 #[test]

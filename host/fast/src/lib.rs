@@ -1,8 +1,9 @@
 //! A fast unverified version of the design of the proved library, the yardstick of its benchmark. Nothing rests on it.
 //!
 //! All relation words lie in one text, word number i followed by its fence, the code 64 + i. One row of common fronts, updated in place, gives the
-//! longest piece that starts at each place of the text; C(4) and the cuts are read off that table. A comparison finds relation words by an index and
-//! holds each of its words as a part of the text followed by the rest of a given word, in three numbers, and copies nothing; so does the least word.
+//! longest piece that starts at each place of the text; C(4), the cuts and the numbers of pieces are read off that table. A comparison finds relation
+//! words by an index and holds each of its words as a part of the text followed by the rest of a given word, in three numbers, and copies nothing; so does
+//! the least word.
 //!
 //! Document 01's words: a step is a letter, a run a word, a side a relation word, a rule a relation, a book a presentation.
 
@@ -38,17 +39,21 @@ pub fn check(book: &[u8]) -> Result<u64, Refusal> {
     Ok(laid.relations() as u64)
 }
 
-/// Writes the lengths of X, Y, Z of each side in order, one byte each, and gives the number of relations.
+/// The bytes of the cut sheet for each side.
+pub const SHEET_SIDE: usize = 4;
+
+/// Writes the lengths of X, Y, Z and the number of pieces of each side in order, one byte each, and gives the number of relations.
 pub fn cut_sheet(book: &[u8], sheet: &mut [u8]) -> Result<u64, Refusal> {
     let mut laid = Laid::empty();
     accept(book, &mut laid)?;
-    if sheet.len() < 3 * laid.words {
+    if sheet.len() < SHEET_SIDE * laid.words {
         return refuse(12, 0);
     }
-    for (place, side) in sheet.chunks_exact_mut(3).zip(&laid.sides[..laid.words]) {
+    for (place, side) in sheet.chunks_exact_mut(SHEET_SIDE).zip(&laid.sides[..laid.words]) {
         place[0] = (side.x_end - side.start) as u8;
         place[1] = (side.z_start - side.x_end) as u8;
         place[2] = (side.end - side.z_start) as u8;
+        place[3] = side.pieces;
     }
     Ok(laid.relations() as u64)
 }

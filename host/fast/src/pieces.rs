@@ -49,7 +49,24 @@ fn is_loose(longest: &[u8]) -> bool {
     false
 }
 
-/// Cuts every relation word, or gives the lowest one that is loose.
+/// What stands for the number of pieces of a word that is no product of them.
+const NO_PRODUCT: u8 = 255;
+
+/// The number of pieces of a word, by the lengths of the longest pieces at its places. Every factor of a piece is a piece, so taking the longest each time
+/// needs the fewest.
+fn number(longest: &[u8]) -> u8 {
+    let (mut at, mut count) = (0, 0);
+    while at < longest.len() {
+        if longest[at] == 0 {
+            return NO_PRODUCT;
+        }
+        at += longest[at] as usize;
+        count += 1;
+    }
+    count
+}
+
+/// Cuts every relation word and counts its pieces, or gives the lowest one that is loose.
 pub fn cut_all(laid: &mut Laid) -> Option<usize> {
     let mut longest = [0u8; TEXT];
     longest_pieces(&laid.text[..laid.length], &mut longest[..laid.length]);
@@ -63,6 +80,7 @@ pub fn cut_all(laid: &mut Laid) -> Option<usize> {
         let tail = (0..own.len()).find(|&at| at + own[at] as usize >= own.len()).unwrap_or(own.len());
         side.x_end = side.start + own[0] as u16;
         side.z_start = side.start + tail as u16;
+        side.pieces = number(own);
     }
     None
 }

@@ -10,13 +10,14 @@ const SIDE: usize = 64;
 pub const SIDES: usize = 2 * RELATIONS;
 pub const TEXT: usize = SIDES * (SIDE + 1);
 
-/// Where a relation word and its parts lie in the text.
+/// Where a relation word and its parts lie in the text, and its number of pieces.
 #[derive(Debug, Clone, Copy, Default)]
 pub struct Side {
     pub start: u16,
     pub x_end: u16,
     pub z_start: u16,
     pub end: u16,
+    pub pieces: u8,
 }
 
 /// The relation words one after the other, each with its fence behind it.
@@ -46,7 +47,7 @@ impl Laid {
         let (start, end) = (self.length, self.length + word.len());
         self.text[start..end].copy_from_slice(word);
         self.text[end] = LETTERS + self.words as u8;
-        self.sides[self.words] = Side { start: start as u16, x_end: start as u16, z_start: end as u16, end: end as u16 };
+        self.sides[self.words] = Side { start: start as u16, x_end: start as u16, z_start: end as u16, end: end as u16, pieces: 0 };
         self.words += 1;
         self.length = end + 1;
     }

@@ -1,5 +1,7 @@
 //! Books: random ones, families made to be accepted by C(4) with long pieces, and those at the limits.
 
+use std::collections::HashSet;
+
 use crate::Chance;
 
 /// The letters and relation words of a book; two words for each relation.
@@ -65,7 +67,7 @@ pub fn rule(left: &[u8], right: &[u8]) -> Vec<u8> {
 
 /// A book of any kind below: mostly small, many accepted, some refused by 7 or 8.
 pub fn any(chance: &mut Chance) -> Book {
-    match chance.below(13) {
+    match chance.below(14) {
         0 => anything(chance),
         1 | 2 => few_letters(chance),
         3 | 4 => random(chance),
@@ -74,6 +76,7 @@ pub fn any(chance: &mut Chance) -> Book {
         8 => shared_fronts(chance),
         9 => overlapping(chance),
         10 => linked(chance),
+        11 => of_many_numbers(chance),
         _ => small(chance),
     }
 }
@@ -119,7 +122,7 @@ pub fn marked(chance: &mut Chance) -> Book {
 }
 
 /// A book in which each side is made around a letter of its own, behind the letters that they have in common.
-pub fn with_own_letters(chance: &mut Chance, common: u8, relations: usize, side: impl Fn(&mut Chance, u8) -> Vec<u8>) -> Book {
+pub fn with_own_letters(chance: &mut Chance, common: u8, relations: usize, mut side: impl FnMut(&mut Chance, u8) -> Vec<u8>) -> Book {
     let letters = common + 2 * relations as u8;
     Book::new(letters, (common..letters).map(|own| side(chance, own)).collect())
 }
@@ -203,6 +206,47 @@ pub fn tangled(chance: &mut Chance) -> Book {
     })
 }
 
+/// Sides that are products of few pieces, of many, or of none. A side is a walk over the letters, and so mostly a letter is a piece and two together are not.
+/// In some books each letter has others behind it, always the same, so that pieces are longer; some sides have a letter of their own, and a few are short.
+pub fn of_many_numbers(chance: &mut Chance) -> Book {
+    let letters = chance.between(4, 12) as u8;
+    let relations = chance.between(1, 4);
+    let more = *chance.pick(&[0, 0, 1, 3]);
+    let blocks = blocks(chance, letters, more);
+    let mut together = HashSet::new();
+    with_own_letters(chance, letters + 2, relations, |chance, own| {
+        let least = if chance.once_in(12) { 1 } else { 4 };
+        let most = *chance.pick(&[5, 5, 6, 8, 12, 30]);
+        let length = chance.between(least, most);
+        let walk = walk(chance, letters, length, &mut together);
+        let mut word: Vec<u8> = walk.iter().flat_map(|&letter| blocks[letter as usize].clone()).take(63).collect();
+        if chance.once_in(6) {
+            word.insert(chance.below(word.len() + 1), own);
+        }
+        word
+    })
+}
+
+/// Each letter with up to `more` behind it of the two next codes.
+fn blocks(chance: &mut Chance, letters: u8, more: usize) -> Vec<Vec<u8>> {
+    let behind = chance.words(letters as usize, 0, more, 2);
+    let block = |(letter, behind): (u8, Vec<u8>)| [letter].into_iter().chain(behind.iter().map(|code| letters + code)).collect();
+    (0..letters).zip(behind).map(block).collect()
+}
+
+/// A word in which no two letters stand together that did so before, as long as there are such. Those that stand together are kept.
+fn walk(chance: &mut Chance, letters: u8, length: usize, together: &mut HashSet<[u8; 2]>) -> Vec<u8> {
+    let mut word = chance.word(1, letters);
+    while word.len() < length {
+        let last = word[word.len() - 1];
+        let fresh: Vec<u8> = (0..letters).filter(|&next| !together.contains(&[last, next])).collect();
+        let next = if fresh.is_empty() { chance.below(letters as usize) as u8 } else { *chance.pick(&fresh) };
+        together.insert([last, next]);
+        word.push(next);
+    }
+    word
+}
+
 /// One or two short relations over two to six letters, for breadth-first search.
 pub fn small(chance: &mut Chance) -> Book {
     let letters = chance.between(2, 6) as u8;
@@ -262,6 +306,13 @@ pub fn full_periodic(period: &[u8]) -> Book {
     Book::new(64, words)
 }
 
+/// 32 relations of 64 and 64 letters, each side a product of 64 pieces and of no fewer: every side has every letter, and no two letters stand together twice.
+/// The distances between neighbours are the same in all sides, and no distance comes twice in one; each side begins with another letter.
+pub fn full_letter_by_letter() -> Book {
+    let step = |j: u8| if j % 2 == 1 { j.div_ceil(2) } else { 64 - j / 2 };
+    Book::new(64, (0..64).map(|first| (0..64).map(|j| (first + step(j)) % 64).collect()).collect())
+}
+
 /// The book with the most rounds: 31 relations of 1 and 64 letters, whose long sides end alike, so that k is 63.
 /// Each letter that begins a relation is answered by 63 more, so two equal words of n such letters take 64 n rounds.
 pub fn most_rounds() -> Book {
@@ -304,15 +355,19 @@ pub fn long_middles(chance: &mut Chance) -> Book {
     Book::new(64, words.collect())
 }
 
+/// How many books at the limits there are.
+pub const AT_THE_LIMITS: usize = 8;
+
 /// Some books at the limits, by number; every one is accepted.
 pub fn at_the_limits(chance: &mut Chance, number: usize) -> Book {
-    match number % 7 {
+    match number % AT_THE_LIMITS {
         0 => full_random(chance, 64),
         1 => full_random(chance, 3),
         2 => full_shared_fronts(chance),
         3 => full_periodic(&[0]),
         4 => full_periodic(&[0, 1, 0, 0, 1]),
         5 => most_rounds(),
-        _ => long_middles(chance),
+        6 => long_middles(chance),
+        _ => full_letter_by_letter(),
     }
 }

@@ -1,6 +1,6 @@
 //! Reading a book (document 01, "Book bytes" and "Refusals by number", numbers 1 to 8).
 
-use crate::pieces::{cut, first_loose, pieces, Cut};
+use crate::pieces::{cut, first_loose, number, pieces, Cut};
 use crate::{refuse, Refusal, Word};
 
 /// What a book's records say, before any check of its relation words against each other.
@@ -84,6 +84,9 @@ fn read_rule(kind: usize, payload: &[u8], letters: u8, before: usize, at: usize)
     Ok((payload[2..2 + m].to_vec(), payload[2 + m..].to_vec()))
 }
 
+/// The bytes of the cut sheet for each side.
+pub const SHEET_SIDE: usize = 4;
+
 /// An accepted book.
 #[derive(Debug, Clone, PartialEq, Eq)]
 pub struct Accepted {
@@ -91,6 +94,8 @@ pub struct Accepted {
     pub letters: u8,
     /// the relation words, each cut into X, Y, Z
     pub cuts: Vec<Cut>,
+    /// of each relation word the smallest number of pieces whose product it is, 255 standing for none
+    pub numbers: Vec<u8>,
 }
 
 impl Accepted {
@@ -102,6 +107,12 @@ impl Accepted {
     /// The relation words, uncut.
     pub fn words(&self) -> Vec<Word> {
         self.cuts.iter().map(|cut| cut.xyz().to_vec()).collect()
+    }
+
+    /// The cut sheet: for each relation word in order the lengths of X, Y and Z and its number of pieces.
+    pub fn sheet(&self) -> Vec<u8> {
+        let side = |(cut, &number): (&Cut, &u8)| -> [u8; SHEET_SIDE] { [cut.x().len() as u8, cut.y().len() as u8, cut.z().len() as u8, number] };
+        self.cuts.iter().zip(&self.numbers).flat_map(side).collect()
     }
 }
 
@@ -117,5 +128,6 @@ pub fn accept(bytes: &[u8]) -> Result<Accepted, Refusal> {
         return refuse(8, side);
     }
     let cuts = words.iter().map(|word| cut(word, &pieces)).collect();
-    Ok(Accepted { letters: presentation.letters, cuts })
+    let numbers = words.iter().map(|word| number(word, &pieces)).collect();
+    Ok(Accepted { letters: presentation.letters, cuts, numbers })
 }

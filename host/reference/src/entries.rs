@@ -1,6 +1,6 @@
 //! The entries over slices: check, cut sheet, single round, comparison, least word (document 01, with the order of refusals that it fixes).
 
-use crate::book::{accept, Accepted};
+use crate::book::{accept, Accepted, SHEET_SIDE};
 use crate::least::least_word;
 use crate::rows::{self, Answer, Next};
 use crate::{refuse, Refusal, Word};
@@ -19,17 +19,14 @@ pub fn check(book: &[u8]) -> Result<u64, Refusal> {
     Ok(accept(book)?.relations() as u64)
 }
 
-/// Writes the lengths of X, Y, Z of each side in order, one byte each, and gives the number of relations.
+/// Writes the lengths of X, Y, Z and the number of pieces of each side in order, one byte each, and gives the number of relations.
 pub fn cut_sheet(book: &[u8], sheet: &mut [u8]) -> Result<u64, Refusal> {
     let accepted = accept(book)?;
-    if sheet.len() < 3 * accepted.cuts.len() {
+    let size = SHEET_SIDE * accepted.cuts.len();
+    if sheet.len() < size {
         return refuse(12, 0);
     }
-    for (i, cut) in accepted.cuts.iter().enumerate() {
-        sheet[3 * i] = cut.x().len() as u8;
-        sheet[3 * i + 1] = cut.y().len() as u8;
-        sheet[3 * i + 2] = cut.z().len() as u8;
-    }
+    sheet[..size].copy_from_slice(&accepted.sheet());
     Ok(accepted.relations() as u64)
 }
 

@@ -1,4 +1,5 @@
-//! Pieces, C(4) and cuts (document 01, the section of that name; document 003, section 1).
+//! Pieces, C(4) and cuts (document 01, the section of that name; document 003, section 1), and of how many pieces a relation word is the product
+//! (document 02, slip 2).
 
 use std::collections::HashSet;
 
@@ -31,6 +32,31 @@ pub fn is_loose(word: &[u8], pieces: &HashSet<&[u8]>) -> bool {
 /// The lowest relation word that is a product of three or fewer pieces.
 pub fn first_loose(words: &[Word], pieces: &HashSet<&[u8]>) -> Option<usize> {
     (0..words.len()).find(|&i| is_loose(&words[i], pieces))
+}
+
+/// The number of a word that is no product of pieces.
+pub const NO_PRODUCT: u8 = 255;
+
+/// The smallest number of pieces whose product the word is; none where it is no product of pieces.
+/// For each end in turn, every start is tried from which a piece leads to it; one more than the fewest pieces up to such a start is the fewest up to the end.
+pub fn fewest_pieces(word: &[u8], pieces: &HashSet<&[u8]>) -> Option<usize> {
+    let mut fewest = vec![Some(0)];
+    for end in 1..=word.len() {
+        let starts = (0..end).filter(|&start| pieces.contains(&word[start..end]));
+        fewest.push(starts.filter_map(|start| fewest[start]).min().map(|before| before + 1));
+    }
+    fewest[word.len()]
+}
+
+/// The number of a relation word: the smallest number of pieces whose product it is, 255 standing for none.
+pub fn number(word: &[u8], pieces: &HashSet<&[u8]>) -> u8 {
+    fewest_pieces(word, pieces).map_or(NO_PRODUCT, |count| u8::try_from(count).expect("a relation word has 64 letters at most"))
+}
+
+/// The numbers of all relation words.
+pub fn numbers(words: &[Word]) -> Vec<u8> {
+    let pieces = pieces(words);
+    words.iter().map(|word| number(word, &pieces)).collect()
 }
 
 /// A relation word cut into X, its longest front that is a piece, Z, its longest end that is a piece, and Y, the rest.

@@ -1,12 +1,13 @@
-//! The bench cases of document 01, the presentations of document 000, section 1, each refusal number, and chains and least words on small cases.
+//! The bench cases of document 01, the presentations of document 000, section 1, each refusal number, the cut sheet with its numbers of pieces, and chains
+//! and least words on small cases.
 //! The answers are worked out from the papers.
 
 use std::cmp::Ordering::{Equal, Greater, Less};
 
 use reference::chains::{exchanges, reached};
 use reference::least::{order, rank};
-use reference::pieces::{cuts, is_loose, longest_tail, pieces};
-use reference::{check, compare, cut_sheet, least, program, round, Comparison, Refusal, RoundEnd};
+use reference::pieces::{cuts, is_loose, longest_tail, numbers, pieces};
+use reference::{check, compare, cut_sheet, least, program, round, Comparison, Refusal, RoundEnd, SHEET_SIDE};
 use Comparison::{Different, Same};
 
 /// The codes of a word written with the letters from a on.
@@ -44,10 +45,14 @@ fn refused<T>(number: u32, place: u64) -> Result<T, Refusal> {
     Err(Refusal { number, place })
 }
 
+/// The bytes of the sheet of a full book: two sides for each of 32 rules.
+const SHEET: usize = 64 * SHEET_SIDE;
+
+/// The sheet of an accepted book.
 fn sheet(bytes: &[u8]) -> Vec<u8> {
-    let mut sheet = vec![0; 192];
+    let mut sheet = vec![0; SHEET];
     let relations = cut_sheet(bytes, &mut sheet).expect("accepted");
-    sheet.truncate(6 * relations as usize);
+    sheet.truncate(2 * relations as usize * SHEET_SIDE);
     sheet
 }
 
@@ -60,11 +65,11 @@ fn books_of_the_bench() {
     assert_eq!(check(&book(4, &[("a", "aa")])), refused(8, 0));
     assert_eq!(check(&book(4, &[("aa", "b")])), refused(8, 0));
     assert_eq!(check(&book(4, &[("a", "b")])), Ok(1));
-    assert_eq!(sheet(&book(4, &[("a", "b")])), [0, 1, 0, 0, 1, 0]);
+    assert_eq!(sheet(&book(4, &[("a", "b")])), [0, 1, 0, 255, 0, 1, 0, 255]);
     assert_eq!(check(&book(4, &[("ab", "ab")])), refused(7, 1));
     assert_eq!(check(&book(4, &[("abdc", "acbd")])), refused(8, 0));
     assert_eq!(check(&q()), Ok(1));
-    assert_eq!(sheet(&q()), [1, 2, 1, 1, 2, 1]);
+    assert_eq!(sheet(&q()), [1, 2, 1, 4, 1, 2, 1, 4]);
     assert_eq!(check(&book(4, &[("daaa", "dc")])), refused(8, 0));
 }
 
@@ -124,6 +129,7 @@ fn presentations_of_document_000() {
     let second = words(&[("acba", "aabc")]);
     assert_eq!(pieces(&second).len(), 4);
     assert_eq!(check(&book(3, &[("acba", "aabc")])), Ok(1));
+    assert_eq!(sheet(&book(3, &[("acba", "aabc")])), [1, 2, 1, 4, 1, 2, 1, 4]);
     // the one with a shared run is refused by 7
     assert_eq!(check(&book(4, &[("acba", "aabc"), ("acba", "dbbbd")])), refused(7, 2));
     // aabc = aabd: the pieces are the empty word, a, b, aa, ab and aab, and no relation word is a product of pieces
@@ -131,7 +137,7 @@ fn presentations_of_document_000() {
     assert_eq!(pieces(&last).len(), 6);
     assert!(!last.iter().any(|side| is_loose(side, &pieces(&last))));
     assert_eq!(check(&book(4, &[("aabc", "aabd")])), Ok(1));
-    assert_eq!(sheet(&book(4, &[("aabc", "aabd")])), [3, 1, 0, 3, 1, 0]);
+    assert_eq!(sheet(&book(4, &[("aabc", "aabd")])), [3, 1, 0, 255, 3, 1, 0, 255]);
     assert_eq!(longest_tail(&cuts(&last)), 0);
 }
 
@@ -208,8 +214,92 @@ fn rounds_refuse_and_write_as_the_paper_says() {
     assert_eq!(single(&q(), &[], &[], &[], [4_223, 0, 0]).0, refused(12, 0));
     assert_eq!(single(&q(), &[], &[], &[], [4_224, 4_223, 0]).0, refused(12, 1));
     assert_eq!(single(&q(), &[], &[], &[], [4_224, 4_224, 63]).0, refused(12, 2));
-    assert_eq!(cut_sheet(&q(), &mut [0; 5]), refused(12, 0));
-    assert_eq!(cut_sheet(&head(4), &mut []), Ok(0));
+}
+
+/// Every rule's two sides, each with the lengths of X, Y, Z and its number of pieces.
+type Rows<'a> = &'a [[u8; SHEET_SIDE]];
+
+/// Books with their sheets, worked out by hand.
+const SHEETS: [(u8, &[(&str, &str)], Rows); 9] = [
+    (4, &[], &[]),
+    // no piece but the empty one
+    (2, &[("a", "b")], &[[0, 1, 0, 255], [0, 1, 0, 255]]),
+    // Q: every letter is a piece, and no two letters stand together twice
+    (4, &[("abdc", "cadb")], &[[1, 2, 1, 4], [1, 2, 1, 4]]),
+    (5, &[("abcde", "edcba")], &[[1, 3, 1, 5], [1, 3, 1, 5]]),
+    // e stands nowhere else, at an end and between
+    (5, &[("abdc", "cadbe")], &[[1, 2, 1, 4], [1, 4, 0, 255]]),
+    (5, &[("caedb", "abdc")], &[[1, 3, 1, 255], [1, 2, 1, 4]]),
+    // the pieces are the letters and ab, cd, ef, gh: ab cd gh ef, and ef ab gh cd
+    (8, &[("abcdghef", "efabghcd")], &[[2, 4, 2, 4], [2, 4, 2, 4]]),
+    // the pieces are the letters and ab: ab d c f, c a d b g, and neither e nor h stands twice
+    (8, &[("abdcf", "cadbg"), ("gfabe", "h")], &[[2, 2, 1, 4], [1, 3, 1, 5], [1, 4, 0, 255], [0, 1, 0, 255]]),
+    // letter by letter, as in Q
+    (6, &[("abdc", "cadbe"), ("eacfde", "fbcedaf")], &[[1, 2, 1, 4], [1, 3, 1, 5], [1, 4, 1, 6], [1, 5, 1, 7]]),
+];
+
+#[test]
+fn sheets_with_numbers_worked_out_by_hand() {
+    for (letters, rules, rows) in SHEETS {
+        assert_eq!(sheet(&book(letters, rules)), rows.concat(), "{rules:?}");
+    }
+    // 64 letters, and the same backwards: no two stand together twice
+    let forwards: Vec<u8> = (0..64).collect();
+    let backwards: Vec<u8> = (0..64).rev().collect();
+    assert_eq!(sheet(&[head(64), rule(&forwards, &backwards)].concat()), [1, 62, 1, 64, 1, 62, 1, 64]);
+}
+
+#[test]
+fn the_sheet_takes_four_bytes_a_side() {
+    for (letters, rules, rows) in SHEETS {
+        let bytes = book(letters, rules);
+        let size = 4 * 2 * rules.len();
+        for room in 0..size {
+            let mut buffer = vec![170; room];
+            assert_eq!(cut_sheet(&bytes, &mut buffer), refused(12, 0), "{rules:?} {room}");
+            assert_eq!(buffer, vec![170; room]);
+        }
+        for more in [0, 1, 9] {
+            let mut buffer = vec![170; size + more];
+            assert_eq!(cut_sheet(&bytes, &mut buffer), Ok(rules.len() as u64), "{rules:?} {more}");
+            assert_eq!(buffer, [rows.concat(), vec![170; more]].concat());
+        }
+    }
+    // the refusals of the book come before that of the buffer
+    assert_eq!(cut_sheet(&[], &mut []), refused(1, 0));
+    assert_eq!(cut_sheet(&book(4, &[("ab", "ab")]), &mut []), refused(7, 1));
+    assert_eq!(cut_sheet(&book(4, &[("a", "aa")]), &mut []), refused(8, 0));
+}
+
+/// Books with the number of each side, worked out by hand, of which one is below 4, and the lowest such side.
+const REFUSED: [(&[(&str, &str)], &[u8], u64); 13] = [
+    (&[("a", "aa")], &[1, 2], 0),
+    (&[("aa", "b")], &[2, 255], 0),
+    // a bd c, and a c bd
+    (&[("abdc", "acbd")], &[3, 3], 0),
+    (&[("abc", "cba")], &[3, 3], 0),
+    // d aa a
+    (&[("daaa", "dc")], &[3, 255], 0),
+    // ab ab
+    (&[("abab", "bac")], &[2, 255], 0),
+    (&[("abdc", "b")], &[255, 1], 1),
+    (&[("cab", "aa")], &[255, 2], 1),
+    (&[("cdbea", "abc")], &[255, 3], 1),
+    // Q, and sides below 4 behind it
+    (&[("abdc", "cadb"), ("bcd", "a")], &[4, 4, 3, 1], 2),
+    (&[("abdc", "cadb"), ("a", "bcd")], &[4, 4, 1, 3], 2),
+    (&[("abdc", "cadb"), ("eaf", "ba")], &[4, 4, 255, 2], 3),
+    // ab is a piece by the second rule: ab d c
+    (&[("abdc", "cadb"), ("abe", "f")], &[3, 4, 255, 255], 0),
+];
+
+#[test]
+fn books_with_a_number_below_four_are_refused_at_the_lowest_side() {
+    for (rules, of_sides, place) in REFUSED {
+        assert_eq!(numbers(&words(rules)), of_sides, "{rules:?}");
+        assert_eq!(check(&book(6, rules)), refused(8, place), "{rules:?}");
+        assert_eq!(cut_sheet(&book(6, rules), &mut [0; SHEET]), refused(8, place), "{rules:?}");
+    }
 }
 
 fn printed(input: &[u8]) -> String {
