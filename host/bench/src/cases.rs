@@ -3,7 +3,7 @@
 use std::cell::RefCell;
 
 use difftest::entries::{Compared, Entries, Refused, Rounded};
-use difftest::trial::LEAST;
+use difftest::trial::{LEAST, SHEET, SHEET_SIDE};
 use gen::{books, inputs, words, Book, Chance};
 
 /// Something to run with the entries of either; the numbers it gives are only there to be equal for both.
@@ -65,6 +65,18 @@ fn least(group: &'static str, name: impl Into<String>, book: &Book, word: Vec<u8
     Case { group, name: name.into(), run: Box::new(run) }
 }
 
+/// The cut sheet in a buffer that has room for every one.
+fn sheet(group: &'static str, name: impl Into<String>, book: &Book) -> Case {
+    let bytes = book.bytes();
+    let buffer = RefCell::new([0; SHEET]);
+    let run = move |entries: &dyn Entries| {
+        let mut sheet = buffer.borrow_mut();
+        let result = entries.cut_sheet(&bytes, &mut *sheet);
+        numbers(result, |relations| sheet[..2 * SHEET_SIDE * relations as usize].iter().map(|&byte| byte as u64).sum())
+    };
+    Case { group, name: name.into(), run: Box::new(run) }
+}
+
 /// Document 01's book Q.
 fn q() -> Book {
     Book::new(4, vec![vec![0, 1, 3, 2], vec![2, 0, 3, 1]])
@@ -83,7 +95,7 @@ fn exchanged_sides(book: &Book, n: usize) -> Vec<u8> {
 
 const CHECKS: &str = "the check, full books: 32 relations of 64 and 64 letters";
 const GROWTH_OF_CHECK: &str = "the check, by number of relations";
-const SHEET: &str = "the cut sheet and the single round";
+const SHEET_AND_ROUND: &str = "the cut sheet and the single round";
 const COMPARISONS: &str = "the comparison alone: many in one input, or far more rounds than letters";
 const CALLS: &str = "the comparison as one call, which checks its book";
 const GROWTH_BY_LENGTH: &str = "the comparison, by length of words";
@@ -120,13 +132,10 @@ fn checks(all: &mut Vec<Case>, chance: &mut Chance) {
 
 fn sheet_and_round(all: &mut Vec<Case>, chance: &mut Chance) {
     let book = books::full_random(chance, 64);
-    let bytes = book.bytes();
-    let run = move |entries: &dyn Entries| {
-        let mut sheet = [0; 192];
-        let result = entries.cut_sheet(&bytes, &mut sheet);
-        numbers(result, |relations| relations + sheet.iter().map(|&length| length as u64).sum::<u64>())
-    };
-    all.push(Case { group: SHEET, name: "cut sheet of a full random book".to_string(), run: Box::new(run) });
+    for (name, book) in [("a full random book", &book), ("a full book of 64 pieces a side", &books::full_letter_by_letter()), ("book Q", &q())] {
+        all.push(check(SHEET_AND_ROUND, format!("for measure: the check of {name} alone"), book));
+        all.push(sheet(SHEET_AND_ROUND, format!("cut sheet of {name}"), book));
+    }
     for (name, book) in [("a full random book", book), ("book Q", q())] {
         let bytes = book.bytes();
         let word = sides(&book, 4_160);
@@ -137,7 +146,7 @@ fn sheet_and_round(all: &mut Vec<Case>, chance: &mut Chance) {
                 _ => 0,
             })
         };
-        all.push(Case { group: SHEET, name: format!("one round under {name}, words of 4,160"), run: Box::new(run) });
+        all.push(Case { group: SHEET_AND_ROUND, name: format!("one round under {name}, words of 4,160"), run: Box::new(run) });
     }
 }
 

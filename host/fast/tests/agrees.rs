@@ -20,11 +20,15 @@ fn check(book: &[u8]) -> Option<reference::Accepted> {
     expected.ok()
 }
 
-fn sheet(book: &[u8]) {
-    let mut sheets = [vec![170; 200], vec![170; 200]];
+/// The bytes of the sheet of a full book.
+const SHEET: usize = 64 * fast::SHEET_SIDE;
+
+/// The sheet in a buffer of this size. The answer, and every byte of the buffer, are as they should be.
+fn sheet(book: &[u8], size: usize) {
+    let mut sheets = [vec![170; size], vec![170; size]];
     let [one, two] = &mut sheets;
-    assert_eq!(fast::cut_sheet(book, one).map_err(ours), reference::cut_sheet(book, two).map_err(theirs), "{book:?}");
-    assert_eq!(one, two, "{book:?}");
+    assert_eq!(fast::cut_sheet(book, one).map_err(ours), reference::cut_sheet(book, two).map_err(theirs), "{book:?} {size}");
+    assert_eq!(one, two, "{book:?} {size}");
 }
 
 /// True for 'same'.
@@ -77,7 +81,7 @@ fn on_books_and_words() {
         let bytes = book.bytes();
         if let Some(known) = check(&bytes) {
             accepted += 1;
-            sheet(&bytes);
+            sheet(&bytes, SHEET);
             for _ in 0..4 {
                 let (u, v) = words::pair(&mut chance, &book, 120);
                 same += compare(&bytes, &known, &u, &v, inputs::allowance(&mut chance)) as usize;
@@ -86,6 +90,42 @@ fn on_books_and_words() {
     }
     assert!(accepted > 3_000, "{accepted} accepted");
     assert!(same > 3_000, "{same} same");
+}
+
+#[test]
+fn on_sheets() {
+    let mut chance = Chance::new(8);
+    let mut met = [0; 256];
+    for _ in 0..4_000 {
+        let book = books::of_many_numbers(&mut chance);
+        let bytes = book.bytes();
+        let fits = fast::SHEET_SIDE * book.words.len();
+        for size in [0, 3 * book.words.len(), fits - 1, fits, fits + 1] {
+            sheet(&bytes, size);
+        }
+        for number in check(&bytes).map_or(Vec::new(), |accepted| accepted.numbers) {
+            met[number as usize] += 1;
+        }
+    }
+    let seldom: Vec<usize> = (4..13).chain([255]).filter(|&number| met[number] < 50).collect();
+    assert_eq!(seldom, [], "numbers that are hardly met");
+}
+
+#[test]
+fn on_numbers_worked_out_by_hand() {
+    let numbers = |words: Vec<Vec<u8>>| {
+        let mut sheet = [0; SHEET];
+        let relations = fast::cut_sheet(&books::Book::new(64, words).bytes(), &mut sheet).expect("accepted") as usize;
+        sheet.chunks(fast::SHEET_SIDE).take(2 * relations).map(|side| side[3]).collect::<Vec<u8>>()
+    };
+    let words = |text: &str| text.split(' ').map(|word| word.bytes().map(|letter| letter - b'a').collect()).collect();
+    assert_eq!(numbers(words("a b")), [255, 255]);
+    assert_eq!(numbers(words("abdc cadb")), [4, 4]);
+    assert_eq!(numbers(words("caedb abdc")), [255, 4]);
+    assert_eq!(numbers(words("abcdghef efabghcd")), [4, 4]);
+    assert_eq!(numbers(words("abdc cadbe eacfde fbcedaf")), [4, 5, 6, 7]);
+    assert_eq!(numbers(vec![(0..64).collect(), (0..64).rev().collect()]), [64, 64]);
+    assert_eq!(numbers(books::full_letter_by_letter().words), [64; 64]);
 }
 
 #[test]
@@ -175,11 +215,11 @@ fn on_damaged_books() {
 #[test]
 fn at_the_limits() {
     let mut chance = Chance::new(4);
-    for number in 0..7 {
+    for number in 0..books::AT_THE_LIMITS {
         let book = books::at_the_limits(&mut chance, number);
         let bytes = book.bytes();
         let accepted = check(&bytes).unwrap_or_else(|| panic!("number {number}"));
-        sheet(&bytes);
+        sheet(&bytes, SHEET);
         let u = words::of_sides(&mut chance, &book, 1_000);
         let v = words::exchanged(&mut chance, &book, &u, 10, 1_000);
         compare(&bytes, &accepted, &u, &v, u32::MAX);
@@ -208,7 +248,7 @@ fn on_recorded_vectors() {
     }
     for recorded in vectors::calls() {
         let book = recorded.call.book();
-        sheet(book);
+        sheet(book, SHEET + 8);
         let Some(accepted) = check(book) else { continue };
         match &recorded.call {
             Call::Compare { u, v, allowance, .. } => {
@@ -221,7 +261,7 @@ fn on_recorded_vectors() {
                 let answer = length.map(|length| format!("least {length} {}", vectors::hex(&buffer[*offset..][..length as usize])));
                 assert_eq!(answer.unwrap_or_else(|(number, place)| format!("refused {number} {place}")), recorded.answer, "{}", recorded.line)
             }
-            Call::Sheet { .. } => {}
+            Call::Sheet { size, .. } => sheet(book, *size),
         }
     }
 }

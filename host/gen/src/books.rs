@@ -216,7 +216,7 @@ pub fn of_many_numbers(chance: &mut Chance) -> Book {
     let mut together = HashSet::new();
     with_own_letters(chance, letters + 2, relations, |chance, own| {
         let least = if chance.once_in(12) { 1 } else { 4 };
-        let most = *chance.pick(&[5, 5, 6, 8, 12, 30]);
+        let most = *chance.pick(&[5, 5, 6, 8, 12, 30, 63]);
         let length = chance.between(least, most);
         let walk = walk(chance, letters, length, &mut together);
         let mut word: Vec<u8> = walk.iter().flat_map(|&letter| blocks[letter as usize].clone()).take(63).collect();

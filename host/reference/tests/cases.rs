@@ -216,11 +216,14 @@ fn rounds_refuse_and_write_as_the_paper_says() {
     assert_eq!(single(&q(), &[], &[], &[], [4_224, 4_224, 63]).0, refused(12, 2));
 }
 
-/// Every rule's two sides, each with the lengths of X, Y, Z and its number of pieces.
-type Rows<'a> = &'a [[u8; SHEET_SIDE]];
+/// The rules of a book, each by its two sides.
+type Rules = &'static [(&'static str, &'static str)];
 
-/// Books with their sheets, worked out by hand.
-const SHEETS: [(u8, &[(&str, &str)], Rows); 9] = [
+/// For each side the lengths of X, Y, Z and its number of pieces.
+type Rows = &'static [[u8; SHEET_SIDE]];
+
+/// Books, by their number of letters and their rules, with their sheets, worked out by hand.
+const SHEETS: [(u8, Rules, Rows); 9] = [
     (4, &[], &[]),
     // no piece but the empty one
     (2, &[("a", "b")], &[[0, 1, 0, 255], [0, 1, 0, 255]]),
@@ -271,8 +274,8 @@ fn the_sheet_takes_four_bytes_a_side() {
     assert_eq!(cut_sheet(&book(4, &[("a", "aa")]), &mut []), refused(8, 0));
 }
 
-/// Books with the number of each side, worked out by hand, of which one is below 4, and the lowest such side.
-const REFUSED: [(&[(&str, &str)], &[u8], u64); 13] = [
+/// Books with the number of each side, worked out by hand, and the lowest side whose number is below 4.
+const REFUSED: [(Rules, &[u8], u64); 13] = [
     (&[("a", "aa")], &[1, 2], 0),
     (&[("aa", "b")], &[2, 255], 0),
     // a bd c, and a c bd

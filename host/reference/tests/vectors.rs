@@ -1,7 +1,8 @@
-//! Every recorded call and every recorded input of the program.
+//! Every recorded call, every recorded input of the program, and every executed case.
 
-use reference::{compare, cut_sheet, least, program, round, Comparison, Refusal, RoundEnd};
-use vectors::{hex, Call};
+use reference::entries::find_least;
+use reference::{accept, book, check, compare, cut_sheet, least, program, round, Comparison, Refusal, RoundEnd};
+use vectors::{bytes, call, hex, Call, Case};
 
 fn refused(refusal: Refusal) -> String {
     format!("refused {} {}", refusal.number, refusal.place)
@@ -50,4 +51,38 @@ fn recorded_inputs_of_the_program() {
     for run in vectors::runs() {
         assert_eq!(String::from_utf8_lossy(&program(&run.input)), run.output, "{}", run.name);
     }
+}
+
+/// The answer to an executed case; none where a least word is asked for that no search finds.
+fn executed_answer(line: &str) -> Option<String> {
+    let (word, fields) = line.split_once(' ').expect("a word and its fields");
+    Some(match word {
+        "read" => book::read(&bytes(fields)).map_or_else(refused, |read| format!("read {} {}", read.letters, read.words.len() / 2)),
+        "check" => check(&bytes(fields)).map_or_else(refused, |relations| format!("accepted {relations}")),
+        _ => {
+            let call = call(line);
+            if is_beyond_search(&call) {
+                return None;
+            }
+            answer(&call)
+        }
+    })
+}
+
+/// A least word is asked for, and a chain reaches more words than can be searched.
+fn is_beyond_search(call: &Call) -> bool {
+    let Call::Least { book, word, .. } = call else { return false };
+    accept(book).is_ok_and(|accepted| matches!(find_least(&accepted, word, 10_000), Ok(None)))
+}
+
+#[test]
+fn executed_cases() {
+    let mut beyond = 0;
+    for Case { line, answer } in vectors::executed() {
+        match executed_answer(&line) {
+            Some(expected) => assert_eq!(answer, expected, "{line}"),
+            None => beyond += 1,
+        }
+    }
+    assert!(beyond < 10, "{beyond} cases beyond search");
 }

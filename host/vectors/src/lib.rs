@@ -1,5 +1,5 @@
-//! The recorded calls of the entries (`entries.txt`, and `least.txt` of least words) and the recorded inputs and outputs of the program (`program/`), as
-//! tests read them.
+//! The recorded calls of the entries (`entries.txt`, and `least.txt` of least words), the recorded inputs and outputs of the program (`program/`) and the
+//! executed cases of the proved part (`crates/cases`), as tests read them.
 //! Their answers are written down, so no implementation has a part in this crate.
 
 use std::fs;
@@ -25,6 +25,12 @@ impl Call {
 pub struct Recorded {
     pub line: String,
     pub call: Call,
+    pub answer: String,
+}
+
+/// An executed case: a line of what is asked, and the line that answers it.
+pub struct Case {
+    pub line: String,
     pub answer: String,
 }
 
@@ -62,6 +68,15 @@ pub fn runs() -> Vec<Run> {
     runs
 }
 
+/// All executed cases. A heading is answered by itself, and is none.
+pub fn executed() -> Vec<Case> {
+    let read = |name: &str| fs::read_to_string(directory().join("../../crates/cases").join(name)).expect("the executed cases");
+    let (lines, answers) = (read("stdin"), read("stdout"));
+    assert_eq!(lines.lines().count(), answers.lines().count(), "a line of answer for each");
+    let cases = lines.lines().zip(answers.lines()).map(|(line, answer)| Case { line: line.to_string(), answer: answer.to_string() });
+    cases.filter(|case| !(case.line.starts_with('#') && case.answer == case.line)).collect()
+}
+
 /// Bytes as they are written in entries.txt.
 pub fn hex(bytes: &[u8]) -> String {
     if bytes.is_empty() {
@@ -84,16 +99,20 @@ fn directory() -> PathBuf {
 
 fn recorded(line: &str) -> Recorded {
     let (left, answer) = line.split_once(" => ").expect("a call and its answer");
-    let fields: Vec<&str> = left.split(' ').collect();
+    Recorded { line: line.to_string(), call: call(left), answer: answer.to_string() }
+}
+
+/// The call that is written so.
+pub fn call(line: &str) -> Call {
+    let fields: Vec<&str> = line.split(' ').collect();
     let word = |i: usize| bytes(fields[i]);
     let number = |i: usize| fields[i].parse().expect("a number");
     let book = word(1);
-    let call = match fields[0] {
+    match fields[0] {
         "compare" => Call::Compare { book, u: word(2), v: word(3), allowance: fields[4].parse().expect("an allowance") },
         "sheet" => Call::Sheet { book, size: number(2) },
         "round" => Call::Round { book, words: [2, 3, 4].map(word), sizes: [5, 6, 7].map(number) },
         "least" => Call::Least { book, word: word(2), size: number(3), offset: number(4) },
         other => panic!("no entry {other}"),
-    };
-    Recorded { line: line.to_string(), call, answer: answer.to_string() }
+    }
 }
