@@ -126,6 +126,7 @@ fn numbers_of_pieces() {
         ("caedb = abdc", "1: 1 3 1 255, 1 2 1 4"),
         ("abcdghef = efabghcd", "1: 2 4 2 4, 2 4 2 4"),
         ("abdcf = cadbg, gfabe = h", "2: 2 2 1 4, 1 3 1 5, 1 4 0 255, 0 1 0 255"),
+        ("bcaaade = edcb", "1: 1 5 1 6, 1 2 1 4"),
         ("abdc = cadbe, eacfde = fbcedaf", "2: 1 2 1 4, 1 3 1 5, 1 4 1 6, 1 5 1 7"),
         // numbers below 4
         ("abdc = b", "refused 8 1"),

@@ -38,7 +38,7 @@ pub fn first_loose(words: &[Word], pieces: &HashSet<&[u8]>) -> Option<usize> {
 pub const NO_PRODUCT: u8 = 255;
 
 /// The smallest number of pieces whose product the word is; none where it is no product of pieces.
-/// For each end in turn, every start is tried from which a piece leads to it; one more than the fewest pieces up to such a start is the fewest up to the end.
+/// For each end in turn every start is tried from which a piece leads to it: the fewest up to the end are one more than the fewest up to any such start.
 pub fn fewest_pieces(word: &[u8], pieces: &HashSet<&[u8]>) -> Option<usize> {
     let mut fewest = vec![Some(0)];
     for end in 1..=word.len() {

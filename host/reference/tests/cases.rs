@@ -223,7 +223,7 @@ type Rules = &'static [(&'static str, &'static str)];
 type Rows = &'static [[u8; SHEET_SIDE]];
 
 /// Books, by their number of letters and their rules, with their sheets, worked out by hand.
-const SHEETS: [(u8, Rules, Rows); 9] = [
+const SHEETS: [(u8, Rules, Rows); 10] = [
     (4, &[], &[]),
     // no piece but the empty one
     (2, &[("a", "b")], &[[0, 1, 0, 255], [0, 1, 0, 255]]),
@@ -237,6 +237,8 @@ const SHEETS: [(u8, Rules, Rows); 9] = [
     (8, &[("abcdghef", "efabghcd")], &[[2, 4, 2, 4], [2, 4, 2, 4]]),
     // the pieces are the letters and ab: ab d c f, c a d b g, and neither e nor h stands twice
     (8, &[("abdcf", "cadbg"), ("gfabe", "h")], &[[2, 2, 1, 4], [1, 3, 1, 5], [1, 4, 0, 255], [0, 1, 0, 255]]),
+    // aa stands at two places that overlap: b c aa a d e
+    (5, &[("bcaaade", "edcb")], &[[1, 5, 1, 6], [1, 2, 1, 4]]),
     // letter by letter, as in Q
     (6, &[("abdc", "cadbe"), ("eacfde", "fbcedaf")], &[[1, 2, 1, 4], [1, 3, 1, 5], [1, 4, 1, 6], [1, 5, 1, 7]]),
 ];
