@@ -1,15 +1,15 @@
 -- Pieces taken one behind the other, for any lengths of pieces: where they end, how many reach the end of a word, and that equal lengths give equal numbers.
 use Prim.Native.Nat.{ℕ, zero, suc, _+_, _-_, _<_, _≤_}
-use mathlib.Core.Bool.{Bool, true, false}
+use mathlib.Core.Bool.{Bool}
 use mathlib.Core.Logic.{by-cases}
-use mathlib.Core.Path.{_≡_, refl, sym, ap, _∙_}
+use mathlib.Core.Path.{_≡_, refl, ap, _∙_}
 use native.Mathlib.Omega.{arith}
 use native.Mathlib.Numerals.{add-one}
 use native.Mathlib.Decide.{decLt}
 use borrow.Author.Tests.{eq-eqb, ne-eqb, le-leb, lt-leb}
 use lib.Dec.{eqb}
 use Rattle.words.proofs.Searching.{NoneBelow, least-is, least-none, least-same}
-use Rattle.overlap.specs.Counts.{PieceCount, pieces, none, reach, fewest}
+use Rattle.overlap.specs.Counts.{pieces, none, reach, fewest}
 
 -- k pieces reach the end of a word of n letters
 abbrev pub ends : (ℕ → ℕ) → ℕ → ℕ → Bool
