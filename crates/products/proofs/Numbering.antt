@@ -11,7 +11,6 @@ use borrow.Author.Needs.{needs}
 use lib.ListN.{length, getD}
 use Rattle.overlap.specs.Counts.{pieces, none, noProduct, number, reach}
 use Rattle.overlap.proofs.Reaching.{reach-first, reach-next, reach-stays, fewest-is}
-use Rattle.layout.specs.Places.{startCell, endCell}
 use Rattle.layout.specs.Layout.{startOf, endOf}
 use Rattle.loose.specs.Pieces.{InTables}
 use Rattle.products.specs.Products.{pieceBy, numberFrom, numberBy, Enclosed}
@@ -89,32 +88,19 @@ pub ruleset numbering = (number-start, number-inside, number-end, number-none, n
 
 -- word i
 
-module _ (longest table : List ℕ) (i : ℕ) (f : InTables longest table i) where
-  pub cells-start : startCell i < length table
-  cells-start = let r = f .room in omega (arith, r)
+module _ (longest table : List ℕ) (i : ℕ) (f : InTables longest table i) (s e : ℕ) (d : s ≡ startOf table i) (g : e ≡ endOf table i) where
+  pub enclosed-here : Enclosed longest s (e - s)
+  enclosed-here =
+      let u = f .upwards in
+      let k = f .inside in
+      let l = f .long in
+      record {
+        inside = omega (arith, d, g, u, k);
+        short = omega (arith, d, g, l);
+        within = λ a h. let w = f .within (s + a) (omega (arith, d)) (omega (arith, d, g, h)) in omega (arith, w, g);
+      }
 
-  pub cells-end : endCell i < length table
-  cells-end = f .room
+  pub number-here : (r : ℕ) → r ≡ numberFrom longest s (e - s) → r ≡ numberBy longest table i
+  number-here r h = h ∙ rw (d, g)
 
-  module _ (s e : ℕ) (d : s ≡ startOf table i) (g : e ≡ endOf table i) where
-    pub word-up : s ≤ e
-    word-up = let u = f .upwards in omega (arith, d, g, u)
-
-    pub word-short : e - s < 256
-    word-short = let l = f .long in omega (arith, d, g, l)
-
-    pub enclosed-here : Enclosed longest s (e - s)
-    enclosed-here =
-        let u = f .upwards in
-        let k = f .inside in
-        let l = f .long in
-        record {
-          inside = omega (arith, d, g, u, k);
-          short = omega (arith, d, g, l);
-          within = λ a h. let w = f .within (s + a) (omega (arith, d)) (omega (arith, d, g, h)) in omega (arith, w, g);
-        }
-
-    pub number-here : (r : ℕ) → r ≡ numberFrom longest s (e - s) → r ≡ numberBy longest table i
-    number-here r h = h ∙ rw (d, g)
-
-pub ruleset words = (cells-start, cells-end, word-up, word-short, enclosed-here, number-here, needs)
+pub ruleset words = (enclosed-here, number-here, needs)
