@@ -50,7 +50,12 @@ fn write_row(table: &[u16], i: usize, sheet: &mut [u8])
     requires { ⌜ RowRoom (now table) i (now sheet) ⌝ }
     ensures { λ _. ⌜ now (sheet .exit) ≡ written (sheetColumns * i) (rowAt (now (table .entry)) i) (now (sheet .entry)) ⌝ }
 {
-    let row = [x_length(table, i), y_length(table, i), z_length(table, i), pieces(table, i)];
+    let row = [
+        x_length(table, i),
+        y_length(table, i),
+        z_length(table, i),
+        pieces(table, i),
+    ];
     writing::put_bytes(&row, sheet, Sheet::COLUMNS * i);
 }
 

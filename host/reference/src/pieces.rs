@@ -1,5 +1,5 @@
 //! Pieces, C(4) and cuts (document 01, the section of that name; document 003, section 1), and of how many pieces a relation word is the product
-//! (document 02, slip 2).
+//! (the same section).
 
 use std::collections::HashSet;
 
