@@ -1,5 +1,5 @@
 -- A law for each way that the part with another member can go, where Z of i does not follow X and Y.
-use Prim.Native.Nat.{ℕ, _+_, _-_, _*_, _≤_, _<_}
+use Prim.Native.Nat.{ℕ, _+_, _-_, _≤_, _<_}
 use mathlib.Core.Bool.{Bool, true, false, and-eq-true-iff}
 use mathlib.Core.List.{List}
 use mathlib.Core.Logic.{⊎-elim}
@@ -22,6 +22,7 @@ use Rattle.overlap.specs.Cuts.{len, zOf}
 use Rattle.congruence.specs.Rows.{cleanRelationPrefix}
 use Rattle.least.specs.Possible.{relationOf, possible}
 use Rattle.least.specs.Writing.{cleanBefore, otherPart}
+use Rattle.layout.specs.Places.{endCell}
 use Rattle.layout.specs.Layout.{wordsIn, Checked}
 use Rattle.layout.proofs.Placed.{row-inside}
 use Rattle.sites.specs.declared.Site.{Site}
@@ -46,10 +47,10 @@ module _ (text table : List ℕ) (n : ℕ) (given : Word) (s : LeastState) (i j 
   checked : Checked text table n
   checked = found-checked text table n given s i k j (f .chosen)
 
-  pub other-room-own : 4 * i + 3 < length table
+  pub other-room-own : endCell i < length table
   other-room-own = row-inside text table n (checked .laid) i (f .chosen .found .asked .there)
 
-  pub other-room : 4 * j + 3 < length table
+  pub other-room : endCell j < length table
   other-room = row-inside text table n (checked .laid) j (f .chosen .known)
 
   module _ (own : Site) (eo : own ≡ siteOf table i) (z : Site) (ez : z ≡ siteOf table j) where

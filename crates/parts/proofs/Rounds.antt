@@ -1,5 +1,5 @@
 -- A law for each way that a round can go.
-use Prim.Native.Nat.{ℕ, _+_, _-_, _*_, _≤_, _<_}
+use Prim.Native.Nat.{ℕ, _+_, _-_, _≤_, _<_}
 use mathlib.Core.Bool.{Bool, true, false, true≢false}
 use mathlib.Core.Logic.{by-cases}
 use mathlib.Core.List.{List, []}
@@ -22,6 +22,7 @@ use Rattle.congruence.specs.Rows.{cleanRelationPrefix}
 use Rattle.congruence.proofs.ShapeNoPrefix.{prefix-past-tail}
 use Rattle.least.specs.Possible.{relationOf}
 use Rattle.least.specs.Writing.{letterPart, wholePart, otherPart, memberPart, writePart}
+use Rattle.layout.specs.Places.{endCell}
 use Rattle.layout.specs.Layout.{Span, wordsIn, Checked}
 use Rattle.layout.proofs.Placed.{words-length, row-inside}
 use Rattle.sites.specs.declared.Site.{Site}
@@ -61,7 +62,7 @@ module _ (text table : List ℕ) (n : ℕ) (given : Word) (s : LeastState) (i : 
   standing : WordFits text (wordsIn text table n) given (s .word)
   standing = a .ready .standing .word
 
-  pub behind-room : 4 * i + 3 < length table
+  pub behind-room : endCell i < length table
   behind-room = row-inside text table n (checked .laid) i (a .there)
 
   pub behind-up : s .word .at ≤ s .word .to
@@ -134,7 +135,7 @@ hint-of-told text B given i k own y (Tolds.That b) r =
 
 -- the part by the chosen member
 module _ (text table : List ℕ) (n : ℕ) (given : Word) (s : LeastState) (i k : ℕ) (c : Choice) (f : ChoiceFound text table n given s i k c) where
-  pub member-room : 4 * i + 3 < length table
+  pub member-room : endCell i < length table
   member-room = row-inside text table n (f .found .asked .ready .ready .paired .checked .laid) i (f .found .asked .there)
 
   pub member-none : n ≤ c .member
@@ -204,7 +205,7 @@ module _ (text table : List ℕ) (n : ℕ) (given : Word) (s : LeastState) (i k 
   chosen : MemberFound text table n given s i k (c .member)
   chosen = record { found = f .choice .found; member = f .choice .made .member; known = f .known }
 
-  pub apart-room : 4 * i + 3 < length table
+  pub apart-room : endCell i < length table
   apart-room = row-inside text table n (f .choice .found .asked .ready .ready .paired .checked .laid) i (f .choice .found .asked .there)
 
   module _ (q : c .member ≡ i) (own : Site) (e : own ≡ siteOf table i) where

@@ -1,5 +1,5 @@
 -- What a hint tells of Z behind X and Y, and a law for each way that the choice of a member can go.
-use Prim.Native.Nat.{ℕ, _+_, _*_, _<_}
+use Prim.Native.Nat.{ℕ, _<_}
 use mathlib.Core.Bool.{Bool, true, false, not, true≢false, and-eq-true-iff}
 use mathlib.Core.Logic.{by-cases}
 use mathlib.Core.List.{List}
@@ -17,6 +17,7 @@ use Rattle.least.specs.Order.{houseRank}
 use Rattle.least.specs.Possible.{relationOf, possible}
 use Rattle.least.specs.Writing.{firstMember, chosenMember}
 use Rattle.least.proofs.Possible.{possible-turn}
+use Rattle.layout.specs.Places.{endCell}
 use Rattle.layout.specs.Layout.{wordsIn}
 use Rattle.layout.proofs.Placed.{words-length, row-inside}
 use Rattle.sites.specs.declared.Site.{Site}
@@ -72,7 +73,7 @@ module _ (text table : List ℕ) (n : ℕ) (given : Word) (s : LeastState) (i k 
   pub ask-told : (b : Bool) → t ≡ Tolds.That b → b ≡ possible (wordsIn text table n) relationOf (zOf (wordsIn text table n) i) (drop k given)
   ask-told b e = sym (subst (ToldRight (wordsIn text table n) given i k) e (f .told))
 
-  pub ask-room : 4 * i + 3 < length table
+  pub ask-room : endCell i < length table
   ask-room = row-inside text table n (f .found .asked .ready .ready .paired .checked .laid) i (f .found .asked .there)
 
   module _ (z : Site) (e : z ≡ siteOf table i) where

@@ -1,5 +1,5 @@
 -- A law for each way that the part of a whole relation word can go.
-use Prim.Native.Nat.{ℕ, _+_, _*_, _%_, _≤_, _<_}
+use Prim.Native.Nat.{ℕ, _%_, _≤_, _<_}
 use mathlib.Core.Bool.{Bool, true, false}
 use mathlib.Core.List.{List, _++_}
 use mathlib.Core.Path.{_≡_, refl, sym, ap, _∙_}
@@ -15,6 +15,7 @@ use Rattle.congruence.specs.Rows.{active}
 use Rattle.least.specs.Possible.{relationOf}
 use Rattle.least.specs.Writing.{carrier, wholePart}
 use Rattle.least.proofs.Shape.{carrier-there}
+use Rattle.layout.specs.Places.{endCell}
 use Rattle.layout.specs.Layout.{wordsIn}
 use Rattle.layout.proofs.Placed.{words-length, row-inside}
 use Rattle.sites.specs.declared.Site.{Site}
@@ -51,7 +52,7 @@ module _ (text table : List ℕ) (n : ℕ) (given : Word) (s : LeastState) (i j 
   pub whole-idle : (x : Bool) → x ≡ active (wordsIn text table n) (zOf (wordsIn text table n) j) (drop k given) → x ≡ false → IdleAsked text table n given i j k
   whole-idle x e h = record { rest = whole-rest-own; kin = found-fits text table n given s i (f .before) j (f .chosen) .kin; idle = λ y q. q ∙ sym e ∙ h }
 
-  pub whole-room : 4 * j + 3 < length table
+  pub whole-room : endCell j < length table
   whole-room = row-inside text table n (f .chosen .found .asked .ready .ready .paired .checked .laid) j (f .chosen .known)
 
   later : f .before ≤ k
@@ -64,7 +65,7 @@ module _ (text table : List ℕ) (n : ℕ) (given : Word) (s : LeastState) (i j 
         let q = carrier-there (wordsIn text table n) relationOf i (drop k given) (rw b (f .chosen .found .asked .there)) in
         omega (arith, g, q, b)
 
-    pub whole-room-carrier : 4 * c + 3 < length table
+    pub whole-room-carrier : endCell c < length table
     whole-room-carrier = row-inside text table n (f .chosen .found .asked .ready .ready .paired .checked .laid) c carrier-below
 
   module _ (z : Site) (e : z ≡ siteOf table j) where

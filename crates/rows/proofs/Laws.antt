@@ -1,5 +1,5 @@
 -- A law for each way that the code can go which looks for the first row that fits.
-use Prim.Native.Nat.{ℕ, suc, _+_, _-_, _*_, _≤_, _<_}
+use Prim.Native.Nat.{ℕ, suc, _-_, _≤_, _<_}
 use mathlib.Core.Bool.{Bool, true, false}
 use mathlib.Core.List.{List, [], _∷_, _++_}
 use mathlib.Core.Path.{_≡_, refl, sym, _∙_}
@@ -13,6 +13,7 @@ use Rattle.words.specs.Relations.{other}
 use Rattle.words.proofs.Relations.{other-there}
 use Rattle.congruence.specs.Rows.{cleanRelationPrefix, fitting, firstRow}
 use Rattle.congruence.proofs.FirstRow.{row-of-prefix, fits}
+use Rattle.layout.specs.Places.{endCell}
 use Rattle.layout.specs.Layout.{wordsIn}
 use Rattle.layout.proofs.Placed.{words-length}
 use Rattle.sites.specs.declared.Site.{Site}
@@ -89,10 +90,10 @@ module _ (text table : List ℕ) (n i : ℕ) (h : PairedWord text table n i) whe
   pub paired-few : i ≤ 64
   paired-few = let a = h .there in let b = h .paired .checked .laid .few in omega arith
 
-  pub paired-room : 4 * i + 3 < length table
+  pub paired-room : endCell i < length table
   paired-room = let a = paired-few in let b = h .paired .checked .indexed .room in omega arith
 
-  pub other-room : (j : ℕ) → j ≡ other i → 4 * j + 3 < length table
+  pub other-room : (j : ℕ) → j ≡ other i → endCell j < length table
   other-room j e = let a = paired-few in let b = h .paired .checked .indexed .room in omega arith
 
   pub own-lies : Lies text (wordsIn text table n) i (siteOf table i)

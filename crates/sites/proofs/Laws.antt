@@ -1,5 +1,5 @@
 -- A law for each way that the code can go which reads where relation words lie.
-use Prim.Native.Nat.{ℕ, _+_, _-_, _*_, _≤_, _<_}
+use Prim.Native.Nat.{ℕ, _+_, _-_, _≤_, _<_}
 use mathlib.Core.Bool.{Bool, true, false, _&&_}
 use mathlib.Core.List.{List}
 use mathlib.Core.Path.{_≡_, refl, sym, ap, _∙_, subst}
@@ -18,7 +18,7 @@ use Rattle.words.proofs.Prefixes.{prefix-length, prefix-swap, prefix-take}
 use Rattle.words.proofs.Searching.{NoneBelow, none-more, any-of, any-none}
 use Rattle.overlap.proofs.Facts.{rigid-of-c4}
 use Rattle.congruence.specs.Rows.{hasRelationPrefixAt, hasRelationPrefixBetween, cleanRelationPrefix}
-use Rattle.layout.specs.Places.{tableRoom}
+use Rattle.layout.specs.Places.{endCell, tableRoom}
 use Rattle.layout.specs.Layout.{startOf, xEndOf, zStartOf, endOf, Span, wordsIn, Checked}
 use Rattle.layout.proofs.Placed.{words-length}
 use Rattle.index.specs.Index.{relationPrefixAt}
@@ -140,7 +140,7 @@ pub ruleset vacants = (vacant-start, vacant-more, vacant-found, vacant-end, need
 
 -- the test for a clean relation prefix
 module _ (text table : List ℕ) (n i : ℕ) (h : KnownWord text table n i) where
-  pub known-room : 4 * i + 3 < length table
+  pub known-room : endCell i < length table
   known-room = let a = h .checked .laid .few in let b = h .checked .indexed .room in let c = h .there in omega arith
 
   pub known-checked : Checked text table n

@@ -2,13 +2,13 @@
 // A word is two slices, a head part and what follows it.
 
 ghost use mathlib.Core.Path.{_≡_};
-ghost use Prim.Native.Nat.{_+_, _*_, _<_, _≤_};
+ghost use Prim.Native.Nat.{_<_, _≤_};
 ghost use mathlib.Core.List.{_++_};
 ghost use lib.ListN.{length};
 ghost use Rattle.words.specs.Words.{isPrefix, part};
 ghost use Rattle.words.specs.Relations.{other};
 ghost use Rattle.congruence.specs.Rows.{hasRelationPrefixAt, hasRelationPrefixBetween, cleanRelationPrefix};
-ghost use Rattle.layout.specs.Places.{tableRoom};
+ghost use Rattle.layout.specs.Places.{endCell, tableRoom};
 ghost use Rattle.layout.specs.Layout.{wordsIn, Checked};
 ghost use Rattle.sites.specs.Sites.{siteOf, SiteInText, SitesInText, KnownWord};
 ghost use Rattle.sites.specs.Prefixes.{uncleanPrefix, markInEitherX};
@@ -26,7 +26,7 @@ pub struct Site {
 
 // Where relation word i lies.
 pub fn read_site(table: &[u16], i: usize) -> Site
-    requires { ⌜ 4 * i + 3 < length (now table) ⌝ }
+    requires { ⌜ endCell i < length (now table) ⌝ }
     ensures { λ r. ⌜ r ≡ siteOf (now (table .entry)) i ⌝ }
 {
     Site {

@@ -1,5 +1,5 @@
 -- A law for each way that a walk can go.
-use Prim.Native.Nat.{ℕ, _+_, _-_, _*_, _≤_, _<_, min}
+use Prim.Native.Nat.{ℕ, _+_, _-_, _≤_, _<_, min}
 use mathlib.Core.Bool.{Bool, true, false}
 use mathlib.Core.Logic.{by-cases}
 use mathlib.Core.List.{List}
@@ -21,6 +21,7 @@ use Rattle.overlap.proofs.Facts.{length-xy, rigid-of-c4}
 use Rattle.congruence.specs.Rows.{cleanRelationPrefix}
 use Rattle.least.specs.Possible.{relationOf, markedByAny, possible}
 use Rattle.least.proofs.Possible.{possible-front, possible-turn, possible-unmarked}
+use Rattle.layout.specs.Places.{endCell}
 use Rattle.layout.specs.Layout.{wordsIn, Checked}
 use Rattle.layout.proofs.Placed.{words-length}
 use Rattle.joined.specs.Joined.{Agreed}
@@ -106,10 +107,10 @@ module _ (text table : List ℕ) (n : ℕ) (given : Word) (at to from : ℕ) (t 
     pub turn-few : i ≤ 64
     turn-few = paired-few text table n i turn-word
 
-    pub turn-room : 4 * i + 3 < length table
+    pub turn-room : endCell i < length table
     turn-room = paired-room text table n i turn-word
 
-    pub turn-room-other : (o : ℕ) → o ≡ other i → 4 * o + 3 < length table
+    pub turn-room-other : (o : ℕ) → o ≡ other i → endCell o < length table
     turn-room-other o f = other-room text table n i turn-word o f
 
     module _ (own : Site) (eo : own ≡ siteOf table i) where
