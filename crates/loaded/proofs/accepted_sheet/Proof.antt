@@ -9,6 +9,7 @@ accepted-sheet-spec =
     (λ c. search tableSheets)
     (λ c. search tableSheets)
     (λ c. search tableSheets)
+    (λ c. search tableSheets)
     (λ c κs. search tableSheets)
     (λ c. search tableSheets)
     (λ c. search tableSheets))
