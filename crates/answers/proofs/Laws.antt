@@ -100,7 +100,7 @@ module _ (book : List ℕ) (reading : Reading) (text table : List ℕ) (d : Book
     pub loaded-ready : Ready text table (2 * count)
     loaded-ready =
         let h = held in
-        record { paired = record { checked = h .checked; even = omega arith }; text-short = omega (arith, d .memory .text4160) }
+        record { paired = record { checked = h .checked; even = omega arith }; text-short = omega (arith, d .memory .textRoomy) }
 
     pub loaded-sheet : SheetReady table count
     loaded-sheet =
@@ -146,7 +146,7 @@ module _ (book : List ℕ) (reading : Reading) (text table : List ℕ) (d : Book
         least-answered book u buffer offset x (g ∙ sym q)
 
 pub memory-made : (text table : List ℕ) → length text ≡ textRoom → length table ≡ tableRoom → Memory text table
-memory-made text table h k = record { text4160 = h; table450 = k }
+memory-made text table h k = record { textRoomy = h; tableRoomy = k }
 
 pub ruleset checks = (memory-made, check-refused, check-accepted, needs)
 

@@ -65,7 +65,7 @@ module _ (input : List ℕ) (end : ℕ) (e : end ≡ bookEnd input) where
           let k = held in
           record {
             few = omega (arith, k .many, k .within .fewRelations);
-            ready = record { paired = record { checked = k .checked; even = omega arith }; text-short = omega (arith, l .memory .text4160) };
+            ready = record { paired = record { checked = k .checked; even = omega arith }; text-short = omega (arith, l .memory .textRoomy) };
             within = book-within;
             room = omega (arith, h .room, ap length accepted-whole);
           }

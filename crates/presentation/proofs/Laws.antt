@@ -81,7 +81,7 @@ not-read : (book : List ℕ) (reading : Reading) (r : Refusal) (text table : Lis
 not-read book reading r text table e letters count f = let z : _≡_ {A = ℕ} 0 1 = cc in absurd (omega arith)
 
 pub memory-arrays : (text table : List ℕ) → Memory text table → Arrays text table
-memory-arrays text table m = record { textLong = omega (arith, m .text4160); tableLong = m .table450 }
+memory-arrays text table m = record { textLong = omega (arith, m .textRoomy); tableLong = m .tableRoomy }
 
 module _ (book text table : List ℕ) (memory : Memory text table) (reading : Reading) (text′ table′ : List ℕ) (d : BookRead book text table reading text′ table′) where
   -- 1 to 6
@@ -92,7 +92,7 @@ module _ (book text table : List ℕ) (memory : Memory text table) (reading : Re
       record {
         answer = rw (q, e);
         held = not-read book reading r text′ table′ e;
-        memory = record { text4160 = d .textLong ∙ memory .text4160; table450 = d .tableLong ∙ memory .table450 };
+        memory = record { textRoomy = d .textLong ∙ memory .textRoomy; tableRoomy = d .tableLong ∙ memory .tableRoomy };
       }
 
   module _ (letters count : ℕ) (e : reading ≡ Read letters count) where
@@ -109,7 +109,7 @@ module _ (book text table : List ℕ) (memory : Memory text table) (reading : Re
     same-number = omega (arith, presented .3)
 
     pub load-unlisted : Unlisted text′ table′ (2 * count)
-    load-unlisted = record { laid = rw same-number (stored .laid); room = d .tableLong ∙ memory .table450 }
+    load-unlisted = record { laid = rw same-number (stored .laid); room = d .tableLong ∙ memory .tableRoomy }
 
     -- the verdict on the words of the book
     module _ (last : List ℕ) (j : Judged) (s : WordsChecked text′ table′ (2 * count) last j) where
@@ -117,7 +117,7 @@ module _ (book text table : List ℕ) (memory : Memory text table) (reading : Re
       words-of = rw same-number (stored .words)
 
       checked-memory : Memory text′ last
-      checked-memory = record { text4160 = d .textLong ∙ memory .text4160; table450 = s .long ∙ d .tableLong ∙ memory .table450 }
+      checked-memory = record { textRoomy = d .textLong ∙ memory .textRoomy; tableRoomy = s .long ∙ d .tableLong ∙ memory .tableRoomy }
 
       -- loading gives what the verdict says
       by-verdict : loadBook book ≡ byVerdict (presented .0) (verdictOf j)

@@ -55,8 +55,8 @@ pub record Holding (book : List ℕ) (letters count : ℕ) (text table : List �
 
 -- the two arrays that a book is loaded into
 pub record Memory (text table : List ℕ) : Type 0 where
-  pub text4160 : length text ≡ textRoom
-  pub table450 : length table ≡ tableRoom
+  pub textRoomy : length text ≡ textRoom
+  pub tableRoomy : length table ≡ tableRoom
 
 -- the answer is what loading the book gives, and where it is accepted, the arrays hold it
 pub record BookLoaded (book : List ℕ) (r : Reading) (text table : List ℕ) : Type 0 where
