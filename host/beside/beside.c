@@ -1,0 +1,169 @@
+/*
+ * The functions of two archives beside each other, in one process: that of this tree, and that of another, whose names begin with `before_` here.
+ * Prints for each case the best time of both and their ratio. host/beside/run renames, builds and runs; both must have the structs of this header.
+ */
+#include <stdio.h>
+#include <string.h>
+#include <time.h>
+
+#include "vanecitron_book.h"
+
+vanecitron_check_result before_vanecitron_check(const uint8_t *book, size_t book_length);
+vanecitron_check_result before_vanecitron_cut_sheet(const uint8_t *book, size_t book_length, uint8_t *sheet, size_t sheet_length);
+vanecitron_compare_result before_vanecitron_compare(const uint8_t *book, size_t book_length, const uint8_t *u, size_t u_length, const uint8_t *v,
+                                                    size_t v_length, uint32_t allowance);
+vanecitron_least_result before_vanecitron_least(const uint8_t *book, size_t book_length, const uint8_t *u, size_t u_length, uint8_t *buffer,
+                                                size_t buffer_length, size_t offset);
+
+/* the book and the runs of a case, and what is lent */
+static uint8_t bytes[VANECITRON_BOOK_MOST], u[VANECITRON_RUN], v[VANECITRON_RUN], sheet[VANECITRON_SHEET_MOST], least[VANECITRON_LEAST_MOST];
+static vanecitron_book book;
+static size_t u_length, v_length;
+
+/* what is timed: the same call of either archive; the number that it gives must be the same for both */
+typedef uint64_t call(int before);
+
+static uint64_t check(int before)
+{
+    return before ? before_vanecitron_check(book.bytes, book.length).rules : vanecitron_check(book.bytes, book.length).rules;
+}
+
+static uint64_t cut_sheet(int before)
+{
+    return before ? before_vanecitron_cut_sheet(book.bytes, book.length, sheet, sizeof sheet).rules
+                  : vanecitron_cut_sheet(book.bytes, book.length, sheet, sizeof sheet).rules;
+}
+
+static uint64_t compare(int before)
+{
+    return before ? before_vanecitron_compare(book.bytes, book.length, u, u_length, v, v_length, VANECITRON_ALLOWANCE).rounds
+                  : vanecitron_compare(book.bytes, book.length, u, u_length, v, v_length, VANECITRON_ALLOWANCE).rounds;
+}
+
+static uint64_t least_run(int before)
+{
+    return before ? before_vanecitron_least(book.bytes, book.length, u, u_length, least, sizeof least, 0).length
+                  : vanecitron_least(book.bytes, book.length, u, u_length, least, sizeof least, 0).length;
+}
+
+static double seconds(void)
+{
+    struct timespec now;
+    clock_gettime(CLOCK_PROCESS_CPUTIME_ID, &now);
+    return (double)now.tv_sec + 1e-9 * (double)now.tv_nsec;
+}
+
+/* the time of so many calls */
+static double batch(call *of, int before, unsigned count)
+{
+    double began = seconds();
+    for (unsigned i = 0; i < count; i++) {
+        of(before);
+    }
+    return seconds() - began;
+}
+
+/* the best batch of each counts, of batches that follow each other in turn: other work on the machine only adds time */
+static int measure(const char *name, call *of)
+{
+    double best[2] = {1e9, 1e9}, took;
+    unsigned count = 1;
+    if (of(0) != of(1)) {
+        printf("%-66s the two answer differently\n", name);
+        return 1;
+    }
+    while (batch(of, 1, count) < 1e-3) {
+        count *= 2;
+    }
+    for (double began = seconds(); seconds() - began < 1.5;) {
+        for (int before = 0; before < 2; before++) {
+            took = batch(of, before, count);
+            best[before] = took < best[before] ? took : best[before];
+        }
+    }
+    printf("%-66s %9.2f us %9.2f us %6.3f\n", name, 1e6 * best[1] / count, 1e6 * best[0] / count, best[0] / best[1]);
+    return 0;
+}
+
+/* book Q, and the two runs of which each is its sides one after the other */
+static void book_q(size_t length)
+{
+    static const uint8_t sides[2][4] = {{0, 1, 3, 2}, {2, 0, 3, 1}};
+    book = vanecitron_book_begin(bytes, sizeof bytes, 4);
+    vanecitron_book_rule(&book, sides[0], 4, sides[1], 4);
+    u_length = v_length = length;
+    for (size_t i = 0; i < length; i++) {
+        u[i] = sides[0][i % 4];
+        v[i] = sides[1][i % 4];
+    }
+}
+
+/* a book of 32 rules of 64 and 64 steps, each given by its side and its place there, and two runs of such sides in turn */
+static void full_book(uint8_t step(unsigned side, unsigned place))
+{
+    uint8_t sides[2 * VANECITRON_RULES][VANECITRON_SIDE];
+    for (unsigned side = 0; side < 2 * VANECITRON_RULES; side++) {
+        for (unsigned place = 0; place < VANECITRON_SIDE; place++) {
+            sides[side][place] = step(side, place);
+        }
+    }
+    book = vanecitron_book_begin(bytes, sizeof bytes, VANECITRON_LETTERS);
+    for (unsigned rule = 0; rule < VANECITRON_RULES; rule++) {
+        vanecitron_book_rule(&book, sides[2 * rule], VANECITRON_SIDE, sides[2 * rule + 1], VANECITRON_SIDE);
+    }
+    u_length = v_length = VANECITRON_RUN;
+    for (size_t i = 0; i < VANECITRON_RUN; i++) {
+        unsigned rule = (unsigned)(i / VANECITRON_SIDE % VANECITRON_RULES);
+        u[i] = sides[2 * rule][i % VANECITRON_SIDE];
+        v[i] = sides[2 * rule + 1][i % VANECITRON_SIDE];
+    }
+}
+
+static uint8_t random_step(unsigned side, unsigned place)
+{
+    static uint32_t state = 1;
+    state = side + place == 0 ? 1 : state * 1664525u + 1013904223u;
+    return (uint8_t)(state >> 26);
+}
+
+/* every side has every letter, and no two letters stand together in two places: 64 pieces */
+static uint8_t step_by_step(unsigned side, unsigned place)
+{
+    return (uint8_t)((side + (place % 2 == 1 ? (place + 1) / 2 : 64 - place / 2)) % 64);
+}
+
+/* a front and an end of 30 steps in common, and four steps between, of which no two stand together in another side: four pieces */
+static uint8_t shared_step(unsigned side, unsigned place)
+{
+    unsigned step = 1 + 3 * (side / 62);
+    const unsigned own[] = {side, side + step, side + 2 * step + 1, side + 3 * step + 3};
+    return place < 30 ? 0 : place < 34 ? (uint8_t)(2 + own[place - 30] % 62) : 1;
+}
+
+int main(void)
+{
+    int differ = 0;
+    printf("%-66s %12s %12s %6s\n", "case", "before", "now", "ratio");
+    book_q(4);
+    differ |= measure("check of Q", check);
+    differ |= measure("cut sheet of Q", cut_sheet);
+    differ |= measure("comparison under Q, runs of 4", compare);
+    differ |= measure("least run under Q, a run of 4", least_run);
+    book_q(VANECITRON_RUN);
+    differ |= measure("comparison under Q, runs of 4,096", compare);
+    differ |= measure("least run under Q, a run of 4,096", least_run);
+    full_book(random_step);
+    differ |= measure("check of a full random book", check);
+    differ |= measure("cut sheet of a full random book", cut_sheet);
+    differ |= measure("comparison under a full random book, runs of 4,096", compare);
+    differ |= measure("least run under a full random book, a run of 4,096", least_run);
+    full_book(step_by_step);
+    differ |= measure("check of a full book of 64 pieces a side", check);
+    differ |= measure("cut sheet of a full book of 64 pieces a side", cut_sheet);
+    full_book(shared_step);
+    differ |= measure("check of a full book with long pieces", check);
+    differ |= measure("cut sheet of a full book with long pieces", cut_sheet);
+    differ |= measure("comparison under a full book with long pieces, runs of 4,096", compare);
+    differ |= measure("least run under a full book with long pieces, a run of 4,096", least_run);
+    return differ;
+}
