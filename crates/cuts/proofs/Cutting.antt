@@ -16,7 +16,7 @@ use Rattle.words.proofs.Searching.{greatest-bound, greatest-is, greatest-same}
 use Rattle.overlap.specs.Cuts.{len, pieceAt, xlen, zlen}
 use Rattle.overlap.specs.Counts.{number, fewest, longestPiece, pieceCount}
 use Rattle.overlap.proofs.Reaching.{fewest-same}
-use Rattle.layout.specs.Places.{startCell, xEndCell, zStartCell, piecesCell, endCell}
+use Rattle.layout.specs.Places.{wordsMost, startCell, xEndCell, zStartCell, piecesCell, endCell}
 use Rattle.layout.specs.Layout.{Laid, Cut, wordsIn, startOf, xEndOf, zStartOf, piecesOf, endOf}
 use Rattle.layout.proofs.Placed.{word-length, end-before, words-of-places, laid-of-places}
 use Rattle.longest.specs.Longest.{longestAt, Tabled}
@@ -110,7 +110,7 @@ module _ (longest table : List ℕ) (i : ℕ) where
 
   pub third-inside : InTables longest table i → (x z : ℕ) → piecesCell i < length (set (set table (xEndCell i) x) (zStartCell i) z)
   third-inside f x z =
-      let r = f .room in
+      let r = f .pieces in
       let l = length-set table (xEndCell i) x in
       let m = length-set (set table (xEndCell i) x) (zStartCell i) z in
       omega (arith, r, l, m)
@@ -136,57 +136,57 @@ cut-start longest table n p =
       upto = omega arith;
       long = refl;
       done = record {
-        kept = record { long = refl; starts = λ i. refl; ends = λ i. refl; beyond = λ k h. refl };
+        kept = record { long = refl; starts = λ i h. refl; ends = λ i h. refl; between = λ k h l. refl; beyond = λ k h. refl };
         xEnd = λ i h. absurd (omega (arith, h));
         zStart = λ i h. absurd (omega (arith, h));
         pieces = λ i h. absurd (omega (arith, h));
       };
     }
 
--- three neighbours are set
-module _ (b : List ℕ) (k x z p : ℕ) (h : k + 2 < length b) where
+-- three cells are set, of which no two are the same
+module _ (b : List ℕ) (k x l z m p : ℕ) (apart : (k < l) × (l < m) × (m < length b)) where
   abbrev pub threeSet : List ℕ
-  threeSet = set (set (set b k x) (k + 1) z) (k + 2) p
+  threeSet = set (set (set b k x) l z) m p
 
   pub three-length : length threeSet ≡ length b
-  three-length = length-set (set (set b k x) (k + 1) z) (k + 2) p ∙ length-set (set b k x) (k + 1) z ∙ length-set b k x
+  three-length = length-set (set (set b k x) l z) m p ∙ length-set (set b k x) l z ∙ length-set b k x
 
-  pub three-other : (j : ℕ) → (j ≡ k → ⊥) → (j ≡ k + 1 → ⊥) → (j ≡ k + 2 → ⊥) → getD threeSet j 0 ≡ getD b j 0
-  three-other j d e g =
-      getD-set-other (set (set b k x) (k + 1) z) (k + 2) j p 0 g ∙ getD-set-other (set b k x) (k + 1) j z 0 e ∙ getD-set-other b k j x 0 d
+  pub three-other : (j : ℕ) → (j ≡ k → ⊥) → (j ≡ l → ⊥) → (j ≡ m → ⊥) → getD threeSet j 0 ≡ getD b j 0
+  three-other j d e g = getD-set-other (set (set b k x) l z) m j p 0 g ∙ getD-set-other (set b k x) l j z 0 e ∙ getD-set-other b k j x 0 d
 
   pub three-first : getD threeSet k 0 ≡ x
   three-first =
-      getD-set-other (set (set b k x) (k + 1) z) (k + 2) k p 0 (λ g. absurd (omega (arith, g)))
-      ∙ getD-set-other (set b k x) (k + 1) k z 0 (λ g. absurd (omega (arith, g)))
-      ∙ getD-set-same b k x 0 (omega (arith, h))
+      getD-set-other (set (set b k x) l z) m k p 0 (λ g. absurd (omega (arith, g, apart)))
+      ∙ getD-set-other (set b k x) l k z 0 (λ g. absurd (omega (arith, g, apart)))
+      ∙ getD-set-same b k x 0 (omega (arith, apart))
 
-  pub three-second : getD threeSet (k + 1) 0 ≡ z
+  pub three-second : getD threeSet l 0 ≡ z
   three-second =
-      let l = length-set b k x in
-      getD-set-other (set (set b k x) (k + 1) z) (k + 2) (k + 1) p 0 (λ g. absurd (omega (arith, g)))
-      ∙ getD-set-same (set b k x) (k + 1) z 0 (omega (arith, h, l))
+      let e = length-set b k x in
+      getD-set-other (set (set b k x) l z) m l p 0 (λ g. absurd (omega (arith, g, apart)))
+      ∙ getD-set-same (set b k x) l z 0 (omega (arith, apart, e))
 
-  pub three-third : getD threeSet (k + 2) 0 ≡ p
+  pub three-third : getD threeSet m 0 ≡ p
   three-third =
-      let l = length-set (set b k x) (k + 1) z ∙ length-set b k x in
-      getD-set-same (set (set b k x) (k + 1) z) (k + 2) p 0 (omega (arith, h, l))
+      let e = length-set (set b k x) l z ∙ length-set b k x in
+      getD-set-same (set (set b k x) l z) m p 0 (omega (arith, apart, e))
 
 module _ (longest table : List ℕ) (n i : ℕ) (b : List ℕ) (s : Cutting longest table n i b) where
-  start-same : startOf b i ≡ startOf table i
-  start-same = s .done .kept .starts i
+  start-same : i < n → startOf b i ≡ startOf table i
+  start-same h = s .done .kept .starts i (omega (arith, h, s .placed .few))
 
-  end-same : endOf b i ≡ endOf table i
-  end-same = s .done .kept .ends i
+  end-same : i < n → endOf b i ≡ endOf table i
+  end-same h = s .done .kept .ends i (omega (arith, h, s .placed .few))
 
   pub cut-tables : i < n → InTables longest b i
   cut-tables h =
       let p = s .placed .each i h in
-      let d = start-same in
-      let e = end-same in
+      let d = start-same h in
+      let e = end-same h in
       let l = s .long in
       record {
         room = omega (arith, p .room, l);
+        pieces = omega (arith, p .pieces, l);
         upwards = omega (arith, p .upwards, d, e);
         inside = omega (arith, p .inside, e);
         short = omega (arith, p .short, e);
@@ -194,31 +194,30 @@ module _ (longest table : List ℕ) (n i : ℕ) (b : List ℕ) (s : Cutting long
         within = λ q a z. let w = p .within q (omega (arith, a, d)) (omega (arith, z, e)) in omega (arith, w, e);
       }
 
-  x-same : xBy longest b i ≡ xBy longest table i
+  x-same : i < n → xBy longest b i ≡ xBy longest table i
   unfolding xBy
-  x-same = rw start-same
+  x-same h = rw (start-same h)
 
-  z-same : zBy longest b i ≡ zBy longest table i
-  z-same = rw (start-same, end-same)
+  z-same : i < n → zBy longest b i ≡ zBy longest table i
+  z-same h = rw (start-same h, end-same h)
 
-  number-same : numberBy longest b i ≡ numberBy longest table i
-  number-same = rw (start-same, end-same)
+  number-same : i < n → numberBy longest b i ≡ numberBy longest table i
+  number-same h = rw (start-same h, end-same h)
 
+  -- another word's cells, and those of no cut, are other cells
   pub cut-more : (c : List ℕ) → i < n → c ≡ cutWord longest b i → Cutting longest table n (i + 1) c
   cut-more c h e =
       let p = s .placed .each i h in
       let l = s .long in
       let k = s .done .kept in
-      let q : xEndCell i + 2 < length b = omega (arith, p .room, l) in
-      let g₁ : zStartCell i ≡ xEndCell i + 1 = omega arith in
-      let g₂ : piecesCell i ≡ xEndCell i + 2 = omega arith in
+      let w = s .placed .few in
       let x = xBy longest b i in
       let z = zBy longest b i in
       let v = numberBy longest b i in
-      let e₂ : c ≡ threeSet b (xEndCell i) (xBy longest b i) (zBy longest b i) (numberBy longest b i) q = rw (← g₁, ← g₂) e in
-      let m : length c ≡ length table = rw e₂ (three-length b (xEndCell i) x z v q ∙ l) in
-      let other : (j : ℕ) → (j ≡ xEndCell i → ⊥) → (j ≡ xEndCell i + 1 → ⊥) → (j ≡ xEndCell i + 2 → ⊥) → getD c j 0 ≡ getD b j 0 =
-      λ j d f a. rw e₂ (three-other b (xEndCell i) x z v q j d f a) in
+      let q : (xEndCell i < zStartCell i) × (zStartCell i < piecesCell i) × (piecesCell i < length b) = (omega arith, omega (arith, h, w), omega (arith, p .pieces, l)) in
+      let m : length c ≡ length table = rw e (three-length b (xEndCell i) x (zStartCell i) z (piecesCell i) v q ∙ l) in
+      let other : (j : ℕ) → (j ≡ xEndCell i → ⊥) → (j ≡ zStartCell i → ⊥) → (j ≡ piecesCell i → ⊥) → getD c j 0 ≡ getD b j 0 =
+      λ j d f a. rw e (three-other b (xEndCell i) x (zStartCell i) z (piecesCell i) v q j d f a) in
       record {
         placed = s .placed;
         upto = omega (arith, h);
@@ -226,23 +225,26 @@ module _ (longest table : List ℕ) (n i : ℕ) (b : List ℕ) (s : Cutting long
         done = record {
           kept = record {
             long = m;
-            starts = λ j. other (startCell j) (λ d. absurd (omega (arith, d))) (λ d. absurd (omega (arith, d))) (λ d. absurd (omega (arith, d))) ∙ k .starts j;
-            ends = λ j. other (endCell j) (λ d. absurd (omega (arith, d))) (λ d. absurd (omega (arith, d))) (λ d. absurd (omega (arith, d))) ∙ k .ends j;
+            starts = λ j t. other (startCell j) (λ d. absurd (omega (arith, d))) (λ d. absurd (omega (arith, d))) (λ d. absurd (omega (arith, d, t))) ∙ k .starts j t;
+            ends = λ j t. other (endCell j) (λ d. absurd (omega (arith, d))) (λ d. absurd (omega (arith, d))) (λ d. absurd (omega (arith, d, t))) ∙ k .ends j t;
+            between = λ j t g.
+                other j (λ d. absurd (omega (arith, d, t))) (λ d. absurd (omega (arith, d, t))) (λ d. absurd (omega (arith, d, g)))
+                ∙ k .between j (omega (arith, t)) g;
             beyond = λ j t.
-                other j (λ d. absurd (omega (arith, d, t))) (λ d. absurd (omega (arith, d, t))) (λ d. absurd (omega (arith, d, t)))
+                other j (λ d. absurd (omega (arith, d, t, h, w))) (λ d. absurd (omega (arith, d, t, h, w))) (λ d. absurd (omega (arith, d, t)))
                 ∙ k .beyond j (omega (arith, t));
           };
           xEnd = λ j t. by-cases (ℕ-discrete j i)
-              (λ d. ap (xEndOf c) d ∙ rw e₂ (three-first b (xEndCell i) x z v q) ∙ x-same ∙ ap (xBy longest table) (sym d))
-              (λ d. other (xEndCell j) (λ a. absurd (omega (arith, a, d))) (λ a. absurd (omega (arith, a))) (λ a. absurd (omega (arith, a)))
+              (λ d. ap (xEndOf c) d ∙ rw e (three-first b (xEndCell i) x (zStartCell i) z (piecesCell i) v q) ∙ x-same h ∙ ap (xBy longest table) (sym d))
+              (λ d. other (xEndCell j) (λ a. absurd (omega (arith, a, d))) (λ a. absurd (omega (arith, a))) (λ a. absurd (omega (arith, a, t, h, w)))
               ∙ s .done .xEnd j (omega (arith, t, d)));
           zStart = λ j t. by-cases (ℕ-discrete j i)
-              (λ d. ap (zStartOf c) d ∙ ap (λ a. getD c a 0) g₁ ∙ rw e₂ (three-second b (xEndCell i) x z v q) ∙ z-same ∙ ap (zBy longest table) (sym d))
-              (λ d. other (zStartCell j) (λ a. absurd (omega (arith, a))) (λ a. absurd (omega (arith, a, d))) (λ a. absurd (omega (arith, a)))
+              (λ d. ap (zStartOf c) d ∙ rw e (three-second b (xEndCell i) x (zStartCell i) z (piecesCell i) v q) ∙ z-same h ∙ ap (zBy longest table) (sym d))
+              (λ d. other (zStartCell j) (λ a. absurd (omega (arith, a))) (λ a. absurd (omega (arith, a, d))) (λ a. absurd (omega (arith, a, t, h, w)))
               ∙ s .done .zStart j (omega (arith, t, d)));
           pieces = λ j t. by-cases (ℕ-discrete j i)
-              (λ d. ap (piecesOf c) d ∙ ap (λ a. getD c a 0) g₂ ∙ rw e₂ (three-third b (xEndCell i) x z v q) ∙ number-same ∙ ap (numberBy longest table) (sym d))
-              (λ d. other (piecesCell j) (λ a. absurd (omega (arith, a))) (λ a. absurd (omega (arith, a))) (λ a. absurd (omega (arith, a, d)))
+              (λ d. ap (piecesOf c) d ∙ rw e (three-third b (xEndCell i) x (zStartCell i) z (piecesCell i) v q) ∙ number-same h ∙ ap (numberBy longest table) (sym d))
+              (λ d. other (piecesCell j) (λ a. absurd (omega (arith, a, h, w))) (λ a. absurd (omega (arith, a, h, w))) (λ a. absurd (omega (arith, a, d)))
               ∙ s .done .pieces j (omega (arith, t, d)));
         };
       }
@@ -252,13 +254,15 @@ module _ (longest table : List ℕ) (n i : ℕ) (b : List ℕ) (s : Cutting long
 
 pub ruleset cuts = (cut-start, cut-tables, cut-more, cut-end, needs)
 
--- tables that differ in cuts alone have the same relation words, and they stay laid out
+-- tables that differ in cuts and numbers of pieces alone have the same relation words, and they stay laid out
 module _ (text table after : List ℕ) (n : ℕ) (k : OnlyCuts table n after) where
-  pub words-kept : wordsIn text after n ≡ wordsIn text table n
-  words-kept = words-of-places text table after n (λ i h. k .starts i) (λ i h. k .ends i)
+  pub words-kept : n ≤ wordsMost → wordsIn text after n ≡ wordsIn text table n
+  words-kept w = words-of-places text table after n (λ i h. k .starts i (omega (arith, h, w))) (λ i h. k .ends i (omega (arith, h, w)))
 
   pub laid-kept : Laid text table n → Laid text after n
-  laid-kept f = laid-of-places text table after n (λ i h. k .starts i) (λ i h. k .ends i) (k .long) f
+  laid-kept f =
+      let w = f .few in
+      laid-of-places text table after n (λ i h. k .starts i (omega (arith, h, w))) (λ i h. k .ends i (omega (arith, h, w))) (k .long) f
 
 -- the cuts and the numbers of pieces by the table of longest pieces are those of the relation words
 module _ (text table longest : List ℕ) (n : ℕ) (f : Fenced text table n) (t : Tabled text longest) (i : ℕ) (h : i < n) where
@@ -330,13 +334,14 @@ tail-bound longest start end = let b = greatest-bound (end - start) (λ m. leb m
 pub cut-true : (text table longest after : List ℕ) (n : ℕ) → Fenced text table n → Tabled text longest → CutBy longest table n after → Cut text after n
 cut-true text table longest after n f t c =
     let k = c .kept in
-    let w = words-kept text table after n k in
+    let few = f .laid .few in
+    let w = words-kept text table after n k few in
     record {
-      xEnd = λ i h. rw (w, k .starts i) (c .xEnd i h ∙ x-cut text table longest n f t i h);
+      xEnd = λ i h. rw (w, k .starts i (omega (arith, h, few))) (c .xEnd i h ∙ x-cut text table longest n f t i h);
       zStart = λ i h.
           let z = z-cut text table longest n f t i h in
           let a = c .zStart i h in
-          let e = k .ends i in
+          let e = k .ends i (omega (arith, h, few)) in
           let b = tail-bound longest (startOf table i) (endOf table i) in
           rw (w, e, ← z) (omega (arith, a, b));
       pieces = λ i h. rw w (c .pieces i h ∙ number-cut text table longest n f t i h);

@@ -5,7 +5,7 @@ use mathlib.Core.Path.{_≡_}
 use lib.Dec.{leb}
 use lib.ListN.{length, getD, set}
 use Rattle.words.specs.Search.{greatest}
-use Rattle.layout.specs.Places.{startCell, xEndCell, zStartCell, piecesCell}
+use Rattle.layout.specs.Places.{wordsMost, startCell, xEndCell, zStartCell, piecesFrom, piecesCell}
 use Rattle.layout.specs.Layout.{startOf, xEndOf, zStartOf, piecesOf, endOf}
 use Rattle.products.specs.Products.{numberBy}
 
@@ -34,9 +34,10 @@ pub record Tail (longest : List ℕ) (start end : ℕ) : Type 0 where
 -- nothing but the cuts and the numbers of pieces of n words has changed
 pub record OnlyCuts (table : List ℕ) (n : ℕ) (after : List ℕ) : Type 0 where
   pub long : length after ≡ length table
-  pub starts : (i : ℕ) → startOf after i ≡ startOf table i
-  pub ends : (i : ℕ) → endOf after i ≡ endOf table i
-  pub beyond : (k : ℕ) → startCell n ≤ k → getD after k 0 ≡ getD table k 0
+  pub starts : (i : ℕ) → i ≤ wordsMost → startOf after i ≡ startOf table i
+  pub ends : (i : ℕ) → i < wordsMost → endOf after i ≡ endOf table i
+  pub between : (k : ℕ) → startCell n ≤ k → k < piecesFrom → getD after k 0 ≡ getD table k 0
+  pub beyond : (k : ℕ) → piecesCell n ≤ k → getD after k 0 ≡ getD table k 0
 
 -- the cuts and the numbers of pieces of n words, and nothing else, are set by the table of longest pieces
 pub record CutBy (longest table : List ℕ) (n : ℕ) (after : List ℕ) : Type 0 where

@@ -58,7 +58,7 @@ fn cut_word(longest: &[u8], table: &mut [u16], i: usize)
     let pieces = number_of(longest, table, i);
     table[Table::COLUMNS * i + Table::X_END] = x;
     table[Table::COLUMNS * i + Table::Z_START] = z;
-    table[Table::COLUMNS * i + Table::PIECES] = pieces;
+    table[Table::PIECES + i] = pieces;
 }
 
 // Sets the cuts and the numbers of pieces of n words.

@@ -5,7 +5,7 @@ use mathlib.Core.Path.{_≡_, refl, _∙_}
 use native.Mathlib.Omega.{arith}
 use lib.ListN.{set, length-set}
 use lib.Seq.{getD-set-other}
-use Rattle.layout.specs.Places.{wordsMost, positions, startCell, endCell}
+use Rattle.layout.specs.Places.{wordsMost, firstFrom, startCell, endCell}
 use Rattle.layout.specs.Layout.{startOf, endOf, wordAt, Laid}
 use Rattle.layout.proofs.Placed.{laid-of-places}
 use Rattle.insertion.specs.Inserting.{SamePositions}
@@ -16,7 +16,7 @@ kept-refl t = record { long = refl; same = λ i h. refl }
 pub kept-trans : (t u v : List ℕ) → SamePositions t u → SamePositions u v → SamePositions t v
 kept-trans t u v a b = record { long = b .long ∙ a .long; same = λ i h. b .same i h ∙ a .same i h }
 
-pub kept-set : (t u : List ℕ) (p v : ℕ) → SamePositions t u → positions ≤ p → SamePositions t (set u p v)
+pub kept-set : (t u : List ℕ) (p v : ℕ) → SamePositions t u → firstFrom ≤ p → SamePositions t (set u p v)
 kept-set t u p v k h = record { long = length-set u p v ∙ k .long; same = λ i l. getD-set-other u p i v 0 (λ e. omega arith) ∙ k .same i l }
 
 module _ (t u : List ℕ) (g : SamePositions t u) where

@@ -6,7 +6,7 @@ use mathlib.Core.Path.{_≡_}
 use lib.Dec.{eqb, ltb}
 use lib.ListN.{length, getD, set}
 use Rattle.words.specs.Words.{commonPrefix}
-use Rattle.layout.specs.Places.{wordsMost, lettersBound, positions, orderCell, tableRoom}
+use Rattle.layout.specs.Places.{wordsMost, lettersBound, firstFrom, orderCell, tableRoom}
 use Rattle.layout.specs.Layout.{startOf, wordAt, firstOf, orderOf, Laid}
 
 -- the first letter of relation word k
@@ -28,10 +28,10 @@ earlier text table k h =
 abbrev pub beforeListed : List ℕ → List ℕ → ℕ → ℕ → Bool
 beforeListed text table i k = earlier text table k (orderOf table (i - 1))
 
--- a table with the same positions, and perhaps another index
+-- a table with the same positions and numbers of pieces, and perhaps another index
 pub record SamePositions (table table′ : List ℕ) : Type 0 where
   pub long : length table′ ≡ length table
-  pub same : (i : ℕ) → i < positions → getD table′ i 0 ≡ getD table i 0
+  pub same : (i : ℕ) → i < firstFrom → getD table′ i 0 ≡ getD table i 0
 
 -- relation word k seeks its place in the list, and a relation word is listed at place i - 1
 pub record Inserting (text table : List ℕ) (i k : ℕ) : Type 0 where

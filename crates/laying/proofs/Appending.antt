@@ -140,6 +140,7 @@ module _ (word text table : List ℕ) (i : ℕ) (r : WordRoom word text table i)
       record {
         few = omega (arith, r .more);
         room = omega (arith, tabled-length i end table inside, r .more, r .arrays .tableLong);
+        wide = omega (arith, tabled-length i end table inside, r .arrays .tableLong);
         inside = rw (tabled-next i end table inside, written-length start (fenced word (fenceOf i)) text (fenced-room word (fenceOf i) start text fits)) (omega (arith, fits));
         first = start-kept 0 (omega arith) ∙ r .laid .first;
         next = upto (λ j. startOf table′ (j + 1) ≡ endOf table′ j + 1)
@@ -180,6 +181,7 @@ nothing-laid text table h =
     record {
       few = omega arith;
       room = simp length-set (omega arith);
+      wide = simp length-set (omega arith);
       inside = rw f (omega arith);
       first = f;
       next = λ i l. absurd (omega arith);

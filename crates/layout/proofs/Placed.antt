@@ -128,6 +128,7 @@ module _ (text table table′ : List ℕ) (n : ℕ) (starts : (i : ℕ) → i �
       record {
         few = f .few;
         room = rw e (f .room);
+        wide = rw e (f .wide);
         inside = rw (starts n (omega arith)) (f .inside);
         first = starts 0 (omega arith) ∙ f .first;
         next = λ i h. rw (starts (i + 1) (omega arith), ends i h) (f .next i h);

@@ -30,6 +30,7 @@ module _ (text table : List ℕ) (n : ℕ) (f : Laid text table n) (t : ℕ) (e 
   whole-laid = record {
     few = f .few;
     room = f .room;
+    wide = f .wide;
     inside = let l = whole-long in omega (arith, e, l);
     first = f .first;
     next = f .next;

@@ -1,5 +1,5 @@
 -- How the relation words lie in arrays. One text holds them one after the other, and behind each stands its fence, a code of its own that is no letter.
--- A table of numbers has the positions of each word and of its cuts and its number of pieces, and behind the last word's the length of all. Behind the positions stands an index: for
+-- A table of numbers has the positions of each word and of its cuts, and behind the last word's the length of all; then each word's number of pieces. Behind them stands an index: for
 -- each letter, where the words that begin with it are listed; the list; and how much each shares with the one before it. Places.antt says where in the table.
 use Prim.Native.Nat.{ℕ, zero, suc, _+_, _-_, _<_, _≤_}
 use mathlib.Core.List.{List, [], _∷_, _++_}
@@ -9,7 +9,7 @@ use Rattle.words.specs.Words.{Word, commonPrefix, part}
 use Rattle.overlap.specs.Pieces.{C4}
 use Rattle.overlap.specs.Cuts.{xlen, zlen}
 use Rattle.overlap.specs.Counts.{number, pieceCount}
-use Rattle.layout.specs.Places.{wordsMost, wordMost, lettersBound, fenceOf, startCell, xEndCell, zStartCell, piecesCell, endCell, firstCell, orderCell, sharedCell, tableRoom}
+use Rattle.layout.specs.Places.{wordsMost, wordMost, lettersBound, fenceOf, startCell, xEndCell, zStartCell, piecesCell, endCell, firstFrom, firstCell, orderCell, sharedCell, tableRoom}
 
 abbrev pub startOf : List ℕ → ℕ → ℕ
 startOf table i = getD table (startCell i) 0
@@ -40,10 +40,11 @@ unfoldable pub wordsIn : List ℕ → List ℕ → ℕ → List Word
 wordsIn text table zero = []
 wordsIn text table (suc n) = wordsIn text table n ++ (wordAt text table n ∷ [])
 
--- n relation words are laid out; the positions of cuts and the numbers of pieces are not spoken of
+-- n relation words are laid out, in a table that has room for all positions and numbers of pieces; the positions of cuts and these numbers are not spoken of
 pub record Laid (text table : List ℕ) (n : ℕ) : Type 0 where
   pub few : n ≤ wordsMost
   pub room : startCell n < length table
+  pub wide : firstFrom ≤ length table
   pub inside : startOf table n ≤ length text
   pub first : startOf table 0 ≡ 0
   pub next : (i : ℕ) → i < n → startOf table (i + 1) ≡ endOf table i + 1

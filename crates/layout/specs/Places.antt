@@ -24,9 +24,9 @@ fenceOf i = lettersBound + i
 abbrev pub textRoom : ℕ
 textRoom = wordsMost * (wordMost + 1)
 
--- a relation word has a row of the table: its start, the end of X, the start of Z, its number of pieces and its end
+-- a relation word has a row of the table: its start, the end of X, the start of Z and its end
 abbrev pub columns : ℕ
-columns = 5
+columns = 4
 
 abbrev pub startColumn : ℕ
 startColumn = 0
@@ -37,11 +37,8 @@ xEndColumn = 1
 abbrev pub zStartColumn : ℕ
 zStartColumn = 2
 
-abbrev pub piecesColumn : ℕ
-piecesColumn = 3
-
 abbrev pub endColumn : ℕ
-endColumn = 4
+endColumn = 3
 
 abbrev pub startCell : ℕ → ℕ
 startCell i = columns * i + startColumn
@@ -52,19 +49,23 @@ xEndCell i = columns * i + xEndColumn
 abbrev pub zStartCell : ℕ → ℕ
 zStartCell i = columns * i + zStartColumn
 
-abbrev pub piecesCell : ℕ → ℕ
-piecesCell i = columns * i + piecesColumn
-
 abbrev pub endCell : ℕ → ℕ
 endCell i = columns * i + endColumn
 
--- all rows: behind the last one stands where a further word would start
+-- all positions: behind the last row stands where a further word would start
 abbrev pub positions : ℕ
 positions = columns * wordsMost + 1
 
--- the index stands behind the positions: for each letter, and once more, the place from which its words are listed; the list; what neighbours in it share
+-- the number of pieces of each relation word stands behind the positions
+abbrev pub piecesFrom : ℕ
+piecesFrom = positions
+
+abbrev pub piecesCell : ℕ → ℕ
+piecesCell i = piecesFrom + i
+
+-- the index stands behind the numbers of pieces: for each letter, and once more, the place from which its words are listed; the list; what neighbours in it share
 abbrev pub firstFrom : ℕ
-firstFrom = positions
+firstFrom = piecesFrom + wordsMost
 
 abbrev pub orderFrom : ℕ
 orderFrom = firstFrom + lettersBound + 1
@@ -89,5 +90,5 @@ tableRoom = sharedFrom + wordsMost
 abbrev pub fixedPlaces : List ℕ
 fixedPlaces =
     wordsMost ∷ wordMost ∷ lettersBound ∷ textRoom
-    ∷ columns ∷ startColumn ∷ xEndColumn ∷ zStartColumn ∷ piecesColumn ∷ endColumn
-    ∷ positions ∷ firstFrom ∷ orderFrom ∷ sharedFrom ∷ tableRoom ∷ []
+    ∷ columns ∷ startColumn ∷ xEndColumn ∷ zStartColumn ∷ endColumn
+    ∷ positions ∷ piecesFrom ∷ firstFrom ∷ orderFrom ∷ sharedFrom ∷ tableRoom ∷ []

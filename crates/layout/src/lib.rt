@@ -24,27 +24,28 @@ impl Text {
     pub const ROOM: usize = Text::WORDS * (Text::WORD + 1);
 }
 
-// The table: a row of numbers for each relation word, and one position more, the length of all; then the index of the relation words by their first letters.
+// The table: a row of positions for each relation word, and one position more, the length of all; then their numbers of pieces; then the index of the relation words by their first letters.
 pub struct Table {}
 
 impl Table {
-    // A row has the start of a relation word, the end of its X, the start of its Z, its number of pieces and its end.
+    // A row has the start of a relation word, the end of its X, the start of its Z and its end.
     pub const START: usize = 0;
 
     pub const X_END: usize = 1;
 
     pub const Z_START: usize = 2;
 
-    pub const PIECES: usize = 3;
+    pub const END: usize = 3;
 
-    pub const END: usize = 4;
-
-    pub const COLUMNS: usize = 5;
+    pub const COLUMNS: usize = 4;
 
     pub const POSITIONS: usize = Table::COLUMNS * Text::WORDS + 1;
 
+    // The number of pieces of each relation word.
+    pub const PIECES: usize = Table::POSITIONS;
+
     // For each letter, and once more, the place from which its relation words are listed.
-    pub const FIRST: usize = Table::POSITIONS;
+    pub const FIRST: usize = Table::PIECES + Text::WORDS;
 
     // The list of the relation words.
     pub const ORDER: usize = Table::FIRST + Text::LETTERS + 1;
@@ -68,9 +69,9 @@ pub fn fixed_places() -> [usize; 15]
         Table::START,
         Table::X_END,
         Table::Z_START,
-        Table::PIECES,
         Table::END,
         Table::POSITIONS,
+        Table::PIECES,
         Table::FIRST,
         Table::ORDER,
         Table::SHARED,
@@ -102,20 +103,20 @@ pub fn z_start_of(table: &[u16], k: usize) -> usize
     wide16(table[Table::COLUMNS * k + Table::Z_START])
 }
 
-// Its number of pieces.
-pub fn pieces_of(table: &[u16], k: usize) -> usize
-    requires { ⌜ piecesCell k < length (now table) ⌝ }
-    ensures { λ r. ⌜ r ≡ piecesOf (now (table .entry)) k ⌝ }
-{
-    wide16(table[Table::COLUMNS * k + Table::PIECES])
-}
-
 // Where it ends.
 pub fn end_of(table: &[u16], k: usize) -> usize
     requires { ⌜ endCell k < length (now table) ⌝ }
     ensures { λ r. ⌜ r ≡ endOf (now (table .entry)) k ⌝ }
 {
     wide16(table[Table::COLUMNS * k + Table::END])
+}
+
+// Its number of pieces.
+pub fn pieces_of(table: &[u16], k: usize) -> usize
+    requires { ⌜ piecesCell k < length (now table) ⌝ }
+    ensures { λ r. ⌜ r ≡ piecesOf (now (table .entry)) k ⌝ }
+{
+    wide16(table[Table::PIECES + k])
 }
 
 // The place from which the relation words that begin with letter c are listed.

@@ -98,6 +98,7 @@ module _ (text table longest : List ℕ) (n : ℕ) (f : Fenced text table n) (t 
 
   pub all-in-tables : AllInTables longest table n
   all-in-tables = record {
+    few = f .laid .few;
     each = λ i h.
         let w = f .whole in
         let g = end-before text table n (f .laid) i h in
@@ -107,6 +108,7 @@ module _ (text table longest : List ℕ) (n : ℕ) (f : Fenced text table n) (t 
         let o = t .room in
         record {
           room = omega (arith, h, r);
+          pieces = omega (arith, h, f .laid .few, f .laid .wide);
           upwards = omega (arith, s);
           inside = omega (arith, g, w, o);
           short = omega (arith, g, w, k);

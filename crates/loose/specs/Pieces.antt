@@ -8,7 +8,7 @@ use lib.Dec.{leb}
 use lib.ListN.{length, getD}
 use Rattle.words.specs.Search.{least}
 use Rattle.overlap.specs.Cuts.{three, firstLoose}
-use Rattle.layout.specs.Places.{wordMost, textRoom, endCell}
+use Rattle.layout.specs.Places.{wordsMost, wordMost, textRoom, piecesCell, endCell}
 use Rattle.layout.specs.Layout.{startOf, endOf, wordsIn, Laid}
 use Rattle.longest.specs.Longest.{Tabled}
 
@@ -39,6 +39,7 @@ pub record Measurable (text table : List ℕ) (n : ℕ) (longest : List ℕ) : T
 -- the numbers of word i stay in both tables: it is short, and the longest piece at each of its places ends in it
 pub record InTables (longest table : List ℕ) (i : ℕ) : Type 0 where
   pub room : endCell i < length table
+  pub pieces : piecesCell i < length table
   pub upwards : startOf table i ≤ endOf table i
   pub inside : endOf table i < length longest
   pub short : endOf table i ≤ textRoom
@@ -47,6 +48,7 @@ pub record InTables (longest table : List ℕ) (i : ℕ) : Type 0 where
 
 -- the numbers of n words stay in both tables
 pub record AllInTables (longest table : List ℕ) (n : ℕ) : Type 0 where
+  pub few : n ≤ wordsMost
   pub each : (i : ℕ) → i < n → InTables longest table i
 
 -- word i is a product of three or fewer pieces, by the table of longest pieces

@@ -110,7 +110,7 @@ module _ (text table : List ℕ) (n : ℕ) (f : Laid text table n) (t : ℕ) (e 
     whole-recut : (after : List ℕ) → Recut (take t text) table n after → Recut text table n after
     whole-recut after r =
         let k = r .kept in
-        let w = words-take text after t n (λ i h. let a = whole-ends text table n f t e i h in let c = k .ends i in omega (arith, a, c)) in
+        let w = words-take text after t n (λ i h. let a = whole-ends text table n f t e i h in let c = k .ends i (omega (arith, h, f .few)) in omega (arith, a, c)) in
         let c = r .cut in
         record { kept = k; cut = record { xEnd = λ i h. rw w at (c .xEnd i h); zStart = λ i h. rw w at (c .zStart i h); pieces = λ i h. rw w at (c .pieces i h) } }
 
@@ -152,12 +152,12 @@ module _ (text table : List ℕ) (n r : ℕ) (e : r ≡ firstRepeated (wordsIn t
 pub ruleset judging = (judge-repeated, judge-distinct, needs)
 
 -- accepted words: the table that is left has them at the same places, and they meet C(4)
-module _ (text table : List ℕ) (n : ℕ) (after : List ℕ) (r : Judged) (j : Judging (judge (wordsIn text table n)) text table n after r) (e : r ≡ Accepted) where
-  pub accepted-laid : Laid text table n → Laid text after n
-  accepted-laid f = laid-kept text table after n (j .cuts e .kept) f
+module _ (text table : List ℕ) (n : ℕ) (after : List ℕ) (r : Judged) (j : Judging (judge (wordsIn text table n)) text table n after r) (e : r ≡ Accepted) (f : Laid text table n) where
+  pub accepted-laid : Laid text after n
+  accepted-laid = laid-kept text table after n (j .cuts e .kept) f
 
   pub accepted-words : wordsIn text after n ≡ wordsIn text table n
-  accepted-words = words-kept text table after n (j .cuts e .kept)
+  accepted-words = words-kept text table after n (j .cuts e .kept) (f .few)
 
   pub accepted-c4 : C4 (wordsIn text after n)
   unfolding verdictOf

@@ -54,8 +54,8 @@ module _ (text table : List ℕ) (n : ℕ) (u : Unlisted text table n) (after : 
         let laid = accepted-unlisted .laid in
         record {
           verdict = j .verdict;
-          checked = λ _. made-checked text after n last laid (accepted-c4 text table n after r j e) (j .cuts e .cut) m;
-          words = λ _. words-kept after last (m .kept) text n (laid .few) ∙ accepted-words text table n after r j e;
+          checked = λ _. made-checked text after n last laid (accepted-c4 text table n after r j e (u .laid)) (j .cuts e .cut) m;
+          words = λ _. words-kept after last (m .kept) text n (laid .few) ∙ accepted-words text table n after r j e (u .laid);
           long = m .kept .long ∙ j .cuts e .kept .long;
         }
 

@@ -38,6 +38,7 @@ module _ (text table : List ℕ) (n : ℕ) (c : Checked text table n) where
       let x = c .cut .xEnd i h in
       record {
         room = omega (arith, l .room);
+        counted = omega (arith, h, l .few, l .wide);
         x = k .0;
         y = omega (arith, xy-long text table n l (c .cut) i h, k .2);
         z = k .3;

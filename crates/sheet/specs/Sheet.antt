@@ -6,7 +6,7 @@ use Rattle.words.specs.Words.{Word}
 use Rattle.overlap.specs.Cuts.{xlen, ylen, zlen}
 use Rattle.overlap.specs.Counts.{number, pieceCount}
 use Rattle.limits.specs.Limits.{sheetColumns}
-use Rattle.layout.specs.Places.{wordsMost, wordMost, endCell}
+use Rattle.layout.specs.Places.{wordsMost, wordMost, piecesCell, endCell}
 use Rattle.layout.specs.Layout.{startOf, xEndOf, zStartOf, piecesOf, endOf}
 
 -- the row of relation word i: the lengths of X, Y, Z and the number of pieces
@@ -42,6 +42,7 @@ sheetBytes table (suc n) = sheetBytes table n ++ rowAt table n
 -- the positions of relation word i are there and in order, it is short, and its number of pieces is a byte
 pub record CutsIn (table : List ℕ) (i : ℕ) : Type 0 where
   pub room : endCell i < length table
+  pub counted : piecesCell i < length table
   pub x : startOf table i ≤ xEndOf table i
   pub y : xEndOf table i ≤ zStartOf table i
   pub z : zStartOf table i ≤ endOf table i

@@ -21,5 +21,4 @@ cut-word-spec =
     (λ c. search writing)
     (λ c. search writing)
     (λ c. search writing)
-    (λ c. search writing)
     (λ c. search writing))
