@@ -1,6 +1,6 @@
 /*
  * The functions of two archives beside each other, in one process: that of this tree, and that of another, whose names begin with `before_` here.
- * Prints for each case the best time of both and their ratio. host/beside/run renames, builds and runs; both must have the structs of this header.
+ * Prints for each case the best time of both, in microseconds. host/beside/run renames, builds and runs; both must have the structs of this header.
  */
 #include <stdio.h>
 #include <string.h>
@@ -10,6 +10,9 @@
 
 vanecitron_check_result before_vanecitron_check(const uint8_t *book, size_t book_length);
 vanecitron_check_result before_vanecitron_cut_sheet(const uint8_t *book, size_t book_length, uint8_t *sheet, size_t sheet_length);
+vanecitron_round_result before_vanecitron_round(const uint8_t *book, size_t book_length, const uint8_t *u, size_t u_length, const uint8_t *v,
+                                                size_t v_length, const uint8_t *p, size_t p_length, uint8_t *next_u, size_t next_u_length,
+                                                uint8_t *next_v, size_t next_v_length, uint8_t *next_p, size_t next_p_length);
 vanecitron_compare_result before_vanecitron_compare(const uint8_t *book, size_t book_length, const uint8_t *u, size_t u_length, const uint8_t *v,
                                                     size_t v_length, uint32_t allowance);
 vanecitron_least_result before_vanecitron_least(const uint8_t *book, size_t book_length, const uint8_t *u, size_t u_length, uint8_t *buffer,
@@ -17,6 +20,7 @@ vanecitron_least_result before_vanecitron_least(const uint8_t *book, size_t book
 
 /* the book and the runs of a case, and what is lent */
 static uint8_t bytes[VANECITRON_BOOK_MOST], u[VANECITRON_RUN], v[VANECITRON_RUN], sheet[VANECITRON_SHEET_MOST], least[VANECITRON_LEAST_MOST];
+static uint8_t next[3][VANECITRON_NEXT_RUN];
 static vanecitron_book book;
 static size_t u_length, v_length;
 
@@ -32,6 +36,16 @@ static uint64_t cut_sheet(int before)
 {
     return before ? before_vanecitron_cut_sheet(book.bytes, book.length, sheet, sizeof sheet).rules
                   : vanecitron_cut_sheet(book.bytes, book.length, sheet, sizeof sheet).rules;
+}
+
+static uint64_t single_round(int before)
+{
+    return before ? before_vanecitron_round(book.bytes, book.length, u, u_length, v, v_length, u, 0, next[0], VANECITRON_NEXT_RUN, next[1],
+                                            VANECITRON_NEXT_RUN, next[2], VANECITRON_NEXT_MARK)
+                        .u_length
+                  : vanecitron_round(book.bytes, book.length, u, u_length, v, v_length, u, 0, next[0], VANECITRON_NEXT_RUN, next[1],
+                                     VANECITRON_NEXT_RUN, next[2], VANECITRON_NEXT_MARK)
+                        .u_length;
 }
 
 static uint64_t compare(int before)
@@ -53,9 +67,12 @@ static double seconds(void)
     return (double)now.tv_sec + 1e-9 * (double)now.tv_nsec;
 }
 
-/* the time of so many calls */
-static double batch(call *of, int before, unsigned count)
+/* the time of so many calls, with the stack lower by so many bytes: where arrays come to lie in the caches is worth a tenth of a short call */
+static double batch(call *of, int before, unsigned count, size_t lower)
 {
+    volatile uint8_t below[lower + 1];
+    below[lower] = 0;
+    (void)below[lower];
     double began = seconds();
     for (unsigned i = 0; i < count; i++) {
         of(before);
@@ -63,25 +80,27 @@ static double batch(call *of, int before, unsigned count)
     return seconds() - began;
 }
 
-/* the best batch of each counts, of batches that follow each other in turn: other work on the machine only adds time */
+/* the best batch of each counts, of batches that follow each other in turn, each turn with the stack elsewhere: other work on the machine only adds time */
 static int measure(const char *name, call *of)
 {
     double best[2] = {1e9, 1e9}, took;
     unsigned count = 1;
     if (of(0) != of(1)) {
-        printf("%-66s the two answer differently\n", name);
+        fprintf(stderr, "%s: the two answer differently\n", name);
         return 1;
     }
-    while (batch(of, 1, count) < 1e-3) {
+    while (batch(of, 1, count, 0) < 1e-3) {
         count *= 2;
     }
-    for (double began = seconds(); seconds() - began < 1.5;) {
+    size_t lower = 0;
+    for (double began = seconds(); seconds() - began < 0.5;) {
+        lower = (lower + 1040) % 8192;
         for (int before = 0; before < 2; before++) {
-            took = batch(of, before, count);
+            took = batch(of, before, count, lower);
             best[before] = took < best[before] ? took : best[before];
         }
     }
-    printf("%-66s %9.2f us %9.2f us %6.3f\n", name, 1e6 * best[1] / count, 1e6 * best[0] / count, best[0] / best[1]);
+    printf("%s\t%.4f\t%.4f\n", name, 1e6 * best[1] / count, 1e6 * best[0] / count);
     return 0;
 }
 
@@ -143,18 +162,19 @@ static uint8_t shared_step(unsigned side, unsigned place)
 int main(void)
 {
     int differ = 0;
-    printf("%-66s %12s %12s %6s\n", "case", "before", "now", "ratio");
     book_q(4);
     differ |= measure("check of Q", check);
     differ |= measure("cut sheet of Q", cut_sheet);
     differ |= measure("comparison under Q, runs of 4", compare);
     differ |= measure("least run under Q, a run of 4", least_run);
     book_q(VANECITRON_RUN);
+    differ |= measure("single round under Q, runs of 4,096", single_round);
     differ |= measure("comparison under Q, runs of 4,096", compare);
     differ |= measure("least run under Q, a run of 4,096", least_run);
     full_book(random_step);
     differ |= measure("check of a full random book", check);
     differ |= measure("cut sheet of a full random book", cut_sheet);
+    differ |= measure("single round under a full random book, runs of 4,096", single_round);
     differ |= measure("comparison under a full random book, runs of 4,096", compare);
     differ |= measure("least run under a full random book, a run of 4,096", least_run);
     full_book(step_by_step);
