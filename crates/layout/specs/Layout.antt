@@ -1,6 +1,7 @@
 -- How the relation words lie in arrays. One text holds them one after the other, and behind each stands its fence, a code of its own that is no letter.
--- A table of numbers has the positions of each word and of its cuts, and behind the last word's the length of all; then each word's number of pieces. Behind them stands an index: for
--- each letter, where the words that begin with it are listed; the list; and how much each shares with the one before it. Places.antt says where in the table.
+-- A table of numbers has the positions of each word and of its cuts, and behind the last word's the length of all; then the number of pieces of each. Behind
+-- these stands an index: for each letter, where the words that begin with it are listed; the list; and how much each shares with the one before it.
+-- Places.antt says where in the table.
 use Prim.Native.Nat.{ℕ, zero, suc, _+_, _-_, _<_, _≤_}
 use mathlib.Core.List.{List, [], _∷_, _++_}
 use mathlib.Core.Path.{_≡_}
@@ -40,7 +41,7 @@ unfoldable pub wordsIn : List ℕ → List ℕ → ℕ → List Word
 wordsIn text table zero = []
 wordsIn text table (suc n) = wordsIn text table n ++ (wordAt text table n ∷ [])
 
--- n relation words are laid out, in a table that has room for all positions and numbers of pieces; the positions of cuts and these numbers are not spoken of
+-- n relation words are laid out, in a table that has room for all positions and numbers of pieces; the cuts and these numbers are not spoken of
 pub record Laid (text table : List ℕ) (n : ℕ) : Type 0 where
   pub few : n ≤ wordsMost
   pub room : startCell n < length table

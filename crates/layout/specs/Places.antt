@@ -1,4 +1,5 @@
--- Where the relation words, their cuts, their numbers of pieces and the index lie in the text and the table: the limits that this goes by, the columns of the table and its cells.
+-- Where the relation words, their cuts, their numbers of pieces and the index lie in the text and the table: the limits that this goes by, the columns of the
+-- table's rows and its cells.
 -- `layout::fixed_places` promises that the constants of the code are these numbers.
 use Prim.Native.Nat.{ℕ, _+_, _*_}
 use mathlib.Core.List.{List, [], _∷_}

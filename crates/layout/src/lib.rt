@@ -24,7 +24,8 @@ impl Text {
     pub const ROOM: usize = Text::WORDS * (Text::WORD + 1);
 }
 
-// The table: a row of positions for each relation word, and one position more, the length of all; then their numbers of pieces; then the index of the relation words by their first letters.
+// The table: a row of positions for each relation word, and one position more, the length of all; the number of pieces of each; then the index of the
+// relation words by their first letters.
 pub struct Table {}
 
 impl Table {
