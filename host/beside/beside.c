@@ -81,12 +81,12 @@ static double batch(call *of, int before, unsigned count, size_t lower)
 }
 
 /* the best batch of each counts, of batches that follow each other in turn, each turn with the stack elsewhere: other work on the machine only adds time */
-static int measure(const char *name, call *of)
+static int measure(const char *name, const char *under, call *of)
 {
     double best[2] = {1e9, 1e9}, took;
     unsigned count = 1;
     if (of(0) != of(1)) {
-        fprintf(stderr, "%s: the two answer differently\n", name);
+        fprintf(stderr, "%s, %s: the two answer differently\n", name, under);
         return 1;
     }
     while (batch(of, 1, count, 0) < 1e-3) {
@@ -100,8 +100,15 @@ static int measure(const char *name, call *of)
             best[before] = took < best[before] ? took : best[before];
         }
     }
-    printf("%s\t%.4f\t%.4f\n", name, 1e6 * best[1] / count, 1e6 * best[0] / count);
+    printf("%s, %s\t%.4f\t%.4f\n", name, under, 1e6 * best[1] / count, 1e6 * best[0] / count);
     return 0;
+}
+
+/* every function under the book and with the runs that are there */
+static int measure_all(const char *under)
+{
+    return measure("check", under, check) | measure("cut sheet", under, cut_sheet) | measure("single round", under, single_round) |
+           measure("comparison", under, compare) | measure("least run", under, least_run);
 }
 
 /* book Q, and the two runs of which each is its sides one after the other */
@@ -163,27 +170,14 @@ int main(void)
 {
     int differ = 0;
     book_q(4);
-    differ |= measure("check of Q", check);
-    differ |= measure("cut sheet of Q", cut_sheet);
-    differ |= measure("comparison under Q, runs of 4", compare);
-    differ |= measure("least run under Q, a run of 4", least_run);
+    differ |= measure_all("Q, runs of 4");
     book_q(VANECITRON_RUN);
-    differ |= measure("single round under Q, runs of 4,096", single_round);
-    differ |= measure("comparison under Q, runs of 4,096", compare);
-    differ |= measure("least run under Q, a run of 4,096", least_run);
+    differ |= measure_all("Q, runs of 4,096");
     full_book(random_step);
-    differ |= measure("check of a full random book", check);
-    differ |= measure("cut sheet of a full random book", cut_sheet);
-    differ |= measure("single round under a full random book, runs of 4,096", single_round);
-    differ |= measure("comparison under a full random book, runs of 4,096", compare);
-    differ |= measure("least run under a full random book, a run of 4,096", least_run);
+    differ |= measure_all("a full random book, runs of 4,096");
     full_book(step_by_step);
-    differ |= measure("check of a full book of 64 pieces a side", check);
-    differ |= measure("cut sheet of a full book of 64 pieces a side", cut_sheet);
+    differ |= measure_all("a full book of 64 pieces a side, runs of 4,096");
     full_book(shared_step);
-    differ |= measure("check of a full book with long pieces", check);
-    differ |= measure("cut sheet of a full book with long pieces", cut_sheet);
-    differ |= measure("comparison under a full book with long pieces, runs of 4,096", compare);
-    differ |= measure("least run under a full book with long pieces, a run of 4,096", least_run);
+    differ |= measure_all("a full book with long pieces, runs of 4,096");
     return differ;
 }
