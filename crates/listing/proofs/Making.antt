@@ -8,7 +8,7 @@ use native.Mathlib.Omega.{arith}
 use native.Mathlib.Decide.{decLt, ℕ-discrete}
 use lib.Dec.{eqb, ltb}
 use borrow.Author.Needs.{needs}
-use borrow.Author.Tests.{lt-ltb, le-ltb, ne-eqb, eqb-true, eqb-false}
+use borrow.Author.Tests.{lt-ltb, le-ltb, eq-eqb, ne-eqb, eqb-true, eqb-false}
 use lib.ListN.{length, getD, set, length-set}
 use lib.Seq.{getD-set-other, getD-set-same}
 use mir.Syntax.{w64}
@@ -20,7 +20,7 @@ use Rattle.layout.specs.Places.{lettersBound, startCell, firstCell, orderCell, 
 use Rattle.layout.specs.Layout.{startOf, endOf, wordAt, firstOf, orderOf, sharedOf, KnownWord, WordPair}
 use Rattle.layout.proofs.Placed.{end-inside, row-inside, word-span}
 use Rattle.insertion.specs.Inserting.{firstLetter, count, SamePositions, Lists, Gathering, NextOfLetter, Gathered}
-use Rattle.insertion.proofs.Counting.{count-bound, count-same, count-no, count-none, count-all, count-split}
+use Rattle.insertion.proofs.Counting.{count-bound, count-up, count-same, count-yes, count-no, count-none, count-all, count-split}
 use Rattle.insertion.proofs.Keeping.{kept-refl, kept-trans, kept-set, start-kept, laid-kept, word-kept}
 use Rattle.insertion.proofs.Inserting.{place-left, kept-below, lists-kept}
 use Rattle.listing.specs.Listing.{Unlisted, NextWord, NextLetter, Neighbours, AllListed, IndexMade}
@@ -90,6 +90,29 @@ gathered-start text t n c from b =
       };
     }
 
+-- where all words are listed under earlier letters, none begins with c
+pub gathered-all : (text t : List ℕ) (n c from : ℕ) → NextLetter text t n c from → from ≡ n → Gathered text t n c from n t from
+gathered-all text t n c from b e =
+    let here : ℕ → Bool = λ i. eqb (firstLetter text t i) c in
+    let l = b .lists .counted in
+    let s = count-split (firstLetter text t) c n in
+    let m = count-bound (λ i. ltb (firstLetter text t i) (c + 1)) n in
+    record {
+      kept = kept-refl t;
+      gathering = record {
+        lists = b .lists;
+        letter = b .letter;
+        within = omega arith;
+        counted = omega (arith, e, l, s, m);
+        known = λ i h g. absurd (omega arith);
+        found = λ i h z.
+            let y = count-yes here i (eq-eqb (firstLetter text t i) c z) in
+            let u = count-up here (i + 1) (n - (i + 1)) in
+            let w = ap (count here) {x = i + 1 + (n - (i + 1))} {y = n} (omega (arith, h)) in
+            absurd (omega (arith, e, l, s, m, y, u, w));
+      };
+    }
+
 module _ (text t₀ t : List ℕ) (n c from j k : ℕ) (g : Gathered text t₀ n c from k t j) where
   pub gathered-next : k < n → NextWord text t n c from j k
   gathered-next h = record { gathering = g .gathering; known = h }
@@ -100,7 +123,7 @@ module _ (text t₀ t : List ℕ) (n c from j k : ℕ) (g : Gathered text t₀ n
   pub gathered-end : n ≤ k → Gathered text t₀ n c from n t j
   gathered-end h = let e : k ≡ n = omega (arith, g .gathering .within) in subst (λ (v : ℕ). Gathered text t₀ n c from v t j) e g
 
-pub ruleset gathers = (gathered-start, gathered-next, gathered-more, gathered-end, needs)
+pub ruleset gathers = (gathered-start, gathered-all, gathered-next, gathered-more, gathered-end, needs)
 
 -- the letters below c are done
 pub record Listed (text t₀ t : List ℕ) (n c j : ℕ) : Type 0 where

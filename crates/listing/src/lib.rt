@@ -46,11 +46,14 @@ fn list_word(
     j
 }
 
-// Lists all words that begin with c, from place `from` on. The answer is the place behind the last.
+// Lists all words that begin with c, from place `from` on. The answer is the place behind the last. Where all words are listed, none is looked at.
 fn list_letter(text: &[u16], table: &mut [u16], n: usize, c: usize, from: usize) -> usize
     requires { ⌜ NextLetter (now text) (now table) n c from ⌝ }
     ensures { λ r. ⌜ Gathered (now (text .entry)) (now (table .entry)) n c from n (now (table .exit)) r ⌝ }
 {
+    if from == n {
+        return from;
+    }
     let mut j = from;
     let mut k = 0;
     while k < n {

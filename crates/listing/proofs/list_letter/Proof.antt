@@ -17,6 +17,7 @@ list-letter-spec =
     Inv-loop
     μ-loop
     (λ c. search gathers)
+    (λ c. search gathers)
     (λ c κs. search gathers)
     (λ c. search gathers)
     (λ c. search gathers)
