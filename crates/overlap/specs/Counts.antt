@@ -33,7 +33,7 @@ unfoldable pub reach : (ℕ → ℕ) → ℕ → ℕ
 reach piece zero = 0
 reach piece (suc k) = let a = reach piece k in a + piece a
 
--- how many of them reach the end of a word of n letters; more than n are never needed
+-- the fewest of them that reach the end of a word of n letters, if any number does; more than n are never needed
 unfoldable pub fewest : (ℕ → ℕ) → ℕ → PieceCount
 fewest piece n = let k = least (n + 1) (λ k. eqb (reach piece k) n) in cond (leb k n) (pieces k) none
 
