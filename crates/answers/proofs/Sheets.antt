@@ -6,15 +6,15 @@ use mathlib.Core.Path.{_≡_, refl, sym, ap, _∙_}
 use native.Mathlib.Omega.{arith}
 use native.Mathlib.Decide.{decLt}
 use borrow.Author.Tests.{lt-ltb, le-ltb}
-use lib.ListN.{length, getD, length-append, length-drop, List·getD-append}
-use lib.Seq.{length-take-le, getD-append-add}
+use lib.ListN.{length, getD, length-append, List·getD-append}
+use lib.Seq.{getD-append-add}
 use Rattle.words.specs.Words.{Word}
 use Rattle.words.specs.Relations.{relationWords}
 use Rattle.overlap.specs.Pieces.{word, C4}
-use Rattle.overlap.specs.Cuts.{len, xlen, ylen, zlen, xylen, xOf, zOf}
+use Rattle.overlap.specs.Cuts.{len, ylen, xOf, zOf}
 use Rattle.overlap.specs.Counts.{pieceCount}
 use Rattle.overlap.specs.Maximal.{yOf}
-use Rattle.overlap.proofs.Facts.{x-bound, z-bound}
+use Rattle.overlap.proofs.Facts.{length-x, length-z}
 use Rattle.overlap.proofs.Maximal.{x-maximal, z-maximal, cut-whole, length-y, y-has-letters, y-is-no-piece}
 use Rattle.overlap.proofs.Theorems.{counts-fewest, numbers-decide, numbers-small}
 use Rattle.limits.specs.Limits.{sideMost, sheetX, sheetY, sheetZ, sheetPieces, sheetColumns}
@@ -42,13 +42,6 @@ cut-byte B (suc n) i k h b =
     let e : i ≡ n = omega arith in
     let p : sheetColumns * i + k ≡ length (cutBytes B n) + k = omega arith in
     ap (λ (m : ℕ). getD (cutBytes B n ++ cutRow B n) m 0) p ∙ getD-append-add (cutBytes B n) (cutRow B n) k 0 ∙ ap (λ (j : ℕ). getD (cutRow B j) k 0) (sym e))
-
--- the lengths of X, Y and Z
-length-x : (B : List Word) (i : ℕ) → length (xOf B i) ≡ xlen B i
-length-x B i = length-take-le (xlen B i) (word B i) (x-bound B i)
-
-length-z : (B : List Word) (i : ℕ) → length (zOf B i) ≡ zlen B i
-length-z B i = let d = length-drop (xylen B i) (word B i) in let b = z-bound B i in omega arith
 
 -- what stands over the buffer reports the cuts and the numbers of pieces
 over-reports : (B : List Word) → C4 B → ((i : ℕ) → len B i ≤ sideMost) → (old : List ℕ) (i : ℕ) → i < length B → Reports B (over (cutSheet B) old) i

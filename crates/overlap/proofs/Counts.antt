@@ -13,36 +13,19 @@ use lib.ListN.{length, take, drop, length-drop, take-append-drop}
 use lib.Seq.{drop-drop, drop-length, drop-at, length-take-le}
 use Rattle.words.specs.Words.{Word}
 use Rattle.words.specs.Search.{anyBelow}
-use Rattle.words.proofs.Searching.{any-found, none-of, greatest-bound, greatest-passes, greatest-last}
+use Rattle.words.proofs.Searching.{any-found, none-of}
 use Rattle.overlap.specs.Pieces.{word, Occurs, IsPiece, IsProduct}
 use Rattle.overlap.specs.Cuts.{len, pieceAt}
 use Rattle.overlap.specs.Counts.{PieceCount, pieces, none, noProduct, number, FewestPieces, reach, longestPiece, pieceCount}
 use Rattle.overlap.proofs.Reaching.{reach-next, Reaches, fewest-reaches, fewest-is, fewest-short, reach-inside}
-use Rattle.overlap.proofs.Places.{Piece, nothing, piece-of-test, test-of-piece, piece-part}
+use Rattle.overlap.proofs.Places.{Piece, piece-of-test, piece-part}
+use Rattle.overlap.proofs.Longest.{longest-bound, longest-piece, longest-most}
 use Rattle.overlap.proofs.Occurrences.{is-piece-of-place, place-of-is-piece, occurs-fits}
 use Rattle.overlap.proofs.Agree.{pieceAt-iff-segment-piece}
 
--- the longest piece at a place of a relation word
-module _ (B : List Word) (i : ℕ) where
-  pub longest-bound : (a : ℕ) → longestPiece B i a ≤ len B i - a
-  unfolding longestPiece
-  longest-bound a = greatest-bound (len B i - a) (pieceAt B i a)
-
-  pub longest-piece : (a : ℕ) → a ≤ len B i → Piece B i a (longestPiece B i a)
-  unfolding longestPiece
-  longest-piece a h =
-      by-cases (decLt 0 (longestPiece B i a))
-      (λ l. piece-of-test B i a (longestPiece B i a) (let b = longest-bound a in omega arith) (greatest-passes (len B i - a) (pieceAt B i a) l))
-      (λ l. nothing (omega arith))
-
-  pub longest-most : (a m : ℕ) → a + m ≤ len B i → Piece B i a m → m ≤ longestPiece B i a
-  unfolding longestPiece
-  longest-most a m h p =
-      by-cases (decLe m (longestPiece B i a)) (λ l. l) (λ l.
-      absurd (true≢false (sym (test-of-piece B i a m h p) ∙ greatest-last (len B i - a) (pieceAt B i a) m (omega arith) (omega arith))))
-
-  pub reach-bound : (k : ℕ) → reach (longestPiece B i) k ≤ len B i
-  reach-bound = reach-inside (longestPiece B i) (len B i) (λ a h. let b = longest-bound a in omega arith)
+-- longest pieces stay in their relation word
+pub reach-bound : (B : List Word) (i k : ℕ) → reach (longestPiece B i) k ≤ len B i
+reach-bound B i = reach-inside (longestPiece B i) (len B i) (λ a h. let b = longest-bound B i a in omega arith)
 
 -- where m longest pieces reach place a or further, and from a on comes a piece of l letters, one longest piece more reaches its end or further
 longest-reaches : (B : List Word) (i m a l : ℕ) → a ≤ reach (longestPiece B i) m → a + l ≤ len B i → Piece B i a l → a + l ≤ reach (longestPiece B i) (m + 1)

@@ -9,12 +9,15 @@ use native.Mathlib.Omega.{arith}
 use native.Mathlib.Decide.{decLt}
 use lib.ListN.{length, take, drop, length-drop, take-append-drop}
 use lib.Seq.{take-all, drop-drop, length-take-le}
+use Rattle.words.specs.Search.{greatest}
 use Rattle.words.specs.Words.{Word}
 use Rattle.words.proofs.Searching.{greatest-bound, greatest-passes, greatest-last}
 use Rattle.overlap.specs.Pieces.{word, IsPiece, IsProduct, C4}
 use Rattle.overlap.specs.Cuts.{len, pieceAt, xlen, zlen, xylen, xOf, xyOf, zOf}
+use Rattle.overlap.specs.Counts.{longestPiece}
 use Rattle.overlap.proofs.Places.{Piece, nothing, piece-of-test, no-piece-of-test, piece-part, rigid}
 use Rattle.overlap.proofs.Occurrences.{is-piece-of-place}
+use Rattle.overlap.proofs.Longest.{longest-bound, longest-piece, longest-none}
 use Rattle.overlap.proofs.Rigid.{Rigid}
 
 -- three segments that are pieces, one behind the other, make the relation word a product of three pieces
@@ -40,23 +43,23 @@ product-of-three B i a b h ab bl p q r =
       ),
     )
 
--- no prefix longer than X is a piece, and X is one
+-- X is the longest piece at the start
+x-first : (B : List Word) (i : ℕ) → longestPiece B i 0 ≡ xlen B i
+unfolding xlen longestPiece
+x-first B i = ap (λ n. greatest n (pieceAt B i 0)) (omega arith)
+
+-- so no prefix longer than X is a piece, and X is one
 pub x-longest : (B : List Word) (i n : ℕ) → xlen B i < n → n ≤ len B i → ¬ Piece B i 0 n
-unfolding xlen
-x-longest B i n h l = no-piece-of-test B i 0 n (omega arith) (greatest-last (len B i) (pieceAt B i 0) n h l)
+x-longest B i n h l = longest-none B i 0 n (let e = x-first B i in omega arith) (omega arith)
 
 pub x-bound : (B : List Word) (i : ℕ) → xlen B i ≤ len B i
-unfolding xlen
-x-bound B i = greatest-bound (len B i) (pieceAt B i 0)
+x-bound B i = let e = x-first B i in let b = longest-bound B i 0 in omega arith
 
 pub length-x : (B : List Word) (i : ℕ) → length (xOf B i) ≡ xlen B i
 length-x B i = length-take-le (xlen B i) (word B i) (x-bound B i)
 
 pub x-piece : (B : List Word) (i : ℕ) → Piece B i 0 (xlen B i)
-unfolding xlen
-x-piece B i =
-    by-cases (decLt 0 (xlen B i)) (λ a. piece-of-test B i 0 (xlen B i) (let b = x-bound B i in omega arith) (greatest-passes (len B i) (pieceAt B i 0) a))
-    (λ a. nothing (omega arith))
+x-piece B i = subst (Piece B i 0) (x-first B i) (longest-piece B i 0 (omega arith))
 
 -- no end longer than Z is a piece, and Z is one
 pub z-longest : (B : List Word) (i a : ℕ) → a < xylen B i → ¬ Piece B i a (len B i - a)

@@ -1,6 +1,7 @@
 pub mod Rigid
 pub mod Places
 pub mod Occurrences
+pub mod Longest
 pub mod Facts
 pub mod Agree
 pub mod Maximal
