@@ -1,8 +1,8 @@
 // How relation words lie in arrays: where each part of the text and of the table begins, and the readers of the table.
 ghost use mathlib.Core.Path.{_≡_};
-ghost use Prim.Native.Nat.{_<_};
+ghost use Prim.Native.Nat.{_+_, _-_, _<_, _≤_};
 ghost use lib.ListN.{length};
-ghost use Rattle.layout.specs.Places.{startCell, xEndCell, zStartCell, piecesCell, endCell, firstCell, orderCell, sharedCell, fixedPlaces};
+ghost use Rattle.layout.specs.Places.{wordMost, startCell, xEndCell, zStartCell, piecesCell, endCell, firstCell, orderCell, sharedCell, fixedPlaces};
 ghost use Rattle.layout.specs.Layout.{startOf, xEndOf, zStartOf, piecesOf, endOf, firstOf, orderOf, sharedOf};
 use limits::Head;
 use limits::Relation;
@@ -110,6 +110,14 @@ pub fn end_of(table: &[u16], k: usize) -> usize
     ensures { λ r. ⌜ r ≡ endOf (now (table .entry)) k ⌝ }
 {
     wide16(table[Table::COLUMNS * k + Table::END])
+}
+
+// How many letters it has: at most Text::WORD, so a byte.
+pub fn length_of(table: &[u16], k: usize) -> u8
+    requires { ⌜ (endCell k < length (now table)) × (startOf (now table) k ≤ endOf (now table) k) × (endOf (now table) k ≤ startOf (now table) k + wordMost) ⌝ }
+    ensures { λ r. ⌜ r ≡ endOf (now (table .entry)) k - startOf (now (table .entry)) k ⌝ }
+{
+    (end_of(table, k) - start_of(table, k)) as u8
 }
 
 // Its number of pieces.

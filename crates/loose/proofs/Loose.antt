@@ -1,16 +1,21 @@
--- The search for three pieces, by two cut points: what it knows at the head of each loop, and a law for each way on.
+-- The search for three pieces, by two cut points: what it knows at the head of each loop, and a law for each way on. Both cut points and the length are at most
+-- 64, and a loop is left with its cut point at the length.
 use Prim.Native.Nat.{ℕ, _+_, _-_, _<_, _≤_}
-use mathlib.Core.Bool.{Bool, true, false, _&&_, and-false}
+use mathlib.Core.Bool.{Bool, true, false, _&&_, and-false, and-eq-true-iff, true≢false}
 use mathlib.Core.List.{List}
+use mathlib.Core.Logic.{by-cases}
 use mathlib.Core.Path.{_≡_, refl, sym, ap, _∙_, subst}
 use native.Mathlib.Omega.{arith}
+use native.Mathlib.Decide.{ℕ-discrete}
 use borrow.Author.Needs.{needs}
-use borrow.Author.Tests.{le-leb, lt-leb}
-use lib.Dec.{leb}
-use lib.ListN.{getD}
+use borrow.Author.Tests.{eq-eqb, ne-eqb, le-leb, lt-leb}
+use lib.Dec.{eqb, leb}
+use lib.ListN.{length, getD}
 use Rattle.words.specs.Search.{anyBelow}
+use Rattle.words.proofs.Tests.{false-of}
 use Rattle.words.proofs.Searching.{NoneBelow, none-start, none-more, none-all, any-of}
 use Rattle.overlap.specs.Cuts.{three}
+use Rattle.layout.specs.Places.{wordMost}
 use Rattle.loose.specs.Pieces.{held, Covered, CutPoints}
 
 -- the second cut at b, where the first is at a
@@ -23,56 +28,82 @@ first longest start n a = held longest start 0 a && anyBelow (n + 1) (second lon
 
 pub record Outer (longest : List ℕ) (start n i : ℕ) (found : Bool) : Type 0 where
   pub span : Covered longest start n
-  pub upto : i ≤ n + 1
-  pub absent : found ≡ false
+  pub short : n ≤ wordMost
+  pub upto : i ≤ n
+  pub absent : found ≡ eqb n 0
   pub none : NoneBelow (first longest start n) i
 
 pub record Inner (longest : List ℕ) (start n i j : ℕ) (found : Bool) : Type 0 where
   pub outer : Outer longest start n i found
-  pub inside : i ≤ n
+  pub inside : i < n
   pub low : i ≤ j
-  pub over : j ≤ n + 1
+  pub upto : j ≤ n
   pub prefix : held longest start 0 i ≡ true
   pub none : NoneBelow (second longest start n i) j
 
-pub outer-start : (longest : List ℕ) (start n : ℕ) → Covered longest start n → Outer longest start n 0 false
-outer-start longest start n s = record { span = s; upto = omega arith; absent = refl; none = none-start _ }
+pub outer-start : (longest : List ℕ) (start n : ℕ) (found : Bool) → Covered longest start n × (n ≤ wordMost) → found ≡ eqb n 0 → Outer longest start n 0 found
+outer-start longest start n found s e = record { span = s .0; short = s .1; upto = omega arith; absent = e; none = none-start _ }
 
 at-start : (longest : List ℕ) (start i : ℕ) → leb i (getD longest start 0) ≡ held longest start 0 i
 at-start longest start i = ap (λ k. leb i (getD longest k 0)) (omega arith)
 
-module _ (longest : List ℕ) (start n i : ℕ) (found r : Bool) (o : Outer longest start n i found) (h : i ≤ n) (e : r ≡ leb i (getD longest start 0)) where
-  pub inner-start : r ≡ true → Inner longest start n i i found
-  inner-start t =
-      record {
-        outer = o;
-        inside = h;
-        low = omega arith;
-        over = omega (arith, h);
-        prefix = sym (at-start longest start i) ∙ sym e ∙ t;
-        none = record { none = λ k l. rw (lt-leb i k l) };
-      }
+module _ (longest : List ℕ) (start n i : ℕ) (found : Bool) (o : Outer longest start n i found) (h : i < n) where
+  pub first-asked : (start < length longest) × (i ≤ wordMost)
+  first-asked = let s = o .span .inside in let k = o .short in (omega (arith, s), omega (arith, h, k))
 
-  -- the first part is no piece
-  pub outer-skip : r ≡ false → Outer longest start n (i + 1) found
-  outer-skip t =
-      record { span = o .span; upto = omega (arith, h); absent = o .absent; none = none-more _ i (o .none) (rw (sym (at-start longest start i) ∙ sym e ∙ t)) }
+  module _ (r : Bool) (e : r ≡ leb i (getD longest start 0)) where
+    pub inner-start : r ≡ true → Inner longest start n i i found
+    inner-start t =
+        record {
+          outer = o;
+          inside = h;
+          low = omega arith;
+          upto = omega (arith, h);
+          prefix = sym (at-start longest start i) ∙ sym e ∙ t;
+          none = record { none = λ k l. rw (lt-leb i k l) };
+        }
+
+    -- the first part is no piece
+    pub outer-skip : r ≡ false → Outer longest start n (i + 1) found
+    outer-skip t =
+        record {
+          span = o .span;
+          short = o .short;
+          upto = omega (arith, h);
+          absent = o .absent;
+          none = none-more _ i (o .none) (rw (sym (at-start longest start i) ∙ sym e ∙ t));
+        }
+
+-- an empty part is a piece
+held-none : (longest : List ℕ) (start a : ℕ) → held longest start a 0 ≡ true
+held-none longest start a = le-leb 0 (getD longest (start + a) 0) (omega arith)
+
+-- the rest behind the first cut is no piece where the second cut was tried at the first
+rest-not : (longest : List ℕ) (start n i : ℕ) → second longest start n i i ≡ false → held longest start i (n - i) ≡ false
+rest-not longest start n i e =
+    let z : i - i ≡ 0 = omega arith in
+    rw (le-leb i i (omega arith), z, held-none longest start i) at e
 
 module _ (longest : List ℕ) (start n i j : ℕ) (found : Bool) (v : Inner longest start n i j found) where
-  -- no second cut goes with the first
-  pub outer-more : n < j → Outer longest start n (i + 1) found
+  -- no second cut goes with the first, the end of the word among them
+  pub outer-more : n ≤ j → Outer longest start n (i + 1) found
   outer-more h =
-      let e : j ≡ n + 1 = omega (arith, h, v .over) in
+      let u = v .upto in
+      let e : j ≡ n = omega (arith, h, u) in
+      let none : NoneBelow (second longest start n i) n = subst (λ (k : ℕ). NoneBelow (second longest start n i) k) e (v .none) in
+      let rest = rest-not longest start n i (none .none i (v .inside)) in
+      let last : second longest start n i n ≡ false = rw rest (and-false (leb i n)) in
       record {
         span = v .outer .span;
+        short = v .outer .short;
         upto = omega (arith, v .inside);
         absent = v .outer .absent;
-        none = none-more _ i (v .outer .none) (rw (v .prefix, ← e) (none-all _ j (v .none)));
+        none = none-more _ i (v .outer .none) (rw (v .prefix) (none-all _ (n + 1) (none-more _ n none last)));
       }
 
-  module _ (h : j ≤ n) where
-    pub parts-here : CutPoints longest start n i j
-    parts-here = record { inside = v .outer .span .inside; low = v .low; high = h }
+  module _ (h : j < n) where
+    pub parts-here : CutPoints longest start n i j × (n ≤ wordMost)
+    parts-here = (record { inside = v .outer .span .inside; low = v .low; high = omega (arith, h) }, v .outer .short)
 
     module _ (r : Bool) (e : r ≡ (held longest start i (j - i) && held longest start j (n - j))) where
       pub inner-more : r ≡ false → Inner longest start n i (j + 1) found
@@ -81,7 +112,7 @@ module _ (longest : List ℕ) (start n i j : ℕ) (found : Bool) (v : Inner long
             outer = v .outer;
             inside = v .inside;
             low = omega (arith, v .low);
-            over = omega (arith, h);
+            upto = omega (arith, h);
             prefix = v .prefix;
             none = none-more _ j (v .none) (rw (sym e ∙ t) (and-false (leb i j)));
           }
@@ -93,26 +124,45 @@ module _ (longest : List ℕ) (start n i j : ℕ) (found : Bool) (v : Inner long
           let p : first longest start n i ≡ true = rw (v .prefix, any-of (n + 1) (second longest start n i) j (omega (arith, h)) q) in
           sym (any-of (n + 1) (first longest start n) i (omega (arith, v .inside)) p)
 
-pub not-found : (longest : List ℕ) (start n i : ℕ) (found : Bool) → Outer longest start n i found → n < i → found ≡ three (held longest start) n
+-- a word that is one piece is cut twice at its start
+whole-first : (longest : List ℕ) (start n : ℕ) → held longest start 0 n ≡ true → first longest start n 0 ≡ true
+whole-first longest start n e =
+    let z : n - 0 ≡ n = omega arith in
+    let q : second longest start n 0 0 ≡ true = rw (le-leb 0 0 (omega arith), held-none longest start 0, z) e in
+    rw (held-none longest start 0, any-of (n + 1) (second longest start n 0) 0 (omega arith) q)
+
+-- no first cut was found, the end of the word among them; the empty word is a product of pieces
+pub not-found : (longest : List ℕ) (start n i : ℕ) (found : Bool) → Outer longest start n i found → n ≤ i → found ≡ three (held longest start) n
 unfolding three
-not-found longest start n i found o h =
-    let e : i ≡ n + 1 = omega (arith, h, o .upto) in
-    o .absent ∙ sym (none-all (first longest start n) (n + 1) (subst (λ (k : ℕ). NoneBelow (first longest start n) k) e (o .none)))
+not-found longest start n i found o h = o .absent ∙ by-cases (ℕ-discrete n 0) empty longer
+  where
+    empty : n ≡ 0 → eqb n 0 ≡ anyBelow (n + 1) (first longest start n)
+    empty z =
+        let w : held longest start 0 n ≡ true = rw z (held-none longest start 0) in
+        eq-eqb n 0 z ∙ sym (any-of (n + 1) (first longest start n) 0 (omega arith) (whole-first longest start n w))
 
-pub ruleset cutting = (outer-start, inner-start, outer-skip, outer-more, inner-more, parts-here, found-here, not-found, needs)
+    longer : (n ≡ 0 → ⊥) → eqb n 0 ≡ anyBelow (n + 1) (first longest start n)
+    longer z =
+        let u = o .upto in
+        let e : i ≡ n = omega (arith, h, u) in
+        let none : NoneBelow (first longest start n) n = subst (λ (k : ℕ). NoneBelow (first longest start n) k) e (o .none) in
+        let last : first longest start n n ≡ false = false-of (first longest start n n) (λ t.
+        let w = simp and-eq-true-iff at t in
+        true≢false (sym (whole-first longest start n (w .0)) ∙ none .none 0 (omega (arith, z)))) in
+        ne-eqb n 0 z ∙ sym (none-all (first longest start n) (n + 1) (none-more _ n none last))
 
--- both parts behind the first cut
-module _ (a b r : Bool) (e : r ≡ a) where
-  pub both-no : r ≡ false → false ≡ (a && b)
-  both-no t = rw (sym e ∙ t)
+pub ruleset cutting = (outer-start, first-asked, inner-start, outer-skip, outer-more, inner-more, parts-here, found-here, not-found, needs)
 
-  pub both-yes : (s : Bool) → r ≡ true → s ≡ b → s ≡ (a && b)
-  both-yes s t d = rw (sym e ∙ t) d
+-- both parts behind the first cut, at cut points i and j that are read as v and w
+module _ (longest : List ℕ) (start n i j v : ℕ) (d : v ≡ i) (r : Bool) (e : r ≡ leb (j - i) (getD longest (start + v) 0)) where
+  middle : r ≡ held longest start i (j - i)
+  middle = e ∙ ap (λ k. held longest start k (j - i)) d
+
+  pub both-no : r ≡ false → false ≡ (held longest start i (j - i) && held longest start j (n - j))
+  both-no t = rw (sym middle ∙ t)
+
+  pub both-yes : (w : ℕ) (s : Bool) → r ≡ true → w ≡ j → s ≡ leb (n - j) (getD longest (start + w) 0)
+      → s ≡ (held longest start i (j - i) && held longest start j (n - j))
+  both-yes w s t g q = rw (sym middle ∙ t) (q ∙ ap (λ k. held longest start k (n - j)) g)
 
 pub ruleset boths = (both-no, both-yes, needs)
-
--- a comparison with an equal number
-pub compare-same : (m x y : ℕ) → x ≡ y → leb m x ≡ leb m y
-compare-same m x y e = ap (leb m) e
-
-pub ruleset tests = (compare-same, needs)

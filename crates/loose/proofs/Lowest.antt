@@ -12,7 +12,7 @@ use lib.Dec.{leb}
 use lib.ListN.{length}
 use Rattle.words.proofs.Searching.{NoneBelow, none-start, none-more, any-same, least-is, least-none, least-same}
 use Rattle.overlap.specs.Cuts.{pieceAt, three, loose, firstLoose}
-use Rattle.layout.specs.Places.{startCell, endCell}
+use Rattle.layout.specs.Places.{wordMost, startCell, endCell}
 use Rattle.layout.specs.Layout.{wordsIn, startOf, endOf}
 use Rattle.layout.proofs.Placed.{words-length, word-length, end-before}
 use Rattle.longest.specs.Longest.{Space, Tabled}
@@ -25,20 +25,22 @@ module _ (longest table : List ℕ) (i : ℕ) (f : InTables longest table i) whe
   pub cells-start : startCell i < length table
   cells-start = let r = f .room in omega (arith, r)
 
-  pub cells-end : endCell i < length table
-  cells-end = f .room
+  pub length-small : (endCell i < length table) × (startOf table i ≤ endOf table i) × (endOf table i ≤ startOf table i + wordMost)
+  length-small = (f .room, f .upwards, f .long)
 
-  pub covered-here : (s e : ℕ) → s ≡ startOf table i → e ≡ endOf table i → Covered longest s (e - s)
-  covered-here s e d g = let u = f .upwards in let k = f .inside in record { inside = omega (arith, d, g, u, k) }
+  module _ (s n : ℕ) (d : s ≡ startOf table i) (e : n ≡ endOf table i - startOf table i) where
+    pub covered-here : Covered longest s n × (n ≤ wordMost)
+    covered-here =
+        let u = f .upwards in
+        let k = f .inside in
+        let l = f .long in
+        (record { inside = omega (arith, d, e, u, k) }, omega (arith, e, l))
 
-  pub word-up : (s e : ℕ) → s ≡ startOf table i → e ≡ endOf table i → s ≤ e
-  word-up s e d g = let u = f .upwards in omega (arith, d, g, u)
+    pub loose-here : (r : Bool) → r ≡ three (held longest s) n → r ≡ looseBy longest table i
+    unfolding looseBy
+    loose-here r h = h ∙ rw (d, e)
 
-  pub loose-here : (s e : ℕ) (r : Bool) → s ≡ startOf table i → e ≡ endOf table i → r ≡ three (held longest s) (e - s) → r ≡ looseBy longest table i
-  unfolding looseBy
-  loose-here s e r d g h = h ∙ rw (d, g)
-
-pub ruleset loosing = (cells-start, cells-end, covered-here, word-up, loose-here, needs)
+pub ruleset loosing = (cells-start, length-small, covered-here, loose-here, needs)
 
 -- the loop over the words
 

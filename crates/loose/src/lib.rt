@@ -1,46 +1,48 @@
 // Whether a relation word is a product of three or fewer pieces, by the table of longest pieces: the test of C(4) (document 01, "Pieces, C(4) and cuts", refusal 8).
 ghost use mathlib.Core.Path.{_≡_};
-ghost use Prim.Native.Nat.{_-_, _<_};
+ghost use Prim.Native.Nat.{_-_, _<_, _≤_};
 ghost use mathlib.Core.Bool.{_&&_};
 ghost use lib.Dec.{leb};
 ghost use lib.ListN.{length, getD};
 ghost use Rattle.overlap.specs.Cuts.{three};
+ghost use Rattle.layout.specs.Places.{wordMost};
 ghost use Rattle.loose.specs.Pieces.{held, Covered, CutPoints, InTables, AllInTables, looseBy, lowestLoose, Measurable, Measured};
-use layout::end_of;
+use layout::length_of;
 use layout::start_of;
 use longest::fill_longest;
 use numbers::wide;
 
 // The m letters at a place are a piece.
-pub fn piece(longest: &[u8], at: usize, m: usize) -> bool
-    requires { ⌜ at < length (now longest) ⌝ }
+pub fn piece(longest: &[u8], at: usize, m: u8) -> bool
+    requires { ⌜ (at < length (now longest)) × (m ≤ wordMost) ⌝ }
     ensures { λ r. ⌜ r ≡ leb m (getD (now (longest .entry)) at 0) ⌝ }
 {
-    m <= wide(longest[at])
+    m <= longest[at]
 }
 
 // Of the word of n letters from `start` on, the parts from i to j and from j to the end are pieces.
-fn pieces_behind(longest: &[u8], start: usize, n: usize, i: usize, j: usize) -> bool
-    requires { ⌜ CutPoints (now longest) start n i j ⌝ }
+fn pieces_behind(longest: &[u8], start: usize, n: u8, i: u8, j: u8) -> bool
+    requires { ⌜ CutPoints (now longest) start n i j × (n ≤ wordMost) ⌝ }
     ensures { λ r. ⌜ r ≡ (held (now (longest .entry)) start i (j - i) && held (now (longest .entry)) start j (n - j)) ⌝ }
 {
-    if piece(longest, start + i, j - i) {
-        return piece(longest, start + j, n - j);
+    if piece(longest, start + wide(i), j - i) {
+        return piece(longest, start + wide(j), n - j);
     }
     false
 }
 
-// The word of n letters from `start` on is a product of three pieces, perhaps empty, cut at i and at j.
-fn three_pieces(longest: &[u8], start: usize, n: usize) -> bool
-    requires { ⌜ Covered (now longest) start n ⌝ }
+// The word of n letters from `start` on is a product of three pieces, perhaps empty, cut at i and at j: the empty word is; in another no cut need stand at the end,
+// since an empty last part may as well stand in the middle.
+fn three_pieces(longest: &[u8], start: usize, n: u8) -> bool
+    requires { ⌜ Covered (now longest) start n × (n ≤ wordMost) ⌝ }
     ensures { λ r. ⌜ r ≡ three (held (now (longest .entry)) start) n ⌝ }
 {
-    let mut found = false;
+    let mut found = n == 0;
     let mut i = 0;
-    'outer: while i <= n {
+    'outer: while i < n {
         if piece(longest, start, i) {
             let mut j = i;
-            while j <= n {
+            while j < n {
                 if pieces_behind(longest, start, n, i, j) {
                     found = true;
                     break 'outer;
@@ -58,9 +60,7 @@ fn is_loose(longest: &[u8], table: &[u16], i: usize) -> bool
     requires { ⌜ InTables (now longest) (now table) i ⌝ }
     ensures { λ r. ⌜ r ≡ looseBy (now (longest .entry)) (now (table .entry)) i ⌝ }
 {
-    let start = start_of(table, i);
-    let end = end_of(table, i);
-    three_pieces(longest, start, end - start)
+    three_pieces(longest, start_of(table, i), length_of(table, i))
 }
 
 // The lowest such word, or n.

@@ -8,6 +8,5 @@ is-loose-spec =
     (tie.spec
     (λ c κs. search loosing)
     (λ c κs. search loosing)
-    (λ c. search loosing)
     (λ c κs. search loosing)
     (λ c. search loosing))

@@ -6,8 +6,10 @@ pub pieces-behind-spec : {M : Type 1} → statement M
 pieces-behind-spec =
     tie.close
     (tie.spec
+    (λ c κs. search boths)
     (λ c. search boths)
     (λ c. search boths)
+    (λ c κs. search boths)
     (λ c κs. search boths)
     (λ c. search boths)
     (λ c. search boths)

@@ -1,4 +1,4 @@
-use Prim.Native.Nat.{_-_, _+_}
+use Prim.Native.Nat.{_-_}
 use mathlib.Core.Logic.{⊎-elim}
 use Rattle.loose.proofs.Loose.{Outer, Inner, cutting}
 use Rattle.loose.proofs.three_pieces.Statement.{statement}
@@ -8,13 +8,13 @@ abbrev Inv-loop : tie.InvT-loop
 Inv-loop longest start n found₀ i j₀ found j = Inner longest start n i j found
 
 abbrev μ-loop : tie.MeasureT-loop
-μ-loop longest start n found₀ i j₀ found j = n + 1 - j
+μ-loop longest start n found₀ i j₀ found j = n - j
 
 abbrev Inv-outer : tie.InvT-outer
 Inv-outer longest start n found₀ i₀ found i = Outer longest start n i found
 
 abbrev μ-outer : tie.MeasureT-outer
-μ-outer longest start n found₀ i₀ found i = n + 1 - i
+μ-outer longest start n found₀ i₀ found i = n - i
 
 outer-again : tie.Need-outer-again Inv-loop μ-loop Inv-outer μ-outer
 outer-again c = ⊎-elim (λ w. rw (w .3) (search cutting)) (λ w. rw (w .1) (search cutting)) (c .if1 .came)
