@@ -16,92 +16,106 @@ use Rattle.words.proofs.Searching.{greatest-bound, greatest-is, greatest-same}
 use Rattle.overlap.specs.Cuts.{len, pieceAt, xlen, zlen}
 use Rattle.overlap.specs.Counts.{number, fewest, longestPiece, pieceCount}
 use Rattle.overlap.proofs.Reaching.{fewest-same}
-use Rattle.layout.specs.Places.{wordsMost, startCell, xEndCell, zStartCell, piecesCell, endCell}
+use Rattle.layout.specs.Places.{wordsMost, wordMost, textRoom, startCell, xEndCell, zStartCell, piecesCell, endCell}
 use Rattle.layout.specs.Layout.{Laid, Cut, wordsIn, startOf, xEndOf, zStartOf, piecesOf, endOf}
 use Rattle.layout.proofs.Placed.{word-length, end-before, words-of-places, laid-of-places}
 use Rattle.longest.specs.Longest.{longestAt, Tabled}
 use Rattle.loose.specs.Pieces.{Fenced, InTables, AllInTables}
 use Rattle.cuts.specs.Cutting.{xBy, tailBy, zBy, cutWord, Tail, OnlyCuts, CutBy}
 use Rattle.loose.proofs.Fences.{longest-inside, piece-longest}
+use Rattle.loose.proofs.Lowest.{cells-start, length-small}
 use Rattle.products.specs.Products.{pieceBy, numberFrom, numberBy}
 
--- the search for the start of Z
+-- the search for the start of Z, by its place in the word: the place is at most 64, and the loop is left with it at the word's length
 
-pub record Tailing (longest : List ℕ) (start end a : ℕ) : Type 0 where
-  pub tail : Tail longest start end
-  pub low : start ≤ a
-  pub high : a ≤ end
-  pub none : (m : ℕ) → end - a < m → m ≤ end - start → leb m (getD longest (end - m) 0) ≡ false
+pub record Tailing (longest : List ℕ) (start n a : ℕ) : Type 0 where
+  pub tail : Tail longest start (start + n)
+  pub short : n ≤ wordMost
+  pub upto : a ≤ n
+  pub none : (m : ℕ) → n - a < m → m ≤ n → leb m (getD longest (start + n - m) 0) ≡ false
 
-pub tail-first : (longest : List ℕ) (start end : ℕ) → Tail longest start end → Tailing longest start end start
-tail-first longest start end t = record { tail = t; low = omega arith; high = t .upwards; none = λ m l u. absurd (omega (arith, l, u)) }
+pub tail-first : (longest : List ℕ) (start n : ℕ) → Tail longest start (start + n) × (n ≤ wordMost) → Tailing longest start n 0
+tail-first longest start n t = record { tail = t .0; short = t .1; upto = omega arith; none = λ m l u. absurd (omega (arith, l, u)) }
 
-module _ (longest : List ℕ) (start end a : ℕ) (s : Tailing longest start end a) where
-  tail-is : (0 < end - a → leb (end - a) (getD longest (end - (end - a)) 0) ≡ true) → a ≡ end - tailBy longest start end
+module _ (longest : List ℕ) (start n a : ℕ) (s : Tailing longest start n a) where
+  tail-is : (0 < n - a → leb (n - a) (getD longest (start + n - (n - a)) 0) ≡ true) → a ≡ n - tailBy longest start (start + n)
   unfolding tailBy
   tail-is y =
-      let l = s .low in
-      let h = s .high in
-      let e = greatest-is (end - start) (λ m. leb m (getD longest (end - m) 0)) (end - a) (omega (arith, l)) y (s .none) in
+      let h = s .upto in
+      let e = greatest-is (start + n - start) (λ m. leb m (getD longest (start + n - m) 0)) (n - a) (omega arith) y (λ m l u. s .none m l (omega (arith, u))) in
       omega (arith, e, h)
 
-  module _ (h : a < end) (r : Bool) (e : r ≡ leb (end - a) (getD longest a 0)) where
-    here : leb (end - a) (getD longest (end - (end - a)) 0) ≡ r
-    here = ap (λ k. leb (end - a) (getD longest k 0)) (omega (arith, h)) ∙ sym e
+  module _ (h : a < n) where
+    pub tail-asked : (w : ℕ) → w ≡ a → (start + w < length longest) × (n - a ≤ wordMost)
+    tail-asked w d = let k = s .tail .inside in let l = s .short in (omega (arith, d, h, k), omega (arith, l))
 
-    pub tail-found : r ≡ true → a ≡ end - tailBy longest start end
-    tail-found t = tail-is (λ l. here ∙ t)
+    module _ (w : ℕ) (d : w ≡ a) (r : Bool) (e : r ≡ leb (n - a) (getD longest (start + w) 0)) where
+      here : leb (n - a) (getD longest (start + n - (n - a)) 0) ≡ r
+      here = ap (λ k. leb (n - a) (getD longest k 0)) (omega (arith, d, h)) ∙ sym e
 
-    pub tail-more : r ≡ false → Tailing longest start end (a + 1)
-    tail-more t =
-        let low = s .low in
-        record {
-          tail = s .tail;
-          low = omega (arith, low);
-          high = omega (arith, h);
-          none = λ m l u. by-cases (ℕ-discrete m (end - a))
-              (λ g. subst (λ (k : ℕ). leb k (getD longest (end - k) 0) ≡ false) (sym g) (here ∙ t))
-              (λ g. s .none m (omega (arith, l, g, h)) u);
-        }
+      pub tail-found : r ≡ true → a ≡ n - tailBy longest start (start + n)
+      tail-found t = tail-is (λ l. here ∙ t)
 
-  pub tail-end : end ≤ a → a ≡ end - tailBy longest start end
+      pub tail-more : r ≡ false → Tailing longest start n (a + 1)
+      tail-more t =
+          record {
+            tail = s .tail;
+            short = s .short;
+            upto = omega (arith, h);
+            none = λ m l u. by-cases (ℕ-discrete m (n - a))
+                (λ g. subst (λ (k : ℕ). leb k (getD longest (start + n - k) 0) ≡ false) (sym g) (here ∙ t))
+                (λ g. s .none m (omega (arith, l, g, h)) u);
+          }
+
+  pub tail-end : n ≤ a → a ≡ n - tailBy longest start (start + n)
   tail-end h = tail-is (λ l. absurd (omega (arith, l, h)))
 
-pub ruleset tails = (tail-first, tail-found, tail-more, tail-end, needs)
+pub ruleset tails = (tail-first, tail-asked, tail-found, tail-more, tail-end, needs)
+
+tail-bound : (longest : List ℕ) (start end : ℕ) → tailBy longest start end ≤ end - start
+unfolding tailBy
+tail-bound longest start end = greatest-bound (end - start) (λ m. leb m (getD longest (end - m) 0))
 
 -- the two cuts of a word
-module _ (longest table : List ℕ) (i : ℕ) (f : InTables longest table i) where
-  pub cells-start : startCell i < length table
-  cells-start = let r = f .room in omega (arith, r)
+module _ (longest table : List ℕ) (i : ℕ) (f : InTables longest table i) (s : ℕ) (d : s ≡ startOf table i) where
+  pub start-inside : s < length longest
+  start-inside = let u = f .upwards in let k = f .inside in omega (arith, d, u, k)
 
-  pub cells-end : endCell i < length table
-  cells-end = f .room
+  pub start-short : s ≤ textRoom
+  start-short = let u = f .upwards in let k = f .short in omega (arith, d, u, k)
 
-  pub tail-here : (s e : ℕ) → s ≡ startOf table i → e ≡ endOf table i → Tail longest s e
-  tail-here s e d g = let u = f .upwards in let k = f .inside in record { upwards = omega (arith, d, g, u); inside = omega (arith, g, k) }
-
-  pub start-inside : (s : ℕ) → s ≡ startOf table i → s < length longest
-  start-inside s d = let u = f .upwards in let k = f .inside in omega (arith, d, u, k)
-
-  pub x-small : (s x : ℕ) → s ≡ startOf table i → x ≡ getD longest s 0 → s + x < 65536
-  x-small s x d e =
+  pub x-short : getD longest s 0 ≤ wordMost
+  x-short =
       let w = f .within (startOf table i) (omega arith) (f .upwards) in
-      let k = f .short in
+      let l = f .long in
       let c = ap (λ j. getD longest j 0) d in
-      omega (arith, d, e, c, w, k)
+      omega (arith, c, w, l)
 
-  pub x-here : (s x r : ℕ) → s ≡ startOf table i → x ≡ getD longest s 0 → r ≡ s + x → r ≡ xBy longest table i
+  pub x-here : (r : ℕ) → r ≡ s + getD longest s 0 → r ≡ xBy longest table i
   unfolding xBy
-  x-here s x r d e h = h ∙ rw (e, d)
+  x-here r h = h ∙ rw d
 
-  module _ (s e a : ℕ) (d : s ≡ startOf table i) (g : e ≡ endOf table i) (h : a ≡ e - tailBy longest s e) where
-    pub z-small : a < 65536
-    z-small = let k = f .short in omega (arith, g, h, k)
+  module _ (n : ℕ) (e : n ≡ endOf table i - startOf table i) where
+    pub tail-here : Tail longest s (s + n) × (n ≤ wordMost)
+    tail-here =
+        let u = f .upwards in
+        let k = f .inside in
+        let l = f .long in
+        (record { upwards = omega arith; inside = omega (arith, d, e, u, k) }, omega (arith, e, l))
 
-    pub z-here : (r : ℕ) → r ≡ a → r ≡ zBy longest table i
-    z-here r c = c ∙ h ∙ rw (d, g)
+    module _ (a : ℕ) (h : a ≡ n - tailBy longest s (s + n)) where
+      pub z-short : a ≤ wordMost
+      z-short = let l = f .long in omega (arith, e, h, l)
 
-pub ruleset ends = (cells-start, cells-end, tail-here, start-inside, x-small, x-here, z-small, z-here, needs)
+      pub z-here : (r : ℕ) → r ≡ s + a → r ≡ zBy longest table i
+      z-here r c =
+          let u = f .upwards in
+          let g : s + n ≡ endOf table i = omega (arith, d, e, u) in
+          let b = tail-bound longest s (s + n) in
+          let t : tailBy longest s (s + n) ≡ tailBy longest (startOf table i) (endOf table i) = rw (g, d) in
+          omega (arith, c, h, g, b, t)
+
+pub ruleset ends = (cells-start, length-small, start-inside, start-short, x-short, x-here, tail-here, z-short, z-here, needs)
 
 -- both are written, and the number of pieces
 module _ (longest table : List ℕ) (i : ℕ) where
@@ -326,10 +340,6 @@ module _ (text table longest : List ℕ) (n : ℕ) (f : Fenced text table n) (t 
       let e : startOf table i + (endOf table i - startOf table i - m) ≡ endOf table i - m = omega (arith, u, s) in
       ap (leb m) (t .at (endOf table i - m) (omega (arith, g, w))) ∙ ap (λ k. leb m (longestAt text k)) (sym e)
       ∙ sym (piece-longest text table n f i (endOf table i - startOf table i - m) m h (omega (arith, u, s)))))
-
-tail-bound : (longest : List ℕ) (start end : ℕ) → tailBy longest start end ≤ end
-unfolding tailBy
-tail-bound longest start end = let b = greatest-bound (end - start) (λ m. leb m (getD longest (end - m) 0)) in omega (arith, b)
 
 pub cut-true : (text table longest after : List ℕ) (n : ℕ) → Fenced text table n → Tabled text longest → CutBy longest table n after → Cut text after n
 cut-true text table longest after n f t c =

@@ -1,30 +1,39 @@
 // The cuts of the relation words, by the table of longest pieces: where X ends and where Z starts (document 01, "Pieces, C(4) and cuts"). They go into the table of
 // the relation words together with the numbers of pieces.
 ghost use mathlib.Core.Path.{_≡_};
-ghost use Prim.Native.Nat.{_-_};
+ghost use Prim.Native.Nat.{_+_, _-_, _≤_};
+ghost use Rattle.layout.specs.Places.{wordMost, textRoom};
 ghost use Rattle.loose.specs.Pieces.{InTables, AllInTables};
 ghost use Rattle.cuts.specs.Cutting.{Tail, tailBy, xBy, zBy, cutWord, CutBy};
 use layout::Table;
-use layout::end_of;
+use layout::length_of;
 use layout::start_of;
 use loose::piece;
 use numbers::narrow;
 use numbers::wide;
 use products::number_of;
 
-// Where the longest piece that ends the word starts.
-fn tail_start(longest: &[u8], start: usize, end: usize) -> usize
-    requires { ⌜ Tail (now longest) start end ⌝ }
-    ensures { λ r. ⌜ r ≡ end - tailBy (now (longest .entry)) start end ⌝ }
+// At which place of the word of n letters from `start` on the longest piece that ends it starts.
+fn tail_start(longest: &[u8], start: usize, n: u8) -> u8
+    requires { ⌜ Tail (now longest) start (start + n) × (n ≤ wordMost) ⌝ }
+    ensures { λ r. ⌜ r ≡ n - tailBy (now (longest .entry)) start (start + n) ⌝ }
 {
-    let mut a = start;
-    while a < end {
-        if piece(longest, a, end - a) {
+    let mut a = 0;
+    while a < n {
+        if piece(longest, start + wide(a), n - a) {
             return a;
         }
         a += 1;
     }
     a
+}
+
+// Where place a of the word that starts at `start` is in the text.
+fn position(start: usize, a: u8) -> u16
+    requires { ⌜ (a ≤ wordMost) × (start ≤ textRoom) ⌝ }
+    ensures { λ r. ⌜ r ≡ start + a ⌝ }
+{
+    narrow(start + wide(a))
 }
 
 // X ends with the longest piece at the word's start, which the fence does not let go past the word's end.
@@ -33,8 +42,8 @@ fn x_end(longest: &[u8], table: &[u16], i: usize) -> u16
     ensures { λ r. ⌜ r ≡ xBy (now (longest .entry)) (now (table .entry)) i ⌝ }
 {
     let start = start_of(table, i);
-    let x = wide(longest[start]);
-    narrow(start + x)
+    let x = longest[start];
+    position(start, x)
 }
 
 // Z starts with the longest piece that ends the word.
@@ -43,9 +52,8 @@ fn z_start(longest: &[u8], table: &[u16], i: usize) -> u16
     ensures { λ r. ⌜ r ≡ zBy (now (longest .entry)) (now (table .entry)) i ⌝ }
 {
     let start = start_of(table, i);
-    let end = end_of(table, i);
-    let a = tail_start(longest, start, end);
-    narrow(a)
+    let a = tail_start(longest, start, length_of(table, i));
+    position(start, a)
 }
 
 // Sets the two cuts and the number of pieces of word i.

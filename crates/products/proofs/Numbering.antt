@@ -13,6 +13,7 @@ use Rattle.overlap.specs.Counts.{pieces, none, noProduct, number, reach}
 use Rattle.overlap.proofs.Reaching.{reach-first, reach-next, reach-stays, fewest-is}
 use Rattle.layout.specs.Layout.{startOf, endOf}
 use Rattle.loose.specs.Pieces.{InTables}
+use Rattle.loose.proofs.Lowest.{cells-start, length-small}
 use Rattle.products.specs.Products.{pieceBy, numberFrom, numberBy, Enclosed}
 
 -- one piece
@@ -88,19 +89,19 @@ pub ruleset numbering = (number-start, number-inside, number-end, number-none, n
 
 -- word i
 
-module _ (longest table : List ℕ) (i : ℕ) (f : InTables longest table i) (s e : ℕ) (d : s ≡ startOf table i) (g : e ≡ endOf table i) where
-  pub enclosed-here : Enclosed longest s (e - s)
+module _ (longest table : List ℕ) (i : ℕ) (f : InTables longest table i) (s n : ℕ) (d : s ≡ startOf table i) (e : n ≡ endOf table i - startOf table i) where
+  pub enclosed-here : Enclosed longest s n
   enclosed-here =
       let u = f .upwards in
       let k = f .inside in
       let l = f .long in
       record {
-        inside = omega (arith, d, g, u, k);
-        short = omega (arith, d, g, l);
-        within = λ a h. let w = f .within (s + a) (omega (arith, d)) (omega (arith, d, g, h)) in omega (arith, w, g);
+        inside = omega (arith, d, e, u, k);
+        short = omega (arith, e, l);
+        within = λ a h. let w = f .within (s + a) (omega (arith, d)) (omega (arith, d, e, h)) in omega (arith, d, e, w, u);
       }
 
-  pub number-here : (r : ℕ) → r ≡ numberFrom longest s (e - s) → r ≡ numberBy longest table i
-  number-here r h = h ∙ rw (d, g)
+  pub number-here : (r : ℕ) → r ≡ numberFrom longest s n → r ≡ numberBy longest table i
+  number-here r h = h ∙ rw (d, e)
 
-pub ruleset words = (enclosed-here, number-here, needs)
+pub ruleset words = (cells-start, length-small, enclosed-here, number-here, needs)

@@ -5,7 +5,7 @@ ghost use Prim.Native.Nat.{_+_, _<_};
 ghost use lib.ListN.{length};
 ghost use Rattle.loose.specs.Pieces.{InTables};
 ghost use Rattle.products.specs.Products.{pieceBy, numberFrom, numberBy, Enclosed};
-use layout::end_of;
+use layout::length_of;
 use layout::start_of;
 use numbers::wide;
 
@@ -48,7 +48,5 @@ pub fn number_of(longest: &[u8], table: &[u16], i: usize) -> u16
     requires { ⌜ InTables (now longest) (now table) i ⌝ }
     ensures { λ r. ⌜ r ≡ numberBy (now (longest .entry)) (now (table .entry)) i ⌝ }
 {
-    let start = start_of(table, i);
-    let end = end_of(table, i);
-    number_from(longest, start, (end - start) as u8) as u16
+    number_from(longest, start_of(table, i), length_of(table, i)) as u16
 }

@@ -9,6 +9,4 @@ x-end-spec =
     (λ c κs. search ends)
     (λ c. search ends)
     (λ c κs. search ends)
-    (λ c. search ends)
-    (λ c κs. search ends)
     (λ c. search ends))

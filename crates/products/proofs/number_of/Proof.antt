@@ -8,8 +8,6 @@ number-of-spec =
     (tie.spec
     (λ c κs. search words)
     (λ c κs. search words)
-    (λ c. search words)
-    (λ c. search words)
     (λ c κs. search words)
     (λ c. search words)
     (λ c. search words))
