@@ -11,6 +11,7 @@ use borrow.Author.Needs.{needs}
 use lib.ListN.{length, getD}
 use Rattle.overlap.specs.Counts.{pieces, none, noProduct, number, reach}
 use Rattle.overlap.proofs.Reaching.{reach-first, reach-next, reach-stays, fewest-is}
+use Rattle.layout.specs.Places.{wordMost}
 use Rattle.layout.specs.Layout.{startOf, endOf}
 use Rattle.loose.specs.Pieces.{InTables}
 use Rattle.loose.proofs.Lowest.{cells-start, length-small}
@@ -37,8 +38,8 @@ number-start longest start n f =
     record { enclosed = f; reached = sym (reach-first (pieceBy longest start)); upto = omega arith; few = omega arith; fewer = λ k h. absurd (omega (arith, h)) }
 
 module _ (longest : List ℕ) (start n a count : ℕ) (s : Numbering longest start n a count) where
-  pub number-inside : a < n → start + a < length longest
-  number-inside h = let i = s .enclosed .inside in omega (arith, h, i)
+  pub number-inside : a < n → (start + a < length longest) × (a ≤ wordMost)
+  number-inside h = let i = s .enclosed .inside in let k = s .enclosed .short in (omega (arith, h, i), omega (arith, h, k))
 
   pub number-end : n ≤ a → count ≡ numberFrom longest start n
   unfolding numberFrom number

@@ -1,8 +1,9 @@
 // The number of pieces of a relation word, by the table of longest pieces (document 01, "Pieces, C(4) and cuts"): taking the longest piece each time needs the
 // fewest, since every part of a piece is a piece. Lengths and places inside a word are bytes.
 ghost use mathlib.Core.Path.{_≡_};
-ghost use Prim.Native.Nat.{_+_, _<_};
+ghost use Prim.Native.Nat.{_+_, _<_, _≤_};
 ghost use lib.ListN.{length};
+ghost use Rattle.layout.specs.Places.{wordMost};
 ghost use Rattle.loose.specs.Pieces.{InTables};
 ghost use Rattle.products.specs.Products.{pieceBy, numberFrom, numberBy, Enclosed};
 use layout::length_of;
@@ -19,7 +20,7 @@ impl Number {
 
 // The length of the longest piece at place a of the word that starts at `start`.
 fn piece_at(longest: &[u8], start: usize, a: u8) -> u8
-    requires { ⌜ start + a < length (now longest) ⌝ }
+    requires { ⌜ (start + a < length (now longest)) × (a ≤ wordMost) ⌝ }
     ensures { λ r. ⌜ r ≡ pieceBy (now (longest .entry)) start a ⌝ }
 {
     longest[start + wide(a)]
