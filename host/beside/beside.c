@@ -124,6 +124,18 @@ static void book_q(size_t length)
     }
 }
 
+/* one rule whose sides are alike but for their last steps: the search for three pieces tries every pair of cuts, and takes most of the check */
+static void shared_front(void)
+{
+    book = vanecitron_book_begin(bytes, sizeof bytes, 3);
+    u_length = v_length = VANECITRON_SIDE;
+    memset(u, 0, VANECITRON_SIDE);
+    memset(v, 0, VANECITRON_SIDE);
+    u[VANECITRON_SIDE - 1] = 1;
+    v[VANECITRON_SIDE - 1] = 2;
+    vanecitron_book_rule(&book, u, VANECITRON_SIDE, v, VANECITRON_SIDE);
+}
+
 /* a book of 32 rules of 64 and 64 steps, each given by its side and its place there, and two runs of such sides in turn */
 static void full_book(uint8_t step(unsigned side, unsigned place))
 {
@@ -173,6 +185,8 @@ int main(void)
     differ |= measure_all("Q, runs of 4");
     book_q(VANECITRON_RUN);
     differ |= measure_all("Q, runs of 4,096");
+    shared_front();
+    differ |= measure_all("one rule with a front of 63, runs of 64");
     full_book(random_step);
     differ |= measure_all("a full random book, runs of 4,096");
     full_book(step_by_step);
