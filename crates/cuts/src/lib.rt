@@ -1,5 +1,6 @@
 // The cuts of the relation words, by the table of longest pieces: where X ends and where Z starts (document 01, "Pieces, C(4) and cuts"). They go into the table of
-// the relation words together with the numbers of pieces.
+// the relation words together with the numbers of pieces. Lengths and places inside a word are bytes, none above Text::WORD; what goes into the table are positions in
+// the text.
 ghost use mathlib.Core.Path.{_≡_};
 ghost use Prim.Native.Nat.{_+_, _-_, _≤_};
 ghost use Rattle.layout.specs.Places.{wordMost, textRoom};

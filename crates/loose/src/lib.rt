@@ -1,4 +1,5 @@
 // Whether a relation word is a product of three or fewer pieces, by the table of longest pieces: the test of C(4) (document 01, "Pieces, C(4) and cuts", refusal 8).
+// Lengths and places inside a word are bytes. None is above Text::WORD, the most letters of a word, also where a loop is left.
 ghost use mathlib.Core.Path.{_≡_};
 ghost use Prim.Native.Nat.{_-_, _<_, _≤_};
 ghost use mathlib.Core.Bool.{_&&_};
@@ -31,8 +32,8 @@ fn pieces_behind(longest: &[u8], start: usize, n: u8, i: u8, j: u8) -> bool
     false
 }
 
-// The word of n letters from `start` on is a product of three pieces, perhaps empty, cut at i and at j: the empty word is; in another no cut need stand at the end,
-// since an empty last part may as well stand in the middle.
+// The word of n letters from `start` on is a product of three pieces, perhaps empty, cut at i and at j. The empty word is such a product; in any other no cut has to be tried at
+// the end, since an empty last part may as well be the middle one: so both loops are left at n.
 fn three_pieces(longest: &[u8], start: usize, n: u8) -> bool
     requires { ⌜ Covered (now longest) start n × (n ≤ wordMost) ⌝ }
     ensures { λ r. ⌜ r ≡ three (held (now (longest .entry)) start) n ⌝ }

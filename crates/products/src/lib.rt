@@ -1,5 +1,5 @@
 // The number of pieces of a relation word, by the table of longest pieces (document 01, "Pieces, C(4) and cuts"): taking the longest piece each time needs the
-// fewest, since every part of a piece is a piece. Lengths and places inside a word are bytes.
+// fewest, since every part of a piece is a piece. Lengths and places inside a word are bytes, none above Text::WORD.
 ghost use mathlib.Core.Path.{_≡_};
 ghost use Prim.Native.Nat.{_+_, _<_, _≤_};
 ghost use lib.ListN.{length};

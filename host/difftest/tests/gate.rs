@@ -22,7 +22,7 @@ fn generated_books() {
 
 #[test]
 fn sheets() {
-    let tally = tried(23, |trial, chance| trials::sheets(trial, chance, 4_000));
+    let tally = tried(23, |trial, chance| trials::sheets(trial, chance, 5_000));
     assert!(tally.accepted > 1_500);
     assert!([8, 12].iter().all(|&number| tally.refused[number] > 1_000));
     assert!(tally.numbers.iter().all(|&met| met > 1_000));

@@ -96,8 +96,8 @@ fn on_books_and_words() {
 fn on_sheets() {
     let mut chance = Chance::new(8);
     let mut met = [0; 256];
-    for _ in 0..4_000 {
-        let book = books::of_many_numbers(&mut chance);
+    for case in 0..5_000 {
+        let book = if case % 5 == 0 { books::of_three_parts(&mut chance) } else { books::of_many_numbers(&mut chance) };
         let bytes = book.bytes();
         let fits = fast::SHEET_SIDE * book.words.len();
         for size in [0, 3 * book.words.len(), fits - 1, fits, fits + 1] {

@@ -247,6 +247,25 @@ fn walk(chance: &mut Chance, letters: u8, length: usize, together: &mut HashSet<
     word
 }
 
+/// A side of 60 to 64 letters in three parts, each of which stands in another side before a letter of that side's own, now and then without its last letter.
+/// So the side is a product of three pieces with cuts anywhere, the last places among them, or just not.
+pub fn of_three_parts(chance: &mut Chance) -> Book {
+    let length = chance.between(60, 64);
+    let mut cut = || if chance.once_in(3) { chance.between(length - 2, length) } else { chance.below(length + 1) };
+    let (one, other) = (cut(), cut());
+    let (first, second) = (one.min(other), one.max(other));
+    let powers = chance.once_in(2);
+    let mut part = |letter: u8, length: usize| if powers { vec![letter; length] } else { chance.word(length, 3) };
+    let parts = [part(0, first), part(1, second - first), part(2, length - second)];
+    let side_of = |(own, part): (u8, &Vec<u8>)| {
+        let most = if chance.once_in(6) { part.len().saturating_sub(1) } else { 63 };
+        [&part[..part.len().min(most)], &[own]].concat()
+    };
+    let mut words: Vec<Vec<u8>> = (3..).zip(&parts).map(side_of).collect();
+    words.insert(chance.below(4), parts.concat());
+    Book::new(6, words)
+}
+
 /// One or two short relations over two to six letters, for breadth-first search.
 pub fn small(chance: &mut Chance) -> Book {
     let letters = chance.between(2, 6) as u8;
@@ -260,6 +279,11 @@ pub fn of_two_letters(n: usize) -> impl Iterator<Item = Book> {
     // a word is numbered by its binary digits behind a leading 1, so shorter words come first
     let word = |number: usize| -> Vec<u8> { (0..number.ilog2()).rev().map(|digit| (number >> digit & 1) as u8).collect() };
     (1 << n..2 << n).flat_map(move |right| (2..right).map(move |left| Book::new(2, vec![word(left), word(right)])))
+}
+
+/// One relation whose sides are alike but for their last letters: the search for three pieces tries every pair of cuts, and takes most of the check.
+pub fn longest_search() -> Book {
+    Book::new(3, [1, 2].map(|last| [&[0; 63][..], &[last]].concat()).to_vec())
 }
 
 /// 32 relations of 64 and 64 random letters.
