@@ -32,8 +32,8 @@ fn pieces_behind(longest: &[u8], start: usize, n: u8, i: u8, j: u8) -> bool
     false
 }
 
-// The word of n letters from `start` on is a product of three pieces, perhaps empty, cut at i and at j. The empty word is such a product; in any other no cut has to be tried at
-// the end, since an empty last part may as well be the middle one: so both loops are left at n.
+// The word of n letters from `start` on is a product of three pieces, perhaps empty, cut at i and at j. The empty word is such a product; in any other no cut has
+// to be tried at the end, since an empty last part may as well be the middle one. So both loops are left at n.
 fn three_pieces(longest: &[u8], start: usize, n: u8) -> bool
     requires { ⌜ Covered (now longest) start n × (n ≤ wordMost) ⌝ }
     ensures { λ r. ⌜ r ≡ three (held (now (longest .entry)) start) n ⌝ }
