@@ -127,7 +127,7 @@ fn checks(all: &mut Vec<Case>, chance: &mut Chance) {
     for relations in [1, 2, 4, 8, 16, 32] {
         all.push(check(GROWTH_OF_CHECK, format!("{relations} relations of 64 and 64 letters"), &books::long_random(chance, relations)));
     }
-    all.push(check(GROWTH_OF_CHECK, "1 relation, a front of 63 letters shared: the longest search for three pieces", &books::longest_search()));
+    all.push(check(GROWTH_OF_CHECK, "1 relation, sides alike but for their last letters", &books::longest_search()));
     all.push(check(GROWTH_OF_CHECK, "book Q", &q()));
 }
 
