@@ -124,7 +124,7 @@ static void book_q(size_t length)
     }
 }
 
-/* one rule whose sides are alike but for their last steps: the search for three pieces tries every pair of cuts, and takes most of the check */
+/* one rule whose sides are alike but for their last steps: the search for three pieces tries every pair of cuts, and is half of the check's work */
 static void shared_front(void)
 {
     book = vanecitron_book_begin(bytes, sizeof bytes, 3);

@@ -35,8 +35,9 @@ pub fn generated_books(trial: &mut Trial, chance: &mut Chance, cases: usize) {
     }
 }
 
-/// Sheets of books whose sides are products of few pieces, of many and of none, and at their longest of three with cuts anywhere, in buffers of every size within a side's bytes of theirs, of three bytes
-/// a side, and of a few at random. A book is accepted just where every number is at least 4, and refused at the lowest side whose number is not.
+/// Sheets of books whose sides are products of few pieces, of many and of none, and at their longest of three with cuts anywhere or just not, in buffers of every
+/// size within a side's bytes of theirs, of three bytes a side, and of a few at random. A book is accepted just where every number is at least 4, and refused at
+/// the lowest side whose number is not.
 pub fn sheets(trial: &mut Trial, chance: &mut Chance, cases: usize) {
     let kinds = [books::of_many_numbers, books::of_many_numbers, books::of_three_parts, books::small, books::any];
     for case in 0..cases {

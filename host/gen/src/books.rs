@@ -281,7 +281,7 @@ pub fn of_two_letters(n: usize) -> impl Iterator<Item = Book> {
     (1 << n..2 << n).flat_map(move |right| (2..right).map(move |left| Book::new(2, vec![word(left), word(right)])))
 }
 
-/// One relation whose sides are alike but for their last letters: the search for three pieces tries every pair of cuts, and takes most of the check.
+/// One relation whose sides are alike but for their last letters: the search for three pieces tries every pair of cuts, and is half of the check's work.
 pub fn longest_search() -> Book {
     Book::new(3, [1, 2].map(|last| [&[0; 63][..], &[last]].concat()).to_vec())
 }
