@@ -20,7 +20,7 @@ use Rattle.layout.specs.Places.{wordsMost, wordMost, textRoom, startCell, xEndC
 use Rattle.layout.specs.Layout.{Laid, Cut, wordsIn, startOf, xEndOf, zStartOf, piecesOf, endOf}
 use Rattle.layout.proofs.Placed.{word-length, end-before, words-of-places, laid-of-places}
 use Rattle.longest.specs.Longest.{longestAt, Tabled}
-use Rattle.loose.specs.Pieces.{Fenced, InTables, AllInTables}
+use Rattle.loose.specs.Pieces.{held, CutPoints, Fenced, InTables, AllInTables}
 use Rattle.cuts.specs.Cutting.{xBy, tailBy, zBy, cutWord, Tail, OnlyCuts, CutBy}
 use Rattle.loose.proofs.Fences.{longest-inside, piece-longest}
 use Rattle.loose.proofs.Lowest.{cells-start, length-small}
@@ -46,12 +46,12 @@ module _ (longest : List ℕ) (start n a : ℕ) (s : Tailing longest start n a) 
       omega (arith, e, h)
 
   module _ (h : a < n) where
-    pub tail-asked : (w : ℕ) → w ≡ a → (start + w < length longest) × (n - a ≤ wordMost)
-    tail-asked w d = let k = s .tail .inside in let l = s .short in (omega (arith, d, h, k), omega (arith, l))
+    pub tail-asked : CutPoints longest start n a n × (n ≤ wordMost)
+    tail-asked = (record { inside = s .tail .inside; low = omega (arith, h); high = omega arith }, s .short)
 
-    module _ (w : ℕ) (d : w ≡ a) (r : Bool) (e : r ≡ leb (n - a) (getD longest (start + w) 0)) where
+    module _ (r : Bool) (e : r ≡ held longest start a (n - a)) where
       here : leb (n - a) (getD longest (start + n - (n - a)) 0) ≡ r
-      here = ap (λ k. leb (n - a) (getD longest k 0)) (omega (arith, d, h)) ∙ sym e
+      here = ap (λ k. leb (n - a) (getD longest k 0)) (omega (arith, h)) ∙ sym e
 
       pub tail-found : r ≡ true → a ≡ n - tailBy longest start (start + n)
       tail-found t = tail-is (λ l. here ∙ t)

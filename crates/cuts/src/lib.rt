@@ -9,7 +9,7 @@ ghost use Rattle.cuts.specs.Cutting.{Tail, tailBy, xBy, zBy, cutWord, Cu
 use layout::Table;
 use layout::length_of;
 use layout::start_of;
-use loose::piece;
+use loose::is_piece;
 use numbers::narrow;
 use numbers::wide;
 use products::number_of;
@@ -21,7 +21,7 @@ fn tail_start(longest: &[u8], start: usize, n: u8) -> u8
 {
     let mut a = 0;
     while a < n {
-        if piece(longest, start + wide(a), n - a) {
+        if is_piece(longest, start, a, n) {
             return a;
         }
         a += 1;
