@@ -1,5 +1,5 @@
--- The search for three pieces, by two cut points: what it knows at the head of each loop, and a law for each way on. Both cut points and the length are at most
--- 64, and a loop is left with its cut point at the length.
+-- The search for three pieces, by two cut points: what it knows at the head of each loop, and a law for each way on. Both cut points are at most
+-- the length, also when their loops are left, and the length is at most 64.
 use Prim.Native.Nat.{ℕ, _+_, _-_, _<_, _≤_}
 use mathlib.Core.Bool.{Bool, true, false, _&&_, and-false, and-eq-true-iff, true≢false}
 use mathlib.Core.List.{List}
@@ -10,7 +10,7 @@ use native.Mathlib.Decide.{decLt, ℕ-discrete}
 use borrow.Author.Needs.{needs}
 use borrow.Author.Tests.{eq-eqb, ne-eqb, le-leb, lt-leb, leb-true}
 use lib.Dec.{eqb, leb}
-use lib.ListN.{length, getD}
+use lib.ListN.{getD}
 use Rattle.words.specs.Search.{anyBelow}
 use Rattle.words.proofs.Tests.{false-of}
 use Rattle.words.proofs.Searching.{NoneBelow, none-start, none-more, none-all, any-of}
@@ -75,8 +75,8 @@ pub outer-start : (longest : List ℕ) (start n : ℕ) (found : Bool) → Covere
 outer-start longest start n found s e = record { span = s .0; short = s .1; upto = omega arith; absent = e; none = none-start _ }
 
 module _ (longest : List ℕ) (start n i : ℕ) (found : Bool) (o : Outer longest start n i found) where
-  -- no first cut is at i or behind it
-  none-found : NoneBelow (first longest start n) (n + 1) → (0 < n) → found ≡ three (held longest start) n
+  -- a word that has letters and no first cut is no product of three pieces
+  none-found : NoneBelow (first longest start n) (n + 1) → 0 < n → found ≡ three (held longest start) n
   unfolding three
   none-found none h = o .absent ∙ ne-eqb n 0 (λ e. absurd (omega (arith, e, h))) ∙ sym (none-all (first longest start n) (n + 1) none)
 

@@ -18,8 +18,8 @@ pub fn is_piece(longest: &[u8], start: usize, a: u8, b: u8) -> bool
     b - a <= longest[start + wide(a)]
 }
 
-// The word of n letters from `start` on is a product of three pieces, perhaps empty, cut at i and at j. A part that is no piece is the start of none, so that a loop ends
-// with it. The empty word is such a product; in any other no cut has to be tried at the end, since an empty last part may as well be the middle one.
+// The word of n letters from `start` on is a product of three pieces, perhaps empty, cut at i and at j. A part that is no piece is the start of none, so that a
+// loop ends with it. The empty word is such a product; in any other no cut has to be tried at the end, since an empty last part may as well be the middle one.
 fn three_pieces(longest: &[u8], start: usize, n: u8) -> bool
     requires { ⌜ Covered (now longest) start n × (n ≤ wordMost) ⌝ }
     ensures { λ r. ⌜ r ≡ three (held (now (longest .entry)) start) n ⌝ }
