@@ -52,7 +52,7 @@ HEADER_NAMES = {"SHEET": "SHEET_MOST", "LEAST": "LEAST_MOST"}
 TOOL_NAMES = {"SHEET_SIDE", "NO_PRODUCT"}
 
 # the specification's word for a case of `Refusal` whose name is another; the macro and the reason are named by the word
-WORDS = {"UnknownLetter": "unknown step", "TooMany": "thick", "Repeated": "twice"}
+WORDS = {"UnknownLetter": "unknown step", "TooMany": "thick"}
 
 C_TYPES = {"u32": "uint32_t", "u64": "uint64_t"}
 
@@ -185,14 +185,14 @@ def refusals(header):
     yield from lines
     expected = {number: WORDS.get(case, re.sub(r"(?<!^)([A-Z])", r" \1", case).lower()) for case, number in numbers.items()}
     texts = {macro: (word, text) for macro, word, text in re.findall(r'case VANECITRON_(\w+): return "([^":]*): ([^"]*)";', HEADER)}
-    listed = re.findall(r'^    \(Reason::(\w+), "([^"]*)", "([^"]*)"\),', REASONS, re.M)
+    listed = {int(number): told for number, *told in re.findall(r'^    \((\d+), Reason::(\w+), "([^"]*)", "([^"]*)"\),', REASONS, re.M)}
     variants = re.findall(r"^    (\w+),$", re.search(r"^pub enum Reason \{\n(.*?)^\}", REASONS, re.M | re.S)[1], re.M)
     told = dict(re.findall(r'def refusal_(\d+)\(.*?return f?"([a-z ]+):', TOOL, re.S))
     names = {number: word.upper().replace(" ", "_") for number, word in expected.items()}
 
     for number, word in sorted(expected.items()):
         macro, reason = names[number], word.title().replace(" ", "")
-        in_rust = listed[number - 1] if number <= len(listed) else (None, None, None)
+        in_rust = listed.get(number, (None, None, None))
         yield from differ(f"refusal {number}", number, {f"VANECITRON_{macro} of the header": header.get(macro)})
         yield from differ(f"the word of refusal {number}", word, {
             "vanecitron_refusal_text": texts.get(macro, (None, None))[0],
@@ -207,7 +207,7 @@ def refusals(header):
         if known != len(expected):
             yield f"there are {len(expected)} refusals: of {where} there are {known}"
     section = re.search(r"^## Refusals by number\n(.*?)^##", SPECIFICATION.read_text(), re.M | re.S)[1]
-    table = {int(number): word for number, word in re.findall(r"^\| (\d+) \| ([a-z ]+) \|", section, re.M)}
+    table = {int(number): word for number, word in re.findall(r"^\| (\d+) \| ([a-z ]+) \|", section, re.M) if word != "not used"}
     yield from differ("the table of refusals", expected, {"docs/SPECIFICATION.md": table})
 
 

@@ -237,9 +237,9 @@ RUNS = ("first run", "second run")
 
 
 def pieces_of(sides):
-    """All pieces: runs found in two places of the sides, and the empty run (docs/SPECIFICATION.md)."""
+    """All pieces: runs found in two places of the distinct sides, and the empty run (docs/SPECIFICATION.md)."""
     once, twice = set(), {b""}
-    for side in sides:
+    for side in dict.fromkeys(sides):
         for start in range(len(side)):
             for end in range(start + 1, len(side) + 1):
                 (twice if side[start:end] in once else once).add(side[start:end])
@@ -381,12 +381,6 @@ class Explainer:
 
     def refusal_6(self, place, of):
         return f"thick: {self.name(self.record(place))} is one rule too many; a book has at most 32"
-
-    def refusal_7(self, place, of):
-        run, where = self.side(place)
-        if run is None or run not in self.sides[:place]:
-            return f"twice: {where}, equals an earlier side"
-        return f"twice: {where}, equals {self.side(self.sides.index(run))[1]}"
 
     def refusal_8(self, place, of):
         run, where = self.side(place)

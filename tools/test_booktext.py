@@ -200,8 +200,8 @@ class Explaining(unittest.TestCase):
         # side 3 is the right side of rule 2, on line 5
         self.check(self.TEXT, "refused 8 3\n", "rule 2, right side, on line 5, column 6", "product of three or fewer pieces: b, bb")
         self.check(self.TEXT, "refused 8 0\n", "rule 1, left side, on line 4, column 1", "three or fewer pieces")
-        self.check("letters 2\na = b\nab = b\n", "refused 7 3\n", "rule 2, right side, on line 3, column 6, equals rule 1, right side, on line 2, column 5")
-        self.check(self.TEXT, "refused 7 9\n", "does not have")
+        # a side that equals another is no piece for that reason: aa falls into two
+        self.check("letters 2\naa = aa\n", "refused 8 0\n", "rule 1, left side, on line 2, column 1", "product of three or fewer pieces: a, a")
         self.check(self.TEXT, "refused 8 9\n", "does not have")
 
     def test_bytes(self):

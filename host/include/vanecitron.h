@@ -35,7 +35,7 @@
  *   Each result has a refusal and a place. The refusal is 0 where the call was not refused; else it is one of the numbers below, and everything but
  *   refusal and place is 0. Where the call was not refused the place is 0. An outcome of 0 says nothing: a refused result, and one filled with zeros,
  *   reads as no answer, so that a caller who looks at the outcome alone is never told 'same' or 'different' by a refusal.
- *   If several refusals could apply, the one that is given is fixed: records of the book in turn, each in the order 1, 2, 6, 3, 4, 5; then 7, then 8;
+ *   If several refusals could apply, the one that is given is fixed: records of the book in turn, each in the order 1, 2, 6, 3, 4, 5; then 8;
  *   then 9 and 10 for u, for v, for p; then 12, or 14 of the least run; 11 last.
  */
 #ifndef VANECITRON_H
@@ -50,10 +50,10 @@ extern "C" {
 
 /* The version of this header; vanecitron_version gives that of the archive. */
 #define VANECITRON_VERSION_MAJOR 0u
-#define VANECITRON_VERSION_MINOR 4u
+#define VANECITRON_VERSION_MINOR 5u
 #define VANECITRON_VERSION_PATCH 0u
 #define VANECITRON_VERSION (10000u * VANECITRON_VERSION_MAJOR + 100u * VANECITRON_VERSION_MINOR + VANECITRON_VERSION_PATCH)
-#define VANECITRON_VERSION_TEXT "0.4.0"
+#define VANECITRON_VERSION_TEXT "0.5.0"
 
 /* Limits: more than these is refused. */
 #define VANECITRON_LETTERS 64u           /* the most letters of a book; at least 1 */
@@ -100,8 +100,9 @@ extern "C" {
 #define VANECITRON_RANGE 4u         /* the number of letters, or of the steps of a side, is outside its range */
 #define VANECITRON_UNKNOWN_STEP 5u  /* a side has a step that is not below the number of letters */
 #define VANECITRON_THICK 6u         /* a 33rd rule */
-#define VANECITRON_TWICE 7u         /* a side equals an earlier side; place: the lowest such side */
-#define VANECITRON_LOOSE 8u         /* C(4) fails; place: the lowest side that is a product of three or fewer pieces */
+                                    /* 7 is not used: a side may equal an earlier one */
+#define VANECITRON_LOOSE 8u         /* C(4) fails; place: the lowest side that is a product of three or fewer pieces, which are
+                                       counted over the distinct sides */
 #define VANECITRON_LONG 9u          /* a given run is over its limit; place: 5000 times its number */
 #define VANECITRON_STRANGER 10u     /* a given run has a step that is not below the number of letters; place: 5000 times the run's number, plus the
                                        position of the first such step */
@@ -201,8 +202,8 @@ VANECITRON_AT(vanecitron_program_result, length, 16);
 uint32_t vanecitron_version(void);
 
 /*
- * Checks a book: it is accepted exactly when it is well-formed, within the limits, has no side twice, and meets C(4).
- * Refusals 1 to 8.
+ * Checks a book: it is accepted exactly when it is well-formed, within the limits, and its distinct sides meet C(4).
+ * Refusals 1 to 6 and 8.
  */
 vanecitron_check_result vanecitron_check(const uint8_t *book, size_t book_length);
 
@@ -216,7 +217,7 @@ vanecitron_check_result vanecitron_check(const uint8_t *book, size_t book_length
  * that the side is no product of pieces at all: it has a step that stands nowhere else in the sides. Any other number is at most 64.
  *
  * `sheet` is lent and has at least VANECITRON_SHEET(rules) bytes; VANECITRON_SHEET_MOST is enough for every book.
- * Refusals 1 to 8, 12.
+ * Refusals 1 to 6, 8, 12.
  */
 vanecitron_check_result vanecitron_cut_sheet(const uint8_t *book, size_t book_length, uint8_t *sheet, size_t sheet_length);
 
@@ -301,7 +302,6 @@ static inline const char *vanecitron_refusal_text(uint32_t refusal)
     case VANECITRON_RANGE: return "range: the number of letters, or of the steps of a side, is outside its range";
     case VANECITRON_UNKNOWN_STEP: return "unknown step: a side has a step that is not below the number of letters";
     case VANECITRON_THICK: return "thick: there is a rule too many";
-    case VANECITRON_TWICE: return "twice: a side equals an earlier side";
     case VANECITRON_LOOSE: return "loose: C(4) fails, since a side is a product of three or fewer pieces";
     case VANECITRON_LONG: return "long: a given run is over its limit";
     case VANECITRON_STRANGER: return "stranger: a given run has a step that is not below the number of letters";

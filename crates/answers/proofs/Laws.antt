@@ -7,15 +7,21 @@ use native.Mathlib.Omega.{arith}
 use borrow.Author.Needs.{needs}
 use borrow.Author.Tests.{lt-ltb, le-ltb, ltb-false}
 use lib.Dec.{ltb}
-use lib.ListN.{length}
+use lib.ListN.{length, getD}
 use mir.Val.{Fits}
 use mir.Syntax.{w64}
 use Rattle.words.specs.Words.{Word}
 use Rattle.writing.specs.Writing.{over}
 use Rattle.writing.proofs.Writing.{written-zero}
 use Rattle.words.specs.Relations.{relationWords}
-use Rattle.layout.specs.Places.{textRoom, tableRoom}
+use Rattle.words.specs.Families.{wordOfSide, wordsOf, familyOf}
+use Rattle.words.proofs.Relations.{length-words}
+use Rattle.words.proofs.Distinct.{distinct-right}
+use Rattle.layout.specs.Places.{countCell, textRoom, tableRoom}
 use Rattle.layout.specs.Layout.{wordsIn}
+use Rattle.layout.specs.Families.{sideWordOf, countOf, familyBy}
+use Rattle.layout.proofs.Placed.{words-length}
+use Rattle.layout.proofs.Links.{side-cell}
 use Rattle.refusals.specs.declared.Refusal.{Refusal}
 use Rattle.refusals.specs.declared.Refusal.the-variants.{Narrow}
 use Rattle.format.specs.declared.Reading.{Reading}
@@ -38,7 +44,7 @@ use Rattle.comparison.specs.declared.Comparison.the-variants as Comparisons
 use Rattle.moves.specs.State.{Ready}
 use Rattle.comparison.specs.Comparing.{comparisonOf}
 use Rattle.sheet.specs.Sheet.{cutSheet, sheetBytes, SheetRoom}
-use Rattle.sheet.proofs.Laws.{cuts-in, sheet-cut}
+use Rattle.sheet.proofs.Laws.{side-in, sheet-cut}
 use Rattle.answers.specs.declared.Verdict.the-variants as Verdicts
 use Rattle.answers.specs.declared.Round.{Round}
 use Rattle.answers.specs.declared.Printed.the-variants as Prints
@@ -94,55 +100,75 @@ module _ (book : List ℕ) (reading : Reading) (text table : List ℕ) (d : Book
     held : Holding book letters count text table
     held = d .held letters count e
 
-    pub loaded-fits : Fits w64 (2 * count)
-    loaded-fits = let h = held in omega (arith, h .within .fewRelations, h .many)
+    -- the words of the sides are known
+    sides-known : (s : ℕ) → s < 2 * count → sideWordOf table s < countOf table
+    sides-known s h =
+        let k = held in
+        let sides = relationWords (k .presentation .relations) in
+        let n = length-words (k .presentation .relations) in
+        let l : s < length sides = omega (arith, n, k .many, h) in
+        let d = distinct-right sides .all s l .0 in
+        let e : sideWordOf table s ≡ wordOfSide sides s = sym (side-cell table (2 * count) s h) ∙ ap (λ (S : List ℕ). getD S s 0) (k .sides) in
+        let c = ap length (k .words) in
+        omega (arith, d, e, c, words-length text table (countOf table))
 
-    pub loaded-ready : Ready text table (2 * count)
-    loaded-ready =
-        let h = held in
-        record { paired = record { checked = h .checked; even = omega arith }; text-short = omega (arith, d .memory .textRoomy) }
+    pub loaded-room : countCell < length table
+    loaded-room = omega (arith, held .grouped .checked .indexed .room)
+
+    pub loaded-ready : Ready text table (countOf table)
+    loaded-ready = record { grouped = held .grouped; text-short = omega (arith, d .memory .textRoomy) }
 
     pub loaded-sheet : SheetReady table count
     loaded-sheet =
         let h = held in
-        record { cuts = cuts-in text table (2 * count) (h .checked); few = omega (arith, h .within .fewRelations, h .many) }
+        let few : count ≤ 32 = omega (arith, h .within .fewRelations, h .many) in
+        record { sides = λ s l. side-in text table (countOf table) (h .grouped .checked) s (omega (arith, few, l)) (sides-known s l); few = few }
 
     pub sheet-loaded : (sheet : List ℕ) (x : SheetOutcome) → x ≡ acceptedSheet table count sheet → x ≡ sheetOf book sheet
     unfolding sheetOf acceptedSheet
     sheet-loaded sheet x f =
         let h = held in
-        let s : sheetBytes table (2 * count) ≡ cutSheet (relationWords (h .presentation .relations)) = sheet-cut text table (2 * count) (h .checked) ∙ ap cutSheet (h .words) in
+        let sides = relationWords (h .presentation .relations) in
+        let n = length-words (h .presentation .relations) in
+        let s : sheetBytes table (2 * count) ≡ cutSheet sides =
+        sheet-cut text table (countOf table) (h .grouped .checked) (2 * count) sides-known sides (omega (arith, n, h .many)) (h .words) (h .sides) in
         let q : sheetOf book sheet ≡ acceptedSheet table count sheet = rw (h .is, ← h .many, s) in
         f ∙ sym q
 
-    pub compare-loaded : (u v : Word) (allowance : ℕ) (x : Comparison) → x ≡ comparisonOf letters (wordsIn text table (2 * count)) u v allowance
-        → Compared book u v allowance (ofComparison x)
+    pub compare-loaded : (u v : Word) (allowance : ℕ) (x : Comparison)
+        → x ≡ comparisonOf letters (wordsIn text table (countOf table)) (familyBy table (countOf table)) u v allowance → Compared book u v allowance (ofComparison x)
     unfolding compareOf
     compare-loaded u v allowance x f =
         let h = held in
-        let q : compareOf book u v allowance ≡ ofComparison (comparisonOf (h .presentation .letters) (relationWords (h .presentation .relations)) u v allowance) = rw (h .is) in
-        let g : x ≡ comparisonOf (h .presentation .letters) (relationWords (h .presentation .relations)) u v allowance = f ∙ rw (h .words, ← h .lettered) in
+        let B = wordsOf (h .presentation .relations) in
+        let F = familyOf (h .presentation .relations) in
+        let q : compareOf book u v allowance ≡ ofComparison (comparisonOf (h .presentation .letters) B F u v allowance) = rw (h .is) in
+        let g : x ≡ comparisonOf (h .presentation .letters) B F u v allowance = f ∙ rw (h .words, h .families, ← h .lettered) in
         compared book u v allowance (ofComparison x) (ap ofComparison g ∙ sym q)
 
-    pub round-loaded : (u v p nextU nextV nextP : List ℕ) (x : RoundOutcome) → x ≡ loadedRound letters (wordsIn text table (2 * count)) u v p nextU nextV nextP
-        → x ≡ roundOf book u v p nextU nextV nextP
+    pub round-loaded : (u v p nextU nextV nextP : List ℕ) (x : RoundOutcome)
+        → x ≡ loadedRound letters (wordsIn text table (countOf table)) (familyBy table (countOf table)) u v p nextU nextV nextP → x ≡ roundOf book u v p nextU nextV nextP
     unfolding roundOf
     round-loaded u v p nextU nextV nextP x f =
         let h = held in
-        let g = rw (h .words) at f in
-        let q : roundOf book u v p nextU nextV nextP ≡ loadedRound letters (relationWords (h .presentation .relations)) u v p nextU nextV nextP = rw (h .is, ← h .lettered) in
+        let B = wordsOf (h .presentation .relations) in
+        let F = familyOf (h .presentation .relations) in
+        let g = rw (h .words, h .families) at f in
+        let q : roundOf book u v p nextU nextV nextP ≡ loadedRound letters B F u v p nextU nextV nextP = rw (h .is, ← h .lettered) in
         g ∙ sym q
 
-    pub loaded-letters : LeastLoaded text table (2 * count) letters
+    pub loaded-letters : LeastLoaded text table (countOf table) letters
     loaded-letters = let h = held in record { ready = loaded-ready; few = omega (arith, h .within .few, h .lettered) }
 
-    pub least-loaded : (u buffer : List ℕ) (offset : ℕ) (x : LeastOutcome) → x ≡ loadedLeast letters (wordsIn text table (2 * count)) u buffer offset
-        → LeastAnswered book u buffer offset x
+    pub least-loaded : (u buffer : List ℕ) (offset : ℕ) (x : LeastOutcome)
+        → x ≡ loadedLeast letters (wordsIn text table (countOf table)) (familyBy table (countOf table)) u buffer offset → LeastAnswered book u buffer offset x
     unfolding leastOf
     least-loaded u buffer offset x f =
         let h = held in
-        let g = rw (h .words) at f in
-        let q : leastOf book u buffer offset ≡ loadedLeast letters (relationWords (h .presentation .relations)) u buffer offset = rw (h .is, ← h .lettered) in
+        let B = wordsOf (h .presentation .relations) in
+        let F = familyOf (h .presentation .relations) in
+        let g = rw (h .words, h .families) at f in
+        let q : leastOf book u buffer offset ≡ loadedLeast letters B F u buffer offset = rw (h .is, ← h .lettered) in
         least-answered book u buffer offset x (g ∙ sym q)
 
 pub memory-made : (text table : List ℕ) → length text ≡ textRoom → length table ≡ tableRoom → Memory text table
@@ -152,11 +178,11 @@ pub ruleset checks = (memory-made, check-refused, check-accepted, needs)
 
 pub ruleset cutSheets = (memory-made, sheet-refused, loaded-sheet, sheet-loaded, needs)
 
-pub ruleset compares = (memory-made, compare-refused, loaded-fits, loaded-ready, compare-loaded, needs)
+pub ruleset compares = (memory-made, compare-refused, loaded-room, loaded-ready, compare-loaded, needs)
 
-pub ruleset singles = (memory-made, round-refused, loaded-fits, loaded-ready, round-loaded, needs)
+pub ruleset singles = (memory-made, round-refused, loaded-room, loaded-ready, round-loaded, needs)
 
-pub ruleset leasts = (memory-made, least-unread, loaded-fits, loaded-letters, least-loaded, needs)
+pub ruleset leasts = (memory-made, least-unread, loaded-room, loaded-letters, least-loaded, needs)
 
 -- the sheet by the table
 module _ (table : List ℕ) (count : ℕ) (s : SheetReady table count) (sheet : List ℕ) where
@@ -171,7 +197,7 @@ module _ (table : List ℕ) (count : ℕ) (s : SheetReady table count) (sheet : 
   sheet-narrow h = rw (lt-ltb _ _ h)
 
   pub sheet-roomy : sheetColumns * (2 * count) ≤ length sheet → SheetRoom table (2 * count) sheet
-  sheet-roomy h = record { cuts = s .cuts; place = omega arith; few = omega (arith, s .few) }
+  sheet-roomy h = record { sides = s .sides; place = omega arith; few = omega (arith, s .few) }
 
   pub sheet-written : (out : List ℕ) → sheetColumns * (2 * count) ≤ length sheet → out ≡ over (sheetBytes table (2 * count)) sheet
       → SheetOutcome.after (ofVerdict (Verdicts.Accepted count)) out ≡ acceptedSheet table count sheet
@@ -226,14 +252,14 @@ fine-asked letters u v p roomU roomV roomP e =
 -- a round under a loaded book
 module _ (text table : List ℕ) (n letters : ℕ) (u v p nextU nextV nextP : List ℕ) (g : Given) (e : g ≡ askedOf letters u v p (length nextU) (length nextV) (length nextP)) where
   pub loaded-refused : (r : Refusal) → g ≡ Words.Refused r
-      → RoundOutcome.after (ofRound (Rounds.Refused r)) nextU nextV nextP ≡ loadedRound letters (wordsIn text table n) u v p nextU nextV nextP
+      → RoundOutcome.after (ofRound (Rounds.Refused r)) nextU nextV nextP ≡ loadedRound letters (wordsIn text table n) (familyBy table n) u v p nextU nextV nextP
   unfolding loadedRound
   loaded-refused r f = rw (← e, f)
 
   pub loaded-lent : Ready text table n → g ≡ Words.Fine → Lent text table n u v p nextU nextV nextP
   loaded-lent r f =
       let k = fine-asked letters u v p (length nextU) (length nextV) (length nextP) (sym e ∙ f) in
-      record { given = record { paired = r .paired; shortU = k .0; shortV = k .1; shortP = k .2 }; roomU = k .3; roomV = k .4; roomP = k .5 }
+      record { given = record { grouped = r .grouped; shortU = k .0; shortV = k .1; shortP = k .2 }; roomU = k .3; roomV = k .4; roomP = k .5 }
 
   -- the round's outcome in document 01's words
   written : (x : Next) (s : RoundLengths) (nextU′ nextV′ nextP′ : List ℕ) → Writing.after s nextU′ nextV′ nextP′ ≡ writtenBy x nextU nextV nextP
@@ -253,10 +279,10 @@ module _ (text table : List ℕ) (n letters : ℕ) (u v p nextU nextV nextP : Li
       rw (es, ea, ec, ed)
 
   pub loaded-made : g ≡ Words.Fine → (s : RoundLengths) (nextU′ nextV′ nextP′ : List ℕ)
-      → Writing.after s nextU′ nextV′ nextP′ ≡ writtenBy (round (wordsIn text table n) u v p) nextU nextV nextP
-      → (r : Round) → r ≡ answeredRound s → RoundOutcome.after (ofRound r) nextU′ nextV′ nextP′ ≡ loadedRound letters (wordsIn text table n) u v p nextU nextV nextP
+      → Writing.after s nextU′ nextV′ nextP′ ≡ writtenBy (round (wordsIn text table n) (familyBy table n) u v p) nextU nextV nextP
+      → (r : Round) → r ≡ answeredRound s → RoundOutcome.after (ofRound r) nextU′ nextV′ nextP′ ≡ loadedRound letters (wordsIn text table n) (familyBy table n) u v p nextU nextV nextP
   unfolding loadedRound
-  loaded-made f s nextU′ nextV′ nextP′ q r h = rw (h, ← e, f) (written (round (wordsIn text table n) u v p) s nextU′ nextV′ nextP′ q)
+  loaded-made f s nextU′ nextV′ nextP′ q r h = rw (h, ← e, f) (written (round (wordsIn text table n) (familyBy table n) u v p) s nextU′ nextV′ nextP′ q)
 
 pub ruleset loadeds = (loaded-refused, loaded-lent, loaded-made, needs)
 

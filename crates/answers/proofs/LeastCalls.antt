@@ -12,6 +12,7 @@ use lib.Seq.{take-all}
 use Rattle.words.specs.Words.{Word}
 use Rattle.writing.specs.Writing.{over}
 use Rattle.layout.specs.Layout.{wordsIn}
+use Rattle.layout.specs.Families.{familyBy}
 use Rattle.limits.specs.Limits.{comparedMost}
 use Rattle.refusals.specs.declared.Refusal.{Refusal}
 use Rattle.refusals.specs.declared.Refusal.the-variants.{NoSpace}
@@ -82,8 +83,8 @@ module _ (text table : List ℕ) (n : ℕ) (u : Word) (wide wide′ : List ℕ) 
   pub wide-asked : Asked text table n (take (length u) wide′)
   wide-asked = rw (x .same) (m .asked)
 
-  pub wide-placed : (offset : ℕ) (buffer : List ℕ) (o : LeastOutcome) → o ≡ placedAt offset (leastFor (wordsIn text table n) (take (length u) wide′)) buffer
-      → o ≡ placedAt offset (leastFor (wordsIn text table n) u) buffer
+  pub wide-placed : (offset : ℕ) (buffer : List ℕ) (o : LeastOutcome) → o ≡ placedAt offset (leastFor (wordsIn text table n) (familyBy table n) (take (length u) wide′)) buffer
+      → o ≡ placedAt offset (leastFor (wordsIn text table n) (familyBy table n) u) buffer
   wide-placed offset buffer o e = rw (x .same) at e
 
 pub ruleset widened = (wide-asked, wide-placed, needs)
@@ -91,13 +92,13 @@ pub ruleset widened = (wide-asked, wide-placed, needs)
 -- a given word
 module _ (text table : List ℕ) (n letters : ℕ) (u : Word) (g : Given) (e : g ≡ oneOf letters u) where
   pub least-refused : (buffer : List ℕ) (offset : ℕ) (r : Refusal) → g ≡ Words.Refused r
-      → LeastOutcome.after (ofLeast (Leasts.Refused r)) buffer ≡ loadedLeast letters (wordsIn text table n) u buffer offset
+      → LeastOutcome.after (ofLeast (Leasts.Refused r)) buffer ≡ loadedLeast letters (wordsIn text table n) (familyBy table n) u buffer offset
   unfolding loadedLeast
   least-refused buffer offset r f = sym (rw (sym e ∙ f))
 
   module _ (f : g ≡ Words.Fine) where
-    pub least-placed : (buffer : List ℕ) (offset : ℕ) (o : LeastOutcome) → o ≡ placedAt offset (leastFor (wordsIn text table n) u) buffer
-        → o ≡ loadedLeast letters (wordsIn text table n) u buffer offset
+    pub least-placed : (buffer : List ℕ) (offset : ℕ) (o : LeastOutcome) → o ≡ placedAt offset (leastFor (wordsIn text table n) (familyBy table n) u) buffer
+        → o ≡ loadedLeast letters (wordsIn text table n) (familyBy table n) u buffer offset
     unfolding loadedLeast
     least-placed buffer offset o h = rw (sym e ∙ f) h
 

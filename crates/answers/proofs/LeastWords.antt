@@ -11,13 +11,13 @@ use lib.Dec.{ltb}
 use lib.ListN.{length, getD, take, drop, length-append, length-drop, List·getD-append}
 use lib.Seq.{length-take-le, getD-take, getD-append-add, getD-drop, drop-at, take-at}
 use Rattle.words.specs.Words.{Word}
-use Rattle.words.specs.Relations.{relationWords}
+use Rattle.words.specs.Relations.{Relation, relationWords}
+use Rattle.words.specs.Families.{wordsOf, familyOf}
 use Rattle.overlap.specs.Pieces.{word}
 use Rattle.overlap.specs.Cuts.{longestSuffixPiece}
 use Rattle.congruence.specs.Congruence.{Congruent}
 use Rattle.least.specs.Order.{houseRank}
 use Rattle.least.specs.Least.{LeastWord}
-use Rattle.least.specs.Possible.{relationOf}
 use Rattle.least.specs.Writing.{found, wordOf, leastBehind}
 use Rattle.least.specs.Theorem.{longestWord, LeastWords}
 use Rattle.least.proofs.Order.{house-injective}
@@ -104,54 +104,59 @@ written-back w old offset m buffer e = go (ltb (length old) offset) refl (ltb (l
         let a = before-long w old offset (omega (arith, ltb-false (length old) offset q, ltb-false (length old - offset) (length w) f)) in
         rw (← n, ← b, drop-at (take offset old) (over w (drop offset old)) offset a) (take-at w (drop (length w) (drop offset old)) (length w) refl)
 
--- under relation words of which least words exist
-module _ (B : List Word) (l : LeastWords B houseRank) where
-  pub least-for : (u : Word) → LeastWord B houseRank u (leastFor B u)
+-- under relations of which least words exist
+module _ (relations : List Relation) (l : LeastWords relations houseRank) where
+  -- the least word that the rounds write
+  abbrev pub leastUnder : Word → Word
+  leastUnder u = leastFor (wordsOf relations) (familyOf relations) u
+
+  pub least-for : (u : Word) → LeastWord (relationWords relations) houseRank u (leastUnder u)
   unfolding leastFor
   least-for u =
       let w = l .exists u in
-      let e : leastBehind B relationOf houseRank [] u ≡ found (w .0) = l .computed u (w .0) .1 (w .1) in
-      let f : wordOf (leastBehind B relationOf houseRank [] u) ≡ w .0 = rw e in
-      subst (λ (x : Word). LeastWord B houseRank u x) (sym f) (w .1)
+      let e : leastBehind (wordsOf relations) (familyOf relations) houseRank [] u ≡ found (w .0) = l .computed u (w .0) .1 (w .1) in
+      let f : wordOf (leastBehind (wordsOf relations) (familyOf relations) houseRank [] u) ≡ w .0 = rw e in
+      subst (λ (x : Word). LeastWord (relationWords relations) houseRank u x) (sym f) (w .1)
 
-  writes-least : (u : Word) → longestWord B ≤ sideMost → length u ≤ comparedMost → (old : List ℕ) (offset : ℕ) (outcome : LeastOutcome)
-      → outcome ≡ placedAt offset (leastFor B u) old → WritesLeast B u old offset outcome
+  writes-least : (u : Word) → longestWord (wordsOf relations) ≤ sideMost → length u ≤ comparedMost → (old : List ℕ) (offset : ℕ) (outcome : LeastOutcome)
+      → outcome ≡ placedAt offset (leastUnder u) old → WritesLeast (relationWords relations) u old offset outcome
   writes-least u short few old offset outcome e =
       record {
-        word = leastFor B u;
+        word = leastUnder u;
         least = least-for u;
-        only = λ w m. l .unique u w (leastFor B u) m (least-for u);
-        roomy = λ h. subst (λ (o : LeastOutcome). Placed (leastFor B u) old offset o) (sym e) (placed-word (leastFor B u) old offset h);
-        narrow = λ h. e ∙ placed-nowhere (leastFor B u) old offset h;
-        short = omega (arith, l .short u (leastFor B u) (least-for u), mul-le-mul short few);
+        only = λ w m. l .unique u w (leastUnder u) m (least-for u);
+        roomy = λ h. subst (λ (o : LeastOutcome). Placed (leastUnder u) old offset o) (sym e) (placed-word (leastUnder u) old offset h);
+        narrow = λ h. e ∙ placed-nowhere (leastUnder u) old offset h;
+        short = omega (arith, l .short u (leastUnder u) (least-for u), mul-le-mul short few);
       }
 
   -- a comparison that is allowed enough rounds
-  same-when-equal : (u v : Word) (allowance : ℕ) (answer : Answer) → Decides B u v allowance answer → (longestSuffixPiece B + 1) * length u ≤ allowance
-      → ((rounds : ℕ) × (answer ≡ same rounds)) ↔ (leastFor B u ≡ leastFor B v)
+  same-when-equal : (u v : Word) (allowance : ℕ) (answer : Answer) → Decides relations u v allowance answer → (longestSuffixPiece (wordsOf relations) + 1) * length u ≤ allowance
+      → ((rounds : ℕ) × (answer ≡ same rounds)) ↔ (leastUnder u ≡ leastUnder v)
   same-when-equal u v allowance answer d h =
-      let k = l .decides u v (leastFor B u) (leastFor B v) (least-for u) (least-for v) in
+      let k = l .decides u v (leastUnder u) (leastUnder v) (least-for u) (least-for v) in
       ((λ a. k .0 (congruent (a .0) (a .1) (d .only))), (λ a. (d .rounds, d .joins .1 (omega (arith, d .closer .0), k .1 a))))
     where
-      congruent : (n : ℕ) → answer ≡ same n → (answer ≡ refused 11 allowance) ⊎ ((answer ≡ same (d .rounds)) ⊎ (answer ≡ different (d .rounds))) → Congruent B u v
+      congruent : (n : ℕ) → answer ≡ same n → (answer ≡ refused 11 allowance) ⊎ ((answer ≡ same (d .rounds)) ⊎ (answer ≡ different (d .rounds)))
+          → Congruent (relationWords relations) u v
       congruent n e (inl f) = let z : _≡_ {A = ℕ} 0 1 = cc in absurd (omega arith)
       congruent n e (inr (inl f)) = d .joins .0 f .1
       congruent n e (inr (inr f)) = let z : _≡_ {A = ℕ} 0 1 = cc in absurd (omega arith)
 
 -- an accepted book and a word that is fine
 placed-least : (book : List ℕ) (u : Word) (old : List ℕ) (offset : ℕ) (p : Presentation) → loadBook book ≡ BookReading.read p → oneOf (p .letters) u ≡ Words.Fine
-    → leastOf book u old offset ≡ placedAt offset (leastFor (relationWords (p .relations)) u) old
+    → leastOf book u old offset ≡ placedAt offset (leastFor (wordsOf (p .relations)) (familyOf (p .relations)) u) old
 unfolding leastOf loadedLeast
 placed-least book u old offset p e f = rw (e, f)
 
-loaded-least : (book : List ℕ) (p : Presentation) → loadBook book ≡ BookReading.read p → LeastWords (relationWords (p .relations)) houseRank
+loaded-least : (book : List ℕ) (p : Presentation) → loadBook book ≡ BookReading.read p → LeastWords (p .relations) houseRank
 loaded-least book p e = least-words-decide (p .relations) (loaded-c4 book p e) houseRank house-injective
 
 pub least-written : LeastWritten
 least-written book u old offset p e f =
-    let B = relationWords (p .relations) in
+    let B = wordsOf (p .relations) in
     let s = longest-bound B sideMost (length B) (λ i h. loaded-short book p e i) in
-    writes-least B (loaded-least book p e) u (omega arith) (fine-short 0 comparedMost (p .letters) u f) old offset (leastOf book u old offset) (placed-least book u old offset p e f)
+    writes-least (p .relations) (loaded-least book p e) u (omega arith) (fine-short 0 comparedMost (p .letters) u f) old offset (leastOf book u old offset) (placed-least book u old offset p e f)
 
 -- what is the definition's outcome is all that the least word promises
 pub least-answered : (book : List ℕ) (u : Word) (old : List ℕ) (offset : ℕ) (outcome : LeastOutcome) → outcome ≡ leastOf book u old offset → LeastAnswered book u old offset outcome
@@ -161,10 +166,11 @@ least-answered book u old offset outcome e =
 pub least-decides : LeastDecides
 unfolding pairOf
 least-decides book u v p e f old offset m buffer g old′ offset′ m′ buffer′ g′ allowance h =
-    let B = relationWords (p .relations) in
+    let B = wordsOf (p .relations) in
+    let F = familyOf (p .relations) in
     let both = fine-both (givenOf 0 comparedMost (p .letters) u) (givenOf 1 comparedMost (p .letters) v) f in
-    let first = written-back (leastFor B u) old offset m buffer (sym (placed-least book u old offset p e (both .0)) ∙ g) in
-    let second = written-back (leastFor B v) old′ offset′ m′ buffer′ (sym (placed-least book v old′ offset′ p e (fine-again 1 0 comparedMost (p .letters) v (both .1))) ∙ g′) in
+    let first = written-back (leastFor B F u) old offset m buffer (sym (placed-least book u old offset p e (both .0)) ∙ g) in
+    let second = written-back (leastFor B F v) old′ offset′ m′ buffer′ (sym (placed-least book v old′ offset′ p e (fine-again 1 0 comparedMost (p .letters) v (both .1))) ∙ g′) in
     let d = compared book u v allowance (compareOf book u v allowance) refl .decides p e f in
-    let k = same-when-equal B (loaded-least book p e) u v allowance (compareOf book u v allowance) d h in
+    let k = same-when-equal (p .relations) (loaded-least book p e) u v allowance (compareOf book u v allowance) d h in
     ((λ a. first ∙ k .0 a ∙ sym second), (λ a. k .1 (sym first ∙ a ∙ second)))

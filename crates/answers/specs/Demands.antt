@@ -9,11 +9,12 @@ use mathlib.Core.Path.{_≡_}
 use lib.ListN.{length, getD, take, drop}
 use Rattle.words.specs.Words.{Word}
 use Rattle.words.specs.Relations.{Relation, relationWords}
+use Rattle.words.specs.Families.{distinctWords, wordOfSide, wordsOf, familyOf}
 use Rattle.overlap.specs.Pieces.{word, IsPiece, C4}
 use Rattle.overlap.specs.Cuts.{longestSuffixPiece}
 use Rattle.overlap.specs.Counts.{PieceCount, pieces, number, FewestPieces}
 use Rattle.overlap.specs.Maximal.{MaximalPiecePrefix, MaximalPieceSuffix}
-use Rattle.overlap.specs.Verdict.{IsRepeated, FewPieces, Lowest, Distinct}
+use Rattle.overlap.specs.Verdict.{FewPieces, Lowest}
 use Rattle.congruence.specs.Congruence.{Congruent}
 use Rattle.congruence.specs.Rounds.{Rounds}
 use Rattle.least.specs.Order.{houseRank}
@@ -26,40 +27,39 @@ use Rattle.given.specs.Given.{oneOf, pairOf}
 use Rattle.answers.specs.Answers.{Answer, accepted, same, different, wrote, refused}
 use Rattle.answers.specs.Entries.{checkOf, SheetOutcome, sheetOf, compareOf, LeastOutcome, leastOf}
 
--- demand 2, of a book that is well formed and within the limits: it is accepted exactly when it meets C(4); else it is refused by 7 at the lowest
--- relation word that equals an earlier one, or by 8 at the lowest that is a product of three or fewer pieces
+-- demand 2, of a book that is well formed and within the limits: it is accepted exactly when its distinct words meet C(4); else it is refused by 8 at the lowest
+-- side whose word is a product of three or fewer pieces
 pub record Accepts (relations : List Relation) (answer : Answer) : Type 0 where
-  pub accepts : (answer ≡ accepted (length relations)) ↔ C4 (relationWords relations)
-  pub repeated : (i : ℕ) → (answer ≡ refused 7 i) ↔ Lowest (length (relationWords relations)) (IsRepeated (relationWords relations)) i
-  pub loose : (i : ℕ) → (answer ≡ refused 8 i) ↔ (Distinct (relationWords relations) × Lowest (length (relationWords relations)) (FewPieces 4 (relationWords relations)) i)
+  pub accepts : (answer ≡ accepted (length relations)) ↔ C4 (wordsOf relations)
+  pub loose : (i : ℕ) → (answer ≡ refused 8 i) ↔ Lowest (length (relationWords relations)) (λ s. FewPieces 4 (wordsOf relations) (wordOfSide (relationWords relations) s)) i
   -- there is no other answer
-  pub only : (answer ≡ accepted (length relations)) ⊎ (((i : ℕ) × (answer ≡ refused 7 i)) ⊎ ((i : ℕ) × (answer ≡ refused 8 i)))
+  pub only : (answer ≡ accepted (length relations)) ⊎ ((i : ℕ) × (answer ≡ refused 8 i))
 
 abbrev pub Acceptance : Type 0
 Acceptance = (book : List ℕ) (presentation : Presentation) → readBook book ≡ BookReading.read presentation → Accepts (presentation .relations) (checkOf book)
 
--- demand 2, of relation word i and its row of bytes on a sheet: the lengths of its maximal piece prefix X, its middle word Y and its maximal piece suffix Z,
--- where Y is not empty and no piece; and its number of pieces, the smallest n such that it is a product of n pieces, or 255 where it is a product of no number
--- of them. It is at least four and, unless it is 255, at most 64, so that 255 stands for none alone
-pub record Reports (B : List Word) (sheet : List ℕ) (i : ℕ) : Type 0 where
+-- demand 2, of side s and its row of bytes on a sheet: the lengths of the maximal piece prefix X, the middle word Y and the maximal piece suffix Z of its word,
+-- where pieces are those of the distinct words, and Y is not empty and no piece; and its number of pieces, the smallest n such that it is a product of n pieces, or
+-- 255 where it is a product of no number of them. It is at least four and, unless it is 255, at most 64, so that 255 stands for none alone
+pub record Reports (sides : List Word) (sheet : List ℕ) (s : ℕ) : Type 0 where
   pub x : Word
   pub y : Word
   pub z : Word
-  pub whole : x ++ (y ++ z) ≡ word B i
-  pub first : MaximalPiecePrefix B i x
-  pub last : MaximalPieceSuffix B i z
+  pub whole : x ++ (y ++ z) ≡ word sides s
+  pub first : MaximalPiecePrefix (distinctWords sides) (wordOfSide sides s) x
+  pub last : MaximalPieceSuffix (distinctWords sides) (wordOfSide sides s) z
   pub some : 0 < length y
-  pub middle : ¬ IsPiece B y
+  pub middle : ¬ IsPiece (distinctWords sides) y
   pub count : PieceCount
-  pub fewest : FewestPieces B (word B i) count
+  pub fewest : FewestPieces (distinctWords sides) (word sides s) count
   pub small : (n : ℕ) → count ≡ pieces n → n ≤ sideMost
   pub enough : 4 ≤ number count
-  pub xByte : getD sheet (sheetColumns * i + sheetX) 0 ≡ length x
-  pub yByte : getD sheet (sheetColumns * i + sheetY) 0 ≡ length y
-  pub zByte : getD sheet (sheetColumns * i + sheetZ) 0 ≡ length z
-  pub piecesByte : getD sheet (sheetColumns * i + sheetPieces) 0 ≡ number count
+  pub xByte : getD sheet (sheetColumns * s + sheetX) 0 ≡ length x
+  pub yByte : getD sheet (sheetColumns * s + sheetY) 0 ≡ length y
+  pub zByte : getD sheet (sheetColumns * s + sheetZ) 0 ≡ length z
+  pub piecesByte : getD sheet (sheetColumns * s + sheetPieces) 0 ≡ number count
 
--- of the outcome for a lent buffer: the rows of all relation words are at its start, and its length and the bytes behind them are the old ones
+-- of the outcome for a lent buffer: the rows of all sides are at its start, and its length and the bytes behind them are the old ones
 pub record Sheeted (relations : List Relation) (old : List ℕ) (outcome : SheetOutcome) : Type 0 where
   pub sheet : List ℕ
   pub is : outcome ≡ SheetOutcome.after (accepted (length relations)) sheet
@@ -67,35 +67,35 @@ pub record Sheeted (relations : List Relation) (old : List ℕ) (outcome : Sheet
   pub kept : length sheet ≡ length old
   pub behind : (j : ℕ) → sheetColumns * length (relationWords relations) ≤ j → getD sheet j 0 ≡ getD old j 0
 
--- of every accepted book: the sheet is in the buffer exactly when that has a row of bytes for each relation word, else 12 and the old buffer
+-- of every accepted book: the sheet is in the buffer exactly when that has a row of bytes for each side, else 12 and the old buffer
 pub record CutsReported : Type 0 where
   pub roomy : (book old : List ℕ) (presentation : Presentation) → loadBook book ≡ BookReading.read presentation
       → sheetColumns * length (relationWords (presentation .relations)) ≤ length old → Sheeted (presentation .relations) old (sheetOf book old)
   pub narrow : (book old : List ℕ) (presentation : Presentation) → loadBook book ≡ BookReading.read presentation
       → length old < sheetColumns * length (relationWords (presentation .relations)) → sheetOf book old ≡ SheetOutcome.after (refused 12 0) old
 
--- demand 3, of two words under relation words B, an allowance and an answer
-pub record Decides (B : List Word) (u v : Word) (allowance : ℕ) (answer : Answer) : Type 0 where
+-- demand 3, of two words under relations, an allowance and an answer
+pub record Decides (relations : List Relation) (u v : Word) (allowance : ℕ) (answer : Answer) : Type 0 where
   -- the rounds of the two words: so many 'go on's and drops that the rows make up to their end, with no allowance to stop them
   pub rounds : ℕ
   pub result : Bool
-  pub made : Rounds B u v [] rounds result
+  pub made : Rounds (wordsOf relations) (familyOf relations) u v [] rounds result
   -- 'spent' exactly when the allowance is below the rounds
   pub spends : (answer ≡ refused 11 allowance) ↔ (allowance < rounds)
   -- else 'same' exactly when a chain joins the words, 'different' exactly when none does, with that count of rounds
-  pub joins : (answer ≡ same rounds) ↔ ((rounds ≤ allowance) × Congruent B u v)
-  pub parts : (answer ≡ different rounds) ↔ ((rounds ≤ allowance) × (¬ Congruent B u v))
+  pub joins : (answer ≡ same rounds) ↔ ((rounds ≤ allowance) × Congruent (relationWords relations) u v)
+  pub parts : (answer ≡ different rounds) ↔ ((rounds ≤ allowance) × (¬ Congruent (relationWords relations) u v))
   -- there is no other answer
   pub only : (answer ≡ refused 11 allowance) ⊎ ((answer ≡ same rounds) ⊎ (answer ≡ different rounds))
   -- the rounds are at most (k + 2) times the first word's length; in fact at most (k + 1) times the shorter one's
-  pub bound : rounds ≤ (longestSuffixPiece B + 2) * length u
-  pub closer : (rounds ≤ (longestSuffixPiece B + 1) * length u) × (rounds ≤ (longestSuffixPiece B + 1) * length v)
+  pub bound : rounds ≤ (longestSuffixPiece (wordsOf relations) + 2) * length u
+  pub closer : (rounds ≤ (longestSuffixPiece (wordsOf relations) + 1) * length u) × (rounds ≤ (longestSuffixPiece (wordsOf relations) + 1) * length v)
 
 -- what the comparison promises of its answer: it is the definition's; and of an accepted book and two words that are fine, it decides
 pub record Compared (book : List ℕ) (u v : Word) (allowance : ℕ) (answer : Answer) : Type 0 where
   pub is : answer ≡ compareOf book u v allowance
   pub decides : (presentation : Presentation) → loadBook book ≡ BookReading.read presentation → pairOf (presentation .letters) u v ≡ Words.Fine
-      → Decides (relationWords (presentation .relations)) u v allowance answer
+      → Decides (presentation .relations) u v allowance answer
 
 -- of a word w that is written into a lent buffer from an offset on: the answer is its length, the bytes from the offset on are w, and the buffer's length and
 -- all other bytes are the old ones
@@ -138,5 +138,5 @@ abbrev pub LeastDecides : Type 0
 LeastDecides = (book : List ℕ) (u v : Word) (presentation : Presentation) → loadBook book ≡ BookReading.read presentation → pairOf (presentation .letters) u v ≡ Words.Fine
     → (old : List ℕ) (offset m : ℕ) (buffer : List ℕ) → leastOf book u old offset ≡ LeastOutcome.after (wrote m) buffer
     → (old′ : List ℕ) (offset′ m′ : ℕ) (buffer′ : List ℕ) → leastOf book v old′ offset′ ≡ LeastOutcome.after (wrote m′) buffer′
-    → (allowance : ℕ) → (longestSuffixPiece (relationWords (presentation .relations)) + 1) * length u ≤ allowance
+    → (allowance : ℕ) → (longestSuffixPiece (wordsOf (presentation .relations)) + 1) * length u ≤ allowance
     → ((rounds : ℕ) × (compareOf book u v allowance ≡ same rounds)) ↔ (writtenBytes m offset buffer ≡ writtenBytes m′ offset′ buffer′)

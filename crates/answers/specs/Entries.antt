@@ -7,6 +7,7 @@ use lib.ListN.{length, take, drop}
 use Rattle.words.specs.Words.{Word}
 use Rattle.writing.specs.Writing.{over}
 use Rattle.words.specs.Relations.{relationWords}
+use Rattle.words.specs.Families.{wordsOf, familyOf}
 use Rattle.congruence.specs.Rows.{Next, round}
 use Rattle.congruence.specs.Rows.Next.{end, go}
 use Rattle.refusals.specs.declared.Refusal.{Refusal}
@@ -37,7 +38,7 @@ checkOf book = onLoaded (loadBook book) refusal (λ presentation. accepted (leng
 pub data SheetOutcome : Type 0 where
   after : Answer → List ℕ → SheetOutcome
 
--- the cut sheet: a row of bytes for each relation word at the start of the lent buffer; 12 where it is too small
+-- the cut sheet: a row of bytes for each side at the start of the lent buffer; 12 where it is too small
 unfoldable pub sheetOf : List ℕ → List ℕ → SheetOutcome
 sheetOf book sheet =
     onLoaded (loadBook book) (λ r. after (refusal r) sheet) (λ presentation.
@@ -64,22 +65,22 @@ abbrev pub writing : Next → List ℕ → List ℕ → List ℕ → RoundOutcom
 writing (end b) nextU nextV nextP = RoundOutcome.after (ended b) nextU nextV nextP
 writing (go u v p) nextU nextV nextP = RoundOutcome.after (next (length u) (length v) (length p)) (over u nextU) (over v nextV) (over p nextP)
 
--- the round under relation words B of so many letters
-unfoldable pub loadedRound : ℕ → List Word → Word → Word → Word → List ℕ → List ℕ → List ℕ → RoundOutcome
-loadedRound letters B u v p nextU nextV nextP =
+-- the round under relation words B in families, of so many letters
+unfoldable pub loadedRound : ℕ → List Word → (ℕ → ℕ) → Word → Word → Word → List ℕ → List ℕ → List ℕ → RoundOutcome
+loadedRound letters B family u v p nextU nextV nextP =
     onGiven (askedOf letters u v p (length nextU) (length nextV) (length nextP)) (λ r. RoundOutcome.after (refusal r) nextU nextV nextP)
-    (writing (round B u v p) nextU nextV nextP)
+    (writing (round B family u v p) nextU nextV nextP)
 
 -- the single round
 unfoldable pub roundOf : List ℕ → Word → Word → Word → List ℕ → List ℕ → List ℕ → RoundOutcome
 roundOf book u v p nextU nextV nextP =
     onLoaded (loadBook book) (λ r. RoundOutcome.after (refusal r) nextU nextV nextP) (λ presentation.
-    loadedRound (presentation .letters) (relationWords (presentation .relations)) u v p nextU nextV nextP)
+    loadedRound (presentation .letters) (wordsOf (presentation .relations)) (familyOf (presentation .relations)) u v p nextU nextV nextP)
 
 -- the comparison
 unfoldable pub compareOf : List ℕ → Word → Word → ℕ → Answer
 compareOf book u v allowance =
-    onLoaded (loadBook book) refusal (λ presentation. ofComparison (comparisonOf (presentation .letters) (relationWords (presentation .relations)) u v allowance))
+    onLoaded (loadBook book) refusal (λ presentation. ofComparison (comparisonOf (presentation .letters) (wordsOf (presentation .relations)) (familyOf (presentation .relations)) u v allowance))
 
 -- the outcome of a least word: an answer, and the lent buffer after it
 pub data LeastOutcome : Type 0 where
@@ -95,15 +96,15 @@ placedAt offset w buffer =
     cond (lacksSpace (length buffer) offset (length w)) (LeastOutcome.after (refusal NoSpace) buffer)
     (LeastOutcome.after (wrote (length w)) (take offset buffer ++ over w (drop offset buffer)))
 
--- the least word under relation words B of so many letters
-unfoldable pub loadedLeast : ℕ → List Word → Word → List ℕ → ℕ → LeastOutcome
-loadedLeast letters B u buffer offset = onGiven (oneOf letters u) (λ r. LeastOutcome.after (refusal r) buffer) (placedAt offset (leastFor B u) buffer)
+-- the least word under relation words B in families, of so many letters
+unfoldable pub loadedLeast : ℕ → List Word → (ℕ → ℕ) → Word → List ℕ → ℕ → LeastOutcome
+loadedLeast letters B family u buffer offset = onGiven (oneOf letters u) (λ r. LeastOutcome.after (refusal r) buffer) (placedAt offset (leastFor B family u) buffer)
 
 -- the least word
 unfoldable pub leastOf : List ℕ → Word → List ℕ → ℕ → LeastOutcome
 leastOf book u buffer offset =
     onLoaded (loadBook book) (λ r. LeastOutcome.after (refusal r) buffer) (λ presentation.
-    loadedLeast (presentation .letters) (relationWords (presentation .relations)) u buffer offset)
+    loadedLeast (presentation .letters) (wordsOf (presentation .relations)) (familyOf (presentation .relations)) u buffer offset)
 
 -- the outcome of the program: an answer, and the lent buffer after it
 pub data OutputOutcome : Type 0 where

@@ -11,16 +11,16 @@ use Rattle.moves.specs.State.{Ready}
 use Rattle.leastword.specs.Writing.{Asked}
 use Rattle.rounds.specs.declared.RoundLengths.{RoundLengths}
 use Rattle.rounds.specs.declared.RoundLengths.the-variants as Lengths
-use Rattle.sheet.specs.Sheet.{sheetBytes, CutsIn}
+use Rattle.sheet.specs.Sheet.{sheetBytes, SideIn}
 use Rattle.writing.specs.Writing.{over}
 use Rattle.answers.specs.declared.Round.{Round}
 use Rattle.answers.specs.declared.Round.the-variants as Rounds
 use Rattle.answers.specs.Answers.{accepted, refusal}
 use Rattle.answers.specs.Entries.{SheetOutcome}
 
--- the table has the cuts of all relation words
+-- the table has the words of all sides, with their cuts
 pub record SheetReady (table : List ℕ) (relations : ℕ) : Type 0 where
-  pub cuts : (i : ℕ) → i < 2 * relations → CutsIn table i
+  pub sides : (s : ℕ) → s < 2 * relations → SideIn table s
   pub few : relations ≤ 32
 
 -- a checked presentation of so many letters, which are within the limit

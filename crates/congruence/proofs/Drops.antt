@@ -35,7 +35,7 @@ module _ (B : List Word) (R : Facts B) (u : Word) (none : BeginsNone B (getD u 0
           none i h (sym (getD-take (xylen B i) (word B i) 0 0 (omega arith)) ∙ prefix-at (xyOf B i) u e 0 (omega arith))
 
   -- the round drops the first letter of each word, where they are the same
-  pub round-drops : (v p : Word) → isEmpty u ≡ false → isEmpty v ≡ false → getD u 0 0 ≡ getD v 0 0 → (isEmpty p || alike p u) ≡ true
-      → round B u v p ≡ go (drop 1 u) (drop 1 v) (drop 1 p)
+  pub round-drops : (family : ℕ → ℕ) (v p : Word) → isEmpty u ≡ false → isEmpty v ≡ false → getD u 0 0 ≡ getD v 0 0 → (isEmpty p || alike p u) ≡ true
+      → round B family u v p ≡ go (drop 1 u) (drop 1 v) (drop 1 p)
   unfolding round firstRow fitting makes row2
-  round-drops v p a b e m = rw (no-clean-prefix, a, b, le-leb (length B) (length B) (omega arith), eq-eqb (getD u 0 0) (getD v 0 0) e, m)
+  round-drops family v p a b e m = rw (no-clean-prefix, a, b, le-leb (length B) (length B) (omega arith), eq-eqb (getD u 0 0) (getD v 0 0) e, m)

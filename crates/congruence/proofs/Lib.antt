@@ -2,6 +2,7 @@ pub mod Heads
 pub mod RowTests
 pub mod Places
 pub mod Chains
+pub mod Members
 pub mod Guards
 pub mod Tracks
 pub mod Strips
@@ -9,7 +10,6 @@ pub mod Activity
 pub mod Merges
 pub mod CleanPrefixes
 pub mod PossiblePrefixes
-pub mod Sides
 pub mod FirstRow
 pub mod Drops
 pub mod RowsRight
@@ -20,4 +20,5 @@ pub mod Shape
 pub mod Bound
 pub mod Allowance
 pub mod Theorem
+pub mod Pairs
 pub mod Starred

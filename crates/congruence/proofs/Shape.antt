@@ -11,7 +11,6 @@ use native.Mathlib.Decide.{ℕ-discrete}
 use lib.ListN.{length, drop, length-append, length-drop}
 use lib.Seq.{drop-nil, drop-drop, drop-append-add}
 use Rattle.words.specs.Words.{Word, isPrefix}
-use Rattle.words.proofs.Relations.{Even}
 use Rattle.overlap.specs.Cuts.{xyOf, longestSuffixPiece}
 use Rattle.congruence.specs.Rows.{round}
 use Rattle.congruence.specs.Rows.Next.{go}
@@ -120,7 +119,7 @@ pub record Lightened (B : List Word) (u₀ v₀ u v p u′ v′ p′ : Word) (h 
   pub first : weight B u₀ u′ (next .first) < weight B u₀ u (h .first)
   pub second : weight B v₀ v′ (next .second) < weight B v₀ v (h .second)
 
-module _ (B : List Word) (c : Facts B) (u₀ v₀ u v p u′ v′ p′ : Word) (h : ComparisonWords B u₀ v₀ u v p) where
+module _ (B : List Word) (family : ℕ → ℕ) (c : Facts B) (u₀ v₀ u v p u′ v′ p′ : Word) (h : ComparisonWords B u₀ v₀ u v p) where
   moves-lighten : Moves B u v p u′ v′ p′ → Lightened B u₀ v₀ u v p u′ v′ p′ h
   moves-lighten (drops hu hv eu ev ep) =
       let a = drop-lighter B u₀ u u′ (h .first) hu eu in
@@ -146,9 +145,9 @@ module _ (B : List Word) (c : Facts B) (u₀ v₀ u v p u′ v′ p′ : Word) (
         second = b .less;
       }
 
-  pub round-lightens : Even B → round B u v p ≡ go u′ v′ p′ → Lightened B u₀ v₀ u v p u′ v′ p′ h
-  round-lightens e r = moves-lighten (round-moves B c e r)
+  pub round-lightens : round B family u v p ≡ go u′ v′ p′ → Lightened B u₀ v₀ u v p u′ v′ p′ h
+  round-lightens r = moves-lighten (round-moves B family c r)
 
   -- the shape is kept by every round
-  pub held-round : Even B → round B u v p ≡ go u′ v′ p′ → ComparisonWords B u₀ v₀ u′ v′ p′
-  held-round e r = round-lightens e r .next
+  pub held-round : round B family u v p ≡ go u′ v′ p′ → ComparisonWords B u₀ v₀ u′ v′ p′
+  held-round r = round-lightens r .next

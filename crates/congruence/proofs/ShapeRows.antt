@@ -2,6 +2,8 @@
 -- and puts an end of a Z before what is left (rows 4 to 8).
 use Prim.Native.Nat.{ℕ, _+_, _-_, _≤_, _<_}
 use mathlib.Core.Bool.{Bool, true, _&&_, _||_, and-eq-true-iff}
+use lib.Dec.{ltb}
+use borrow.Author.Tests.{ltb-true}
 use mathlib.Core.Logic.{_⊎_, inl, inr}
 use mathlib.Core.List.{List, [], _++_}
 use mathlib.Core.Path.{_≡_, refl, subst}
@@ -9,13 +11,11 @@ use native.Mathlib.Omega.{arith}
 use lib.ListN.{length, take, drop, length-drop}
 use lib.Seq.{drop-drop}
 use Rattle.words.specs.Words.{Word, isEmpty, isPrefix, commonSuffix}
-use Rattle.words.proofs.Tests.{or-second}
-use Rattle.words.proofs.Relations.{Even, other-there}
 use Rattle.words.proofs.Prefixes.{prefix-length}
 use Rattle.overlap.specs.Pieces.{word}
 use Rattle.overlap.specs.Cuts.{len, xylen, xOf, xyOf, zOf}
 use Rattle.overlap.proofs.Facts.{length-xy}
-use Rattle.congruence.specs.Rows.{Next, choose, cleanRelationPrefix, otherWord, active, alike, row1, row2, row4, row5, row6, row7, row8, makes, round}
+use Rattle.congruence.specs.Rows.{Next, choose, cleanRelationPrefix, active, alike, firstOther, firstActive, tailMember, primedWord, row1, row2, row4, row5, row6, row7, row8, makes, round}
 use Rattle.congruence.specs.Rows.Next.{end, go}
 use Rattle.congruence.specs.Theorem.{EndOfTail}
 use Rattle.congruence.specs.Theorem.EndOfTail.{nothing}
@@ -92,18 +92,6 @@ module _ (B : List Word) (c : Facts B) where
     row5-mark : EndOfTail B (choose (isPrefix p (xOf B i)) (λ _. []) (λ _. zOf B i))
     row5-mark = by-choose (EndOfTail B) (isPrefix p (xOf B i)) _ _ (λ h. nothing refl) (λ h. tail-of-z B i hi)
 
-    -- row 4's tail
-    row4-tail : (s : Word) → EndOfTail B (choose (active B (zOf B i) s) (λ _. zOf B i) (λ _. zOf B j))
-    row4-tail s = by-choose (EndOfTail B) (active B (zOf B i) s) _ _ (λ h. tail-of-z B i hi) (λ h. tail-of-z B j hj)
-
-    -- what row 4 makes of v
-    row4-rest : (z : Word) → EndOfTail B z → (isPrefix (word B i) v || isPrefix (word B j) v) ≡ true
-        → Recut B v z (z ++ choose (isPrefix (word B i) v) (λ _. drop (len B i) v) (λ _. drop (len B j) v))
-    row4-rest z t ev =
-        by-choose (λ w. Recut B v z (z ++ w)) (isPrefix (word B i) v) _ _
-        (λ h. cut-whole i v z hi t h)
-        (λ h. cut-whole j v z hj t (or-second (isPrefix (word B i) v) (isPrefix (word B j) v) ev h))
-
     row8-moves : isPrefix (xyOf B i) u ≡ true → isPrefix (xyOf B j) v ≡ true → MovesTo B u v p (row8 B i j u v p)
     unfolding row8
     row8-moves eu ev =
@@ -117,29 +105,37 @@ module _ (B : List Word) (c : Facts B) where
         moves (cuts (cut-prefix i (length e) u hi (fits-prefix i e u hi eu (r .0)) eu) (cut-prefix j (length f) v hj (fits-prefix j f v hj ev (r .1)) ev)
         (tail-drop B (zOf B i) (length e) (tail-of-z B i hi)) (inr (refl, refl)))) (λ h. ends)
 
+  -- the member whose tail row 4 goes on with is one of the relation words
+  tail-member-there : (family : ℕ → ℕ) (i : ℕ) (s : Word) → i < length B → tailMember B family i s < length B
+  unfolding tailMember
+  tail-member-there family i s h =
+      by-choose (λ m. m < length B) (active B (zOf B i) s) _ _ (λ e. h) (λ e.
+      by-choose (λ m. m < length B) (ltb (firstActive B family i s) (length B)) _ _ (λ f. ltb-true (firstActive B family i s) (length B) f) (λ f.
+      by-choose (λ m. m < length B) (ltb (firstOther B family i) (length B)) _ _ (λ g. ltb-true (firstOther B family i) (length B) g) (λ g. h)))
+
   -- every row, where it fits first
-  row-moves : (i j : ℕ) → (i < length B → j < length B) → (u v p : Word) (row : ℕ) → Fits B i j u v p row → MovesTo B u v p (makes B i j u v p row)
+  row-moves : (family : ℕ → ℕ) (i j : ℕ) (u v p : Word) (row : ℕ) → Fits B family i j u v p row → MovesTo B u v p (makes B family i j u v p row)
   unfolding makes row1 row2 row4 row5 row6 row7
-  row-moves i j o u v p row (fits1 e) = ends
-  row-moves i j o u v p row (fits2 a b l) =
+  row-moves family i j u v p row (fits1 e) = ends
+  row-moves family i j u v p row (fits2 a b l) =
       by-choose (MovesTo B u v p) (alike u v && (isEmpty p || alike p u)) _ _ (λ h. moves (drops a b refl refl refl)) (λ h. ends)
-  row-moves i j o u v p row (fits3 k q) = ends
-  row-moves i j o u v p row (fits4 k m q r) =
-      let t = row4-tail i j (k .there) (o (k .there)) u v p (drop (len B i) u) in
-      moves (cuts (cut-whole i u _ (k .there) t q) (row4-rest i j (k .there) (o (k .there)) u v p _ t r) (nothing refl) (inl refl))
-  row-moves i j o u v p row (fits5 k m q w) =
-      moves (cuts (cut-xy i u (k .there) (prefix-of-clean B u i (k .clean))) (cut-xy i v (k .there) q) (row5-mark i j (k .there) (o (k .there)) u v p) (inr (refl, refl)))
-  row-moves i j o u v p row (fits6 k m a z w) =
-      moves (cuts (cut-xy i u (k .there) (prefix-of-clean B u i (k .clean))) (cut-whole j v (zOf B i) (o (k .there)) (tail-of-z B i (k .there)) w) (nothing refl) (inl refl))
-  row-moves i j o u v p row (fits7 k m a w y z) =
-      moves (cuts (cut-whole i u (zOf B j) (k .there) (tail-of-z B j (o (k .there))) w) (cut-xy j v (o (k .there)) y) (nothing refl) (inl refl))
-  row-moves i j o u v p row (fits8 k m a w y z) = row8-moves i j (k .there) (o (k .there)) u v p (prefix-of-clean B u i (k .clean)) y
+  row-moves family i j u v p row (fits3 k q) = ends
+  row-moves family i j u v p row (fits4 k m o q r) =
+      let t = tail-of-z B (tailMember B family i (drop (len B i) u)) (tail-member-there family i (drop (len B i) u) (k .there)) in
+      moves (cuts (cut-whole i u _ (k .there) t q) (cut-whole j v _ (o .there) t r) (nothing refl) (inl refl))
+  row-moves family i j u v p row (fits5 k m o q w) =
+      moves (cuts (cut-xy i u (k .there) (prefix-of-clean B u i (k .clean))) (cut-xy i v (k .there) q) (row5-mark i j (k .there) (o .there) u v p) (inr (refl, refl)))
+  row-moves family i j u v p row (fits6 k m o a z w) =
+      moves (cuts (cut-xy i u (k .there) (prefix-of-clean B u i (k .clean))) (cut-whole j v (zOf B i) (o .there) (tail-of-z B i (k .there)) w) (nothing refl) (inl refl))
+  row-moves family i j u v p row (fits7 k m o a w z) =
+      moves (cuts (cut-whole i u (zOf B j) (k .there) (tail-of-z B j (o .there)) w) (cut-xy j v (o .there) (o .begins)) (nothing refl) (inl refl))
+  row-moves family i j u v p row (fits8 k m o a w z) = row8-moves i j (k .there) (o .there) u v p (prefix-of-clean B u i (k .clean)) (o .begins)
 
 -- every round that goes on makes one of the two changes
-pub round-moves : (B : List Word) → Facts B → Even B → {u v p u′ v′ p′ : Word} → round B u v p ≡ go u′ v′ p′ → Moves B u v p u′ v′ p′
+pub round-moves : (B : List Word) (family : ℕ → ℕ) → Facts B → {u v p u′ v′ p′ : Word} → round B family u v p ≡ go u′ v′ p′ → Moves B u v p u′ v′ p′
 unfolding round
-round-moves B c e {u} {v} {p} {u′} {v′} {p′} r =
-    moved (subst (MovesTo B u v p) r (row-moves B c (cleanRelationPrefix B u) (otherWord B u) (other-there (length B) (cleanRelationPrefix B u) e) u v p _ (fits B u v p)))
+round-moves B family c {u} {v} {p} {u′} {v′} {p′} r =
+    moved (subst (MovesTo B u v p) r (row-moves B c family (cleanRelationPrefix B u) (primedWord B family u v) u v p _ (fits B family u v p)))
   where
     moved : MovesTo B u v p (go u′ v′ p′) → Moves B u v p u′ v′ p′
     moved (moves m) = m

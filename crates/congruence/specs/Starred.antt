@@ -1,5 +1,5 @@
--- The starred bench cases of document 01, as one table; that the definitions give all of them is one theorem (proofs/Starred.antt).
--- The letters a, b, c, d are 0, 1, 2, 3.
+-- The starred bench cases of document 01 and cases of relations that share a word, as one table; that the definitions give all of them is one theorem
+-- (proofs/Starred.antt). The letters a, b, c, d, e are 0, 1, 2, 3, 4.
 use Prim.Native.Nat.{ℕ, zero, suc, _+_, _-_}
 use mathlib.Core.Bool.{Bool, true, false, _&&_}
 use mathlib.Core.List.{List, [], _∷_}
@@ -7,6 +7,8 @@ use mathlib.Core.Path.{_≡_}
 use lib.Dec.{eqb}
 use Rattle.words.specs.Search.{anyBelow}
 use Rattle.words.specs.Words.{Word}
+use Rattle.words.specs.Relations.{Relation, relationWords}
+use Rattle.words.specs.Families.{wordOfSide, wordsOf, familyOf}
 use Rattle.overlap.specs.Cuts.{len, pieceAt, xlen, ylen, zlen}
 use Rattle.overlap.specs.Verdict.{Verdict, judge}
 use Rattle.congruence.specs.Rounds.{CompareAnswer, compareUnder}
@@ -18,44 +20,53 @@ product piece zero from n = eqb from n
 product piece (suc m) from n = anyBelow (n - from + 1) (λ k. piece from k && product piece m (from + k) n)
 
 pub data Case : Type 0 where
-  -- a book's relation words, the verdict on them, and the lengths of X, Y, Z of each in turn where they are accepted
-  book : List Word → Verdict → List (ℕ × ℕ × ℕ) → Case
-  -- relation word i is a product of m + 1 pieces and not of m
-  needs : List Word → ℕ → ℕ → Case
-  -- two words under relation words, with an allowance of 100
-  compared : List Word → Word → Word → CompareAnswer → Case
+  -- a book's relations, the verdict on them, and the lengths of X, Y, Z of each side in turn where they are accepted
+  book : List Relation → Verdict → List (ℕ × ℕ × ℕ) → Case
+  -- the word of side i is a product of m + 1 pieces and not of m
+  needs : List Relation → ℕ → ℕ → Case
+  -- two words under relations, with an allowance of 100
+  compared : List Relation → Word → Word → CompareAnswer → Case
 
--- the cuts of relation word i, of the next one, and so on
-abbrev pub CutFrom : List Word → ℕ → List (ℕ × ℕ × ℕ) → Type 0
-CutFrom B i [] = Unit {0}
-CutFrom B i (c ∷ cs) = (xlen B i ≡ c .0) × (ylen B i ≡ c .1) × (zlen B i ≡ c .2) × CutFrom B (suc i) cs
+-- the cuts of the word of side i, of the next side's, and so on
+abbrev pub CutFrom : List Word → List Word → ℕ → List (ℕ × ℕ × ℕ) → Type 0
+CutFrom sides B i [] = Unit {0}
+CutFrom sides B i (c ∷ cs) =
+    (xlen B (wordOfSide sides i) ≡ c .0) × (ylen B (wordOfSide sides i) ≡ c .1) × (zlen B (wordOfSide sides i) ≡ c .2) × CutFrom sides B (suc i) cs
+
+-- word i is a product of m + 1 pieces and not of m
+abbrev pub Needs : List Word → ℕ → ℕ → Type 0
+Needs B i m = (product (pieceAt B i) m 0 (len B i) ≡ false) × (product (pieceAt B i) (suc m) 0 (len B i) ≡ true)
 
 -- the definitions give what the case says
 abbrev pub Holds : Case → Type 0
-Holds (book B verdict cuts) = (judge B ≡ verdict) × CutFrom B 0 cuts
-Holds (needs B i m) = (product (pieceAt B i) m 0 (len B i) ≡ false) × (product (pieceAt B i) (suc m) 0 (len B i) ≡ true)
-Holds (compared B u v answer) = compareUnder B 100 u v ≡ answer
+Holds (book relations verdict cuts) = (judge (relationWords relations) ≡ verdict) × CutFrom (relationWords relations) (wordsOf relations) 0 cuts
+Holds (needs relations i m) = Needs (wordsOf relations) (wordOfSide (relationWords relations) i) m
+Holds (compared relations u v answer) = compareUnder (wordsOf relations) (familyOf relations) 100 u v ≡ answer
 
 abbrev pub All : List Case → Type 0
 All [] = Unit {0}
 All (c ∷ cs) = Holds c × All cs
 
+-- a relation by its two sides
+abbrev pub rule : Word → Word → Relation
+rule left right = record { left = left; right = right }
+
 -- book Q: abdc = cadb
-abbrev pub bookQ : List Word
-bookQ = (0 ∷ 1 ∷ 3 ∷ 2 ∷ []) ∷ (2 ∷ 0 ∷ 3 ∷ 1 ∷ []) ∷ []
+abbrev pub bookQ : List Relation
+bookQ = rule (0 ∷ 1 ∷ 3 ∷ 2 ∷ []) (2 ∷ 0 ∷ 3 ∷ 1 ∷ []) ∷ []
 
 abbrev pub starred : List Case
 starred =
     -- a = aa: loose, side 0
-    book ((0 ∷ []) ∷ (0 ∷ 0 ∷ []) ∷ []) (Verdict.loose 0) []
+    book (rule (0 ∷ []) (0 ∷ 0 ∷ []) ∷ []) (Verdict.loose 0) []
     -- aa = b: loose, side 0
-    ∷ book ((0 ∷ 0 ∷ []) ∷ (1 ∷ []) ∷ []) (Verdict.loose 0) []
+    ∷ book (rule (0 ∷ 0 ∷ []) (1 ∷ []) ∷ []) (Verdict.loose 0) []
     -- a = b: accepted, cuts 0 1 0, 0 1 0
-    ∷ book ((0 ∷ []) ∷ (1 ∷ []) ∷ []) Verdict.accepted ((0, 1, 0) ∷ (0, 1, 0) ∷ [])
-    -- ab = ab: twice, side 1
-    ∷ book ((0 ∷ 1 ∷ []) ∷ (0 ∷ 1 ∷ []) ∷ []) (Verdict.repeated 1) []
+    ∷ book (rule (0 ∷ []) (1 ∷ []) ∷ []) Verdict.accepted ((0, 1, 0) ∷ (0, 1, 0) ∷ [])
+    -- ab = ab: accepted, cuts 0 2 0, 0 2 0
+    ∷ book (rule (0 ∷ 1 ∷ []) (0 ∷ 1 ∷ []) ∷ []) Verdict.accepted ((0, 2, 0) ∷ (0, 2, 0) ∷ [])
     -- abdc = acbd: loose, side 0
-    ∷ book ((0 ∷ 1 ∷ 3 ∷ 2 ∷ []) ∷ (0 ∷ 2 ∷ 1 ∷ 3 ∷ []) ∷ []) (Verdict.loose 0) []
+    ∷ book (rule (0 ∷ 1 ∷ 3 ∷ 2 ∷ []) (0 ∷ 2 ∷ 1 ∷ 3 ∷ []) ∷ []) (Verdict.loose 0) []
     -- Q: accepted, cuts 1 2 1, 1 2 1, four needed
     ∷ book bookQ Verdict.accepted ((1, 2, 1) ∷ (1, 2, 1) ∷ [])
     ∷ needs bookQ 0 3
@@ -74,6 +85,17 @@ starred =
     ∷ compared bookQ (0 ∷ 1 ∷ 3 ∷ 2 ∷ 0 ∷ 3 ∷ []) (2 ∷ 0 ∷ 3 ∷ 1 ∷ 0 ∷ 3 ∷ []) (same 2)
     -- cadbadb, abdabdc: same 3
     ∷ compared bookQ (2 ∷ 0 ∷ 3 ∷ 1 ∷ 0 ∷ 3 ∷ 1 ∷ []) (0 ∷ 1 ∷ 3 ∷ 0 ∷ 1 ∷ 3 ∷ 2 ∷ []) (same 3)
+    -- not starred: families, worked out by hand
+    -- ad = c, c = aea: accepted, cuts 1 1 0, 0 1 0, 0 1 0, 1 1 1
+    ∷ book (rule (0 ∷ 3 ∷ []) (2 ∷ []) ∷ rule (2 ∷ []) (0 ∷ 4 ∷ 0 ∷ []) ∷ []) Verdict.accepted ((1, 1, 0) ∷ (0, 1, 0) ∷ (0, 1, 0) ∷ (1, 1, 1) ∷ [])
+    -- under it cea, cd: same 2; row 4 goes on with the tail of aea, the first other member for which ea is active, and not with that of ad, the first other one
+    ∷ compared (rule (0 ∷ 3 ∷ []) (2 ∷ []) ∷ rule (2 ∷ []) (0 ∷ 4 ∷ 0 ∷ []) ∷ []) (2 ∷ 4 ∷ 0 ∷ []) (2 ∷ 3 ∷ []) (same 2)
+    -- d = d, cac = d with d, d: same 2; the first other member of d is cac and not the other side with the same word
+    ∷ compared (rule (3 ∷ []) (3 ∷ []) ∷ rule (2 ∷ 0 ∷ 2 ∷ []) (3 ∷ []) ∷ []) (3 ∷ []) (3 ∷ []) (same 2)
+    -- ada = ca with adca, cca: same 3; in the second round both words are ca and the mark a is a prefix of the X of ada alone
+    ∷ compared (rule (0 ∷ 3 ∷ 0 ∷ []) (2 ∷ 0 ∷ []) ∷ []) (0 ∷ 3 ∷ 2 ∷ 0 ∷ []) (2 ∷ 2 ∷ 0 ∷ []) (same 3)
+    -- c = e, d = c with e, d: same 1; two relations make them one family
+    ∷ compared (rule (2 ∷ []) (4 ∷ []) ∷ rule (3 ∷ []) (2 ∷ []) ∷ []) (4 ∷ []) (3 ∷ []) (same 1)
     ∷ []
 
 -- every starred case holds

@@ -53,10 +53,10 @@ pub fn compare(book: &[u8], u: &[u8], v: &[u8], allowance: u32) -> Comparison
     let mut table = [0u16; Table::ROOM];
     let loaded = presentation::load(book, &mut text, &mut table);
     match loaded {
-        Reading::Read(letters, relations) => comparison::compare_once(
+        Reading::Read(letters, _) => comparison::compare_once(
             &text,
             &table,
-            2 * relations,
+            layout::count_of(&table),
             letters,
             u,
             v,
@@ -82,10 +82,10 @@ pub fn single_round(
     let mut table = [0u16; Table::ROOM];
     let loaded = presentation::load(book, &mut text, &mut table);
     match loaded {
-        Reading::Read(letters, relations) => loaded_round(
+        Reading::Read(letters, _) => loaded_round(
             &text,
             &table,
-            2 * relations,
+            layout::count_of(&table),
             letters,
             u,
             v,
@@ -106,10 +106,10 @@ pub fn least_word(book: &[u8], u: &[u8], buffer: &mut [u8], offset: usize) -> Le
     let mut table = [0u16; Table::ROOM];
     let loaded = presentation::load(book, &mut text, &mut table);
     match loaded {
-        Reading::Read(letters, relations) => loaded_least(
+        Reading::Read(letters, _) => loaded_least(
             &text,
             &table,
-            2 * relations,
+            layout::count_of(&table),
             letters,
             u,
             buffer,

@@ -1,3 +1,4 @@
 pub mod Placed
 pub mod CutPlaces
 pub mod Whole
+pub mod Links

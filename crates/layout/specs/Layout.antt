@@ -1,6 +1,6 @@
--- How the relation words lie in arrays. One text holds them one after the other, and behind each stands its fence, a code of its own that is no letter.
--- A table of numbers has the positions of each word and of its cuts, and behind the last word's the length of all; then the number of pieces of each. Behind
--- these stands an index: for each letter, where the words that begin with it are listed; the list; and how much each shares with the one before it.
+-- How the relation words lie in arrays. One text holds them one after the other, each once, and behind each stands its fence, a code of its own that is no letter.
+-- A table of numbers has the positions of each word and of its cuts, and behind the last word's the length of all; then the number of pieces of each; then sides and
+-- families (Families.antt). Behind these stands an index: for each letter, where the words that begin with it are listed; the list; and how much each shares with the one before it.
 -- Places.antt says where in the table.
 use Prim.Native.Nat.{ℕ, zero, suc, _+_, _-_, _<_, _≤_}
 use mathlib.Core.List.{List, [], _∷_, _++_}

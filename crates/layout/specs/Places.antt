@@ -1,11 +1,11 @@
--- Where the relation words, their cuts, their numbers of pieces and the index lie in the text and the table: the limits that this goes by, the columns of the
--- table's rows and its cells.
+-- Where the relation words, their cuts, their numbers of pieces, the sides, the families and the index lie in the text and the table: the limits that this goes by,
+-- the columns of the table's rows and its cells.
 -- `layout::fixed_places` promises that the constants of the code are these numbers.
 use Prim.Native.Nat.{ℕ, _+_, _*_}
 use mathlib.Core.List.{List, [], _∷_}
 use Rattle.limits.specs.Limits.{lettersMost, relationsMost, sideMost}
 
--- relation words (document 01: sides) are at most
+-- sides, and so relation words, are at most
 abbrev pub wordsMost : ℕ
 wordsMost = 2 * relationsMost
 
@@ -64,9 +64,32 @@ piecesFrom = positions
 abbrev pub piecesCell : ℕ → ℕ
 piecesCell i = piecesFrom + i
 
--- the index stands behind the numbers of pieces: for each letter, and once more, the place from which its words are listed; the list; what neighbours in it share
+-- for each side the number of its word; then how many words there are
+abbrev pub sideFrom : ℕ
+sideFrom = piecesFrom + wordsMost
+
+abbrev pub sideCell : ℕ → ℕ
+sideCell s = sideFrom + s
+
+abbrev pub countCell : ℕ
+countCell = sideFrom + wordsMost
+
+-- for each relation word the number of its family, which is its lowest member; and the next member
+abbrev pub familyFrom : ℕ
+familyFrom = countCell + 1
+
+abbrev pub familyCell : ℕ → ℕ
+familyCell i = familyFrom + i
+
+abbrev pub nextFrom : ℕ
+nextFrom = familyFrom + wordsMost
+
+abbrev pub nextCell : ℕ → ℕ
+nextCell i = nextFrom + i
+
+-- the index stands behind the families: for each letter, and once more, the place from which its words are listed; the list; what neighbours in it share
 abbrev pub firstFrom : ℕ
-firstFrom = piecesFrom + wordsMost
+firstFrom = nextFrom + wordsMost
 
 abbrev pub orderFrom : ℕ
 orderFrom = firstFrom + lettersBound + 1
@@ -92,4 +115,4 @@ abbrev pub fixedPlaces : List ℕ
 fixedPlaces =
     wordsMost ∷ wordMost ∷ lettersBound ∷ textRoom
     ∷ columns ∷ startColumn ∷ xEndColumn ∷ zStartColumn ∷ endColumn
-    ∷ positions ∷ piecesFrom ∷ firstFrom ∷ orderFrom ∷ sharedFrom ∷ tableRoom ∷ []
+    ∷ positions ∷ piecesFrom ∷ sideFrom ∷ countCell ∷ familyFrom ∷ nextFrom ∷ firstFrom ∷ orderFrom ∷ sharedFrom ∷ tableRoom ∷ []

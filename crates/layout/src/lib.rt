@@ -2,8 +2,9 @@
 ghost use mathlib.Core.Path.{_≡_};
 ghost use Prim.Native.Nat.{_+_, _-_, _<_, _≤_};
 ghost use lib.ListN.{length};
-ghost use Rattle.layout.specs.Places.{wordMost, startCell, xEndCell, zStartCell, piecesCell, endCell, firstCell, orderCell, sharedCell, fixedPlaces};
+ghost use Rattle.layout.specs.Places.{wordMost, startCell, xEndCell, zStartCell, piecesCell, endCell, sideCell, countCell, familyCell, nextCell, firstCell, orderCell, sharedCell, fixedPlaces};
 ghost use Rattle.layout.specs.Layout.{startOf, xEndOf, zStartOf, piecesOf, endOf, firstOf, orderOf, sharedOf};
+ghost use Rattle.layout.specs.Families.{sideWordOf, countOf, familyAt, nextOf};
 use limits::Head;
 use limits::Relation;
 use numbers::wide16;
@@ -12,7 +13,7 @@ use numbers::wide16;
 pub struct Text {}
 
 impl Text {
-    // The most relation words.
+    // The most sides, and so the most relation words.
     pub const WORDS: usize = 2 * Relation::MOST;
 
     // The most letters of a relation word.
@@ -24,8 +25,8 @@ impl Text {
     pub const ROOM: usize = Text::WORDS * (Text::WORD + 1);
 }
 
-// The table: a row of positions for each relation word, and one position more, the length of all; the number of pieces of each; then the index of the
-// relation words by their first letters.
+// The table: a row of positions for each relation word, and one position more, the length of all; the number of pieces of each; the word of each side and how
+// many words there are; the families; then the index of the relation words by their first letters.
 pub struct Table {}
 
 impl Table {
@@ -45,8 +46,20 @@ impl Table {
     // The number of pieces of each relation word.
     pub const PIECES: usize = Table::POSITIONS;
 
+    // The relation word of each side.
+    pub const SIDES: usize = Table::PIECES + Text::WORDS;
+
+    // How many relation words there are.
+    pub const COUNT: usize = Table::SIDES + Text::WORDS;
+
+    // The family of each relation word: its lowest member.
+    pub const FAMILY: usize = Table::COUNT + 1;
+
+    // The next member of its family.
+    pub const NEXT: usize = Table::FAMILY + Text::WORDS;
+
     // For each letter, and once more, the place from which its relation words are listed.
-    pub const FIRST: usize = Table::PIECES + Text::WORDS;
+    pub const FIRST: usize = Table::NEXT + Text::WORDS;
 
     // The list of the relation words.
     pub const ORDER: usize = Table::FIRST + Text::LETTERS + 1;
@@ -58,7 +71,7 @@ impl Table {
 }
 
 // The constants are the numbers that the definitions write again, in the order of specs/Places.antt.
-pub fn fixed_places() -> [usize; 15]
+pub fn fixed_places() -> [usize; 19]
     ensures { λ r. ⌜ r ≡ fixedPlaces ⌝ }
 {
     [
@@ -73,6 +86,10 @@ pub fn fixed_places() -> [usize; 15]
         Table::END,
         Table::POSITIONS,
         Table::PIECES,
+        Table::SIDES,
+        Table::COUNT,
+        Table::FAMILY,
+        Table::NEXT,
         Table::FIRST,
         Table::ORDER,
         Table::SHARED,
@@ -126,6 +143,38 @@ pub fn pieces_of(table: &[u16], k: usize) -> usize
     ensures { λ r. ⌜ r ≡ piecesOf (now (table .entry)) k ⌝ }
 {
     wide16(table[Table::PIECES + k])
+}
+
+// The relation word of side s.
+pub fn side_word(table: &[u16], s: usize) -> usize
+    requires { ⌜ sideCell s < length (now table) ⌝ }
+    ensures { λ r. ⌜ r ≡ sideWordOf (now (table .entry)) s ⌝ }
+{
+    wide16(table[Table::SIDES + s])
+}
+
+// How many relation words there are.
+pub fn count_of(table: &[u16]) -> usize
+    requires { ⌜ countCell < length (now table) ⌝ }
+    ensures { λ r. ⌜ r ≡ countOf (now (table .entry)) ⌝ }
+{
+    wide16(table[Table::COUNT])
+}
+
+// The family of relation word i: its lowest member.
+pub fn family_of(table: &[u16], i: usize) -> usize
+    requires { ⌜ familyCell i < length (now table) ⌝ }
+    ensures { λ r. ⌜ r ≡ familyAt (now (table .entry)) i ⌝ }
+{
+    wide16(table[Table::FAMILY + i])
+}
+
+// The member behind relation word i in its family.
+pub fn next_of(table: &[u16], i: usize) -> usize
+    requires { ⌜ nextCell i < length (now table) ⌝ }
+    ensures { λ r. ⌜ r ≡ nextOf (now (table .entry)) i ⌝ }
+{
+    wide16(table[Table::NEXT + i])
 }
 
 // The place from which the relation words that begin with letter c are listed.

@@ -14,7 +14,7 @@ use Rattle.words.proofs.Tests.{true-or-false, false-of}
 use Rattle.words.proofs.Searching.{any-found, any-none, none-of, least-passes, least-first}
 use Rattle.overlap.specs.Cuts.{xyOf}
 use Rattle.least.specs.Order.{Injective, Before, AtMost, before}
-use Rattle.least.specs.Possible.{marked}
+use Rattle.congruence.specs.Rows.{marked}
 use Rattle.least.specs.Writing.{firstMember}
 use Rattle.least.proofs.Order.{before-of-test, before-irreflexive, at-most-unique, at-most-trans, at-most-of-not-before}
 

@@ -18,13 +18,13 @@ use Rattle.words.proofs.Searching.{any-of, any-found}
 use Rattle.overlap.specs.Pieces.{word}
 use Rattle.overlap.specs.Cuts.{xlen, xylen, xOf, xyOf, zOf}
 use Rattle.overlap.proofs.Facts.{length-xy}
-use Rattle.congruence.specs.Rows.{cleanRelationPrefix, alike}
+use Rattle.congruence.specs.Rows.{cleanRelationPrefix, alike, marked, markedByAny}
 use Rattle.congruence.proofs.Heads.{Facts, Clean}
 use Rattle.congruence.proofs.RowTests.{test-of-head, cleanRelationPrefix-clean, cleanRelationPrefix-none}
 use Rattle.congruence.proofs.Chains.{Kin, chain-sym, chain-of-eq}
 use Rattle.congruence.proofs.CleanPrefixes.{PossiblePrefix}
 use Rattle.congruence.proofs.PossiblePrefixes.{possible-of-turn, possible-of-rests, empty-stays}
-use Rattle.least.specs.Possible.{marked, markedByAny, possibleWithin, possible}
+use Rattle.least.specs.Possible.{possibleWithin, possible}
 use Rattle.least.proofs.Marks.{Marking, marking-drop, marking-z, x-of-marking}
 
 -- X is a prefix of XY

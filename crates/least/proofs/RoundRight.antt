@@ -19,7 +19,7 @@ use Rattle.words.proofs.CommonSuffixes.{suffix-within, longest-suffix}
 use Rattle.overlap.specs.Pieces.{word}
 use Rattle.overlap.specs.Cuts.{len, xylen, xOf, xyOf, zOf}
 use Rattle.overlap.proofs.Facts.{length-z, z-bound}
-use Rattle.congruence.specs.Rows.{choose, cleanRelationPrefix, active}
+use Rattle.congruence.specs.Rows.{choose, cleanRelationPrefix, active, marked}
 use Rattle.congruence.proofs.Heads.{Facts, Clean}
 use Rattle.congruence.proofs.RowTests.{by-choose, test-of-head, cleanRelationPrefix-clean, cleanRelationPrefix-none, active-found, active-none}
 use Rattle.congruence.proofs.Chains.{Kin, Chain, kin-refl, chain-sym, chain-behind, chain-to}
@@ -30,7 +30,7 @@ use Rattle.congruence.proofs.CleanPrefixes.{PossiblePrefix}
 use Rattle.congruence.proofs.PossiblePrefixes.{first-stays, chain-of-rests, empty-stays}
 use Rattle.congruence.proofs.RowsRight.{unlike-of-test, cut-xy}
 use Rattle.least.specs.Order.{Injective, AtMost}
-use Rattle.least.specs.Possible.{marked, possible}
+use Rattle.least.specs.Possible.{possible}
 use Rattle.least.specs.Writing.{cleanBefore, letterPart, firstMember, chosenMember, carrier, wholePart, otherPart, memberPart, writePart}
 use Rattle.least.specs.Writing.Part.{end, none, part}
 use Rattle.least.proofs.Order.{at-most-behind}

@@ -1,11 +1,12 @@
--- The rounds write the least word, put together: that they end and how soon (Ends), and what each of them says (RoundRight).
+-- The rounds write the least word, put together: that they end and how soon (Ends), what each of them says (RoundRight), and that chains of families join the
+-- same words as rewrite steps of single relations (Members of crate congruence).
 use Prim.Native.Nat.{ℕ}
 use mathlib.Core.List.{List, []}
 use mathlib.Core.Logic.{_↔_}
 use mathlib.Core.Path.{_≡_, refl, sym, ap, _∙_, subst}
 use Rattle.words.specs.Words.{Word}
-use Rattle.words.specs.Relations.{relationWords}
-use Rattle.words.proofs.Relations.{Even, even-sides}
+use Rattle.words.specs.Relations.{Relation, relationWords}
+use Rattle.words.specs.Families.{wordsOf, familyOf}
 use Rattle.overlap.specs.Pieces.{IsPiece}
 use Rattle.overlap.specs.Pieces.IsPiece.{empty}
 use Rattle.overlap.proofs.Facts.{rigid-of-c4}
@@ -13,10 +14,9 @@ use Rattle.congruence.specs.Congruence.{Congruent}
 use Rattle.congruence.specs.Congruence.Congruent.{done}
 use Rattle.congruence.proofs.Heads.{Facts}
 use Rattle.congruence.proofs.Chains.{Chain, chain-sym, chain-join}
-use Rattle.congruence.proofs.Sides.{congruent-of-chain, chain-of-congruent}
+use Rattle.congruence.proofs.Members.{congruent-of-chain, chain-of-congruent}
 use Rattle.least.specs.Order.{Injective}
 use Rattle.least.specs.Least.{LeastBehind, LeastWord}
-use Rattle.least.specs.Possible.{relationOf}
 use Rattle.least.specs.Writing.{Found, found, absent, wordOf, behind, Parts, leastBehind}
 use Rattle.least.specs.Writing.Part.{part}
 use Rattle.least.specs.Writing.Parts.{ended, failed, goes}
@@ -89,17 +89,17 @@ families-write-least {B} R fam rank injective p u m =
       short = x .short;
     }
 
--- families of two: chains of families join the same words as rewrite steps of relations
-module _ {B : List Word} (R : Facts B) (even : Even B) (rank : ℕ → ℕ) (injective : Injective rank) where
-  least-iff : (p u w : Word) → LeastChain B relationOf rank p u w ↔ LeastBehind (Congruent B) rank p u w
+-- chains of families join the same words as rewrite steps of relations
+module _ (relations : List Relation) (R : Facts (wordsOf relations)) (rank : ℕ → ℕ) (injective : Injective rank) where
+  least-iff : (p u w : Word) → LeastChain (wordsOf relations) (familyOf relations) rank p u w ↔ LeastBehind (Congruent (relationWords relations)) rank p u w
   least-iff p u w = (
-    (λ l. record { joined = congruent-of-chain (l .joined); first = λ v c. l .first v (chain-of-congruent even c) }),
-    (λ l. record { joined = chain-of-congruent even (l .joined); first = λ v c. l .first v (congruent-of-chain c) }),
+    (λ l. record { joined = congruent-of-chain relations (l .joined); first = λ v c. l .first v (chain-of-congruent relations c) }),
+    (λ l. record { joined = chain-of-congruent relations (l .joined); first = λ v c. l .first v (congruent-of-chain relations c) }),
   )
 
-  pub written : (p u : Word) → IsPiece B p → Written B relationOf rank (Congruent B) p u
+  written : (p u : Word) → IsPiece (wordsOf relations) p → Written (wordsOf relations) (familyOf relations) rank (Congruent (relationWords relations)) p u
   written p u piece =
-      let x = families-write-least R relationOf rank injective p u (marking-piece R piece) in
+      let x = families-write-least R (familyOf relations) rank injective p u (marking-piece R piece) in
       record {
         rounds = x .rounds;
         result = x .result;
@@ -108,24 +108,24 @@ module _ {B : List Word} (R : Facts B) (even : Even B) (rank : ℕ → ℕ) (inj
         bound = x .bound;
         computed = x .computed;
         least = λ w. let l = x .least w in let i = least-iff p u w in ((λ e. i .0 (l .0 e)), (λ a. l .1 (i .1 a)));
-        missing = ((λ e w c. x .missing .0 e w (chain-of-congruent even c)), (λ f. x .missing .1 (λ w c. f w (congruent-of-chain c))));
+        missing = ((λ e w c. x .missing .0 e w (chain-of-congruent relations c)), (λ f. x .missing .1 (λ w c. f w (congruent-of-chain relations c))));
         short = x .short;
       }
 
   -- least words of single words
-  least-word : {u w : Word} → LeastBehind (Congruent B) rank [] u w → LeastWord B rank u w
+  least-word : {u w : Word} → LeastBehind (Congruent (relationWords relations)) rank [] u w → LeastWord (relationWords relations) rank u w
   least-word l = record { congruent = l .joined; first = l .first }
 
-  least-behind-nothing : {u w : Word} → LeastWord B rank u w → LeastBehind (Congruent B) rank [] u w
+  least-behind-nothing : {u w : Word} → LeastWord (relationWords relations) rank u w → LeastBehind (Congruent (relationWords relations)) rank [] u w
   least-behind-nothing l = record { joined = l .congruent; first = l .first }
 
-  congruent-sym : {u v : Word} → Congruent B u v → Congruent B v u
-  congruent-sym c = congruent-of-chain (chain-sym (chain-of-congruent even c))
+  congruent-sym : {u v : Word} → Congruent (relationWords relations) u v → Congruent (relationWords relations) v u
+  congruent-sym c = congruent-of-chain relations (chain-sym (chain-of-congruent relations c))
 
-  congruent-join : {u v w : Word} → Congruent B u v → Congruent B v w → Congruent B u w
-  congruent-join c d = congruent-of-chain (chain-join (chain-of-congruent even c) (chain-of-congruent even d))
+  congruent-join : {u v w : Word} → Congruent (relationWords relations) u v → Congruent (relationWords relations) v w → Congruent (relationWords relations) u w
+  congruent-join c d = congruent-of-chain relations (chain-join (chain-of-congruent relations c) (chain-of-congruent relations d))
 
-  pub least-words : LeastWords B rank
+  least-words : LeastWords relations rank
   least-words =
       record {
         exists = λ u. exists u (written [] u (empty refl) .result) refl;
@@ -135,7 +135,7 @@ module _ {B : List Word} (R : Facts B) (even : Even B) (rank : ℕ → ℕ) (inj
             congruent = congruent-join (b .congruent) (congruent-sym c);
             first = λ y d. b .first y (congruent-join d c);
           }))),
-          (λ e. congruent-join (congruent-sym (a .congruent)) (subst (λ (y : Word). Congruent B y v) (sym e) (b .congruent))),
+          (λ e. congruent-join (congruent-sym (a .congruent)) (subst (λ (y : Word). Congruent (relationWords relations) y v) (sym e) (b .congruent))),
         );
         computed = λ u w.
             let x = written [] u (empty refl) in
@@ -144,20 +144,20 @@ module _ {B : List Word} (R : Facts B) (even : Even B) (rank : ℕ → ℕ) (inj
         short = λ u w l. let x = written [] u (empty refl) in x .short w (x .least w .1 (least-behind-nothing l));
       }
     where
-      exists : (u : Word) (r : Found) → written [] u (empty refl) .result ≡ r → (w : Word) × LeastWord B rank u w
+      exists : (u : Word) (r : Found) → written [] u (empty refl) .result ≡ r → (w : Word) × LeastWord (relationWords relations) rank u w
       exists u (found w) e = (w, least-word (written [] u (empty refl) .least w .0 e))
       exists u absent e = absurd (written [] u (empty refl) .missing .0 e u done)
 
 pub rounds-write-least : RoundsWriteLeast
-rounds-write-least relations c rank injective p u piece = written (rigid-of-c4 (relationWords relations) c) (even-sides relations) rank injective p u piece
+rounds-write-least relations c rank injective p u piece = written relations (rigid-of-c4 (wordsOf relations) c) rank injective p u piece
 
 pub least-words-decide : LeastWordsDecide
-least-words-decide relations c rank injective = least-words (rigid-of-c4 (relationWords relations) c) (even-sides relations) rank injective
+least-words-decide relations c rank injective = least-words relations (rigid-of-c4 (wordsOf relations) c) rank injective
 
 pub walk-tells-possible : WalkTellsPossible
 walk-tells-possible relations c p u piece =
-    let R = rigid-of-c4 (relationWords relations) c in
-    let r = possible-right R relationOf p u (marking-piece R piece) in (
-      (λ e. let x = r .0 e in (x .rest, congruent-of-chain (x .chain))),
-      (λ x. r .1 (record { rest = x .0; chain = chain-of-congruent (even-sides relations) (x .1) })),
+    let R = rigid-of-c4 (wordsOf relations) c in
+    let r = possible-right R (familyOf relations) p u (marking-piece R piece) in (
+      (λ e. let x = r .0 e in (x .rest, congruent-of-chain relations (x .chain))),
+      (λ x. r .1 (record { rest = x .0; chain = chain-of-congruent relations (x .1) })),
     )

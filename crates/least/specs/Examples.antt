@@ -3,37 +3,46 @@
 use mathlib.Core.List.{List, [], _∷_}
 use mathlib.Core.Path.{_≡_}
 use Rattle.words.specs.Words.{Word}
-use Rattle.congruence.specs.Starred.{bookQ}
+use Rattle.words.specs.Relations.{Relation}
+use Rattle.words.specs.Families.{wordsOf, familyOf}
+use Rattle.congruence.specs.Starred.{rule, bookQ}
 use Rattle.least.specs.Order.{houseRank}
-use Rattle.least.specs.Possible.{relationOf}
 use Rattle.least.specs.Writing.{Found, found, absent, leastBehind}
 
--- a book's relation words, a mark, a word and what the rounds give
+-- a book's relations, a mark, a word and what the rounds give
 pub data Case : Type 0 where
-  least : List Word → Word → Word → Found → Case
+  least : List Relation → Word → Word → Found → Case
 
 abbrev pub Holds : Case → Type 0
-Holds (least B p u r) = leastBehind B relationOf houseRank p u ≡ r
+Holds (least relations p u r) = leastBehind (wordsOf relations) (familyOf relations) houseRank p u ≡ r
 
 abbrev pub All : List Case → Type 0
 All [] = Unit {0}
 All (c ∷ cs) = Holds c × All cs
 
 -- a = b
-abbrev pub bookAB : List Word
-bookAB = (0 ∷ []) ∷ (1 ∷ []) ∷ []
+abbrev pub bookAB : List Relation
+bookAB = rule (0 ∷ []) (1 ∷ []) ∷ []
 
 -- ba = bcb
-abbrev pub bookBA : List Word
-bookBA = (1 ∷ 0 ∷ []) ∷ (1 ∷ 2 ∷ 1 ∷ []) ∷ []
+abbrev pub bookBA : List Relation
+bookBA = rule (1 ∷ 0 ∷ []) (1 ∷ 2 ∷ 1 ∷ []) ∷ []
 
 -- ad = de
-abbrev pub bookAD : List Word
-bookAD = (0 ∷ 3 ∷ []) ∷ (3 ∷ 4 ∷ []) ∷ []
+abbrev pub bookAD : List Relation
+bookAD = rule (0 ∷ 3 ∷ []) (3 ∷ 4 ∷ []) ∷ []
 
 -- a letter of rank 0 for the letter 0: letter 32 comes before letter 0
-abbrev pub bookRanks : List Word
-bookRanks = (0 ∷ []) ∷ (32 ∷ 33 ∷ []) ∷ []
+abbrev pub bookRanks : List Relation
+bookRanks = rule (0 ∷ []) (32 ∷ 33 ∷ []) ∷ []
+
+-- ad = c, c = aea: a family of three
+abbrev pub bookThree : List Relation
+bookThree = rule (0 ∷ 3 ∷ []) (2 ∷ []) ∷ rule (2 ∷ []) (0 ∷ 4 ∷ 0 ∷ []) ∷ []
+
+-- c = e, d = c: three letters in a family
+abbrev pub bookLetters : List Relation
+bookLetters = rule (2 ∷ []) (4 ∷ []) ∷ rule (3 ∷ []) (2 ∷ []) ∷ []
 
 abbrev pub worked : List Case
 worked =
@@ -60,6 +69,11 @@ worked =
     ∷ least bookAD (3 ∷ []) (0 ∷ 0 ∷ []) absent
     -- the house table: 32 comes before 0
     ∷ least bookRanks [] (0 ∷ 0 ∷ []) (found (32 ∷ 33 ∷ 32 ∷ 33 ∷ []))
+    -- ad = c, c = aea: cea, adea, aeaea, aec, aead, cd and add are one class; with a taken off: dd
+    ∷ least bookThree [] (2 ∷ 4 ∷ 0 ∷ []) (found (0 ∷ 3 ∷ 3 ∷ []))
+    ∷ least bookThree (0 ∷ []) (2 ∷ 3 ∷ []) (found (3 ∷ 3 ∷ []))
+    -- c = e, d = c: every d and every e becomes c
+    ∷ least bookLetters [] (4 ∷ 3 ∷ []) (found (2 ∷ 2 ∷ []))
     ∷ []
 
 abbrev pub WorkedHold : Type 0

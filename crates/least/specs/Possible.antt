@@ -1,26 +1,13 @@
 -- Whether a word is a possible prefix of another (document 003: some word that begins with it is congruent to the other), told by a walk along the other that
 -- rewrites nothing. Relation words i and j are of one family where `family i` is `family j`.
-use Prim.Native.Nat.{ℕ, zero, suc, _/_}
-use mathlib.Core.Bool.{Bool, true, false, _&&_}
+use Prim.Native.Nat.{ℕ, zero, suc}
+use mathlib.Core.Bool.{Bool, true, false}
 use mathlib.Core.List.{List}
-use lib.Dec.{eqb, leb}
+use lib.Dec.{leb}
 use lib.ListN.{length, drop}
-use Rattle.words.specs.Search.{anyBelow}
 use Rattle.words.specs.Words.{Word, isEmpty, isPrefix}
-use Rattle.overlap.specs.Cuts.{xylen, xOf, zOf}
-use Rattle.congruence.specs.Rows.{choose, cleanRelationPrefix, alike}
-
--- the family of a relation word, where a family is the two words of one relation
-abbrev pub relationOf : ℕ → ℕ
-relationOf i = i / 2
-
--- relation word j is of i's family, and p is a prefix of its X
-unfoldable pub marked : List Word → (ℕ → ℕ) → ℕ → Word → ℕ → Bool
-marked B family i p j = eqb (family i) (family j) && isPrefix p (xOf B j)
-
--- p is a prefix of the X of some member of i's family
-unfoldable pub markedByAny : List Word → (ℕ → ℕ) → ℕ → Word → Bool
-markedByAny B family i p = anyBelow (length B) (marked B family i p)
+use Rattle.overlap.specs.Cuts.{xylen, zOf}
+use Rattle.congruence.specs.Rows.{choose, cleanRelationPrefix, alike, markedByAny}
 
 -- the walk, of at most so many steps: p stands in front of u; or u begins with a letter that stays, and p with the same; or u begins with a clean XY, p with
 -- which a member of its family begins, and then Z must be possible behind XY

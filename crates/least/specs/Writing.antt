@@ -10,9 +10,9 @@ use Rattle.words.specs.Search.{anyBelow, least}
 use Rattle.words.specs.Words.{Word, isEmpty, isPrefix, commonSuffix}
 use Rattle.overlap.specs.Pieces.{word}
 use Rattle.overlap.specs.Cuts.{len, xylen, xOf, xyOf, zOf, longestSuffixPiece}
-use Rattle.congruence.specs.Rows.{choose, cleanRelationPrefix, active, alike}
+use Rattle.congruence.specs.Rows.{choose, cleanRelationPrefix, active, alike, marked}
 use Rattle.least.specs.Order.{before}
-use Rattle.least.specs.Possible.{marked, possible}
+use Rattle.least.specs.Possible.{possible}
 
 -- what a round gives: the end of the word; that there is no such word; or a part that is written, and the next p and u
 pub data Part : Type 0 where

@@ -3,8 +3,8 @@
 ghost use Rattle.least.specs.Theorem.{RoundsWriteLeast, LeastWordsDecide, WalkTellsPossible};
 ghost use Rattle.least.specs.Examples.{WorkedHold};
 
-// The rounds end within their bounds, and what they write is the least word, for every presentation that meets C(4), every order of the letters and every piece
-// as the first mark.
+// The rounds end within their bounds, and what they write is the least word, for every presentation whose distinct words meet C(4), every order of the letters
+// and every piece as the first mark.
 pub fn rounds_write_least()
     ensures { λ _. ⌜ RoundsWriteLeast ⌝ }
 {}

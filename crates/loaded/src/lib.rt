@@ -1,6 +1,7 @@
 // What the public entries do once a book is loaded: its cut sheet, and a round under it. A part for the entries, which load the book.
 ghost use mathlib.Core.Path.{_≡_};
 ghost use Rattle.layout.specs.Layout.{wordsIn};
+ghost use Rattle.layout.specs.Families.{familyBy};
 ghost use Rattle.moves.specs.State.{Ready};
 ghost use Rattle.answers.specs.Answers.{ofVerdict, ofRound};
 ghost use Rattle.answers.specs.Entries.{SheetOutcome as Sheets, RoundOutcome as Rounds, loadedRound, roomOf, askedOf};
@@ -84,7 +85,7 @@ pub fn loaded_round(
     np: &mut [u8],
 ) -> Round
     requires { ⌜ Ready (now text) (now table) n ⌝ }
-    ensures { λ r. ⌜ Rounds.after (ofRound r) (now (nu .exit)) (now (nv .exit)) (now (np .exit)) ≡ loadedRound letters (wordsIn (now (text .entry)) (now (table .entry)) n) (now (u .entry)) (now (v .entry)) (now (p .entry)) (now (nu .entry)) (now (nv .entry)) (now (np .entry)) ⌝ }
+    ensures { λ r. ⌜ Rounds.after (ofRound r) (now (nu .exit)) (now (nv .exit)) (now (np .exit)) ≡ loadedRound letters (wordsIn (now (text .entry)) (now (table .entry)) n) (familyBy (now (table .entry)) n) (now (u .entry)) (now (v .entry)) (now (p .entry)) (now (nu .entry)) (now (nv .entry)) (now (np .entry)) ⌝ }
 {
     let asked = check_asked(letters, u, v, p, nu.len(), nv.len(), np.len());
     match asked {

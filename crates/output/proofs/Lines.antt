@@ -11,6 +11,7 @@ use mir.Val.{Fits}
 use mir.Syntax.{w64}
 use Rattle.words.specs.Words.{part}
 use Rattle.layout.specs.Layout.{wordsIn}
+use Rattle.layout.specs.Families.{countOf, familyBy}
 use Rattle.refusals.specs.declared.Refusal.{Refusal}
 use Rattle.comparison.specs.declared.Comparison.{Comparison}
 use Rattle.moves.specs.State.{Ready}
@@ -51,7 +52,7 @@ pub record Lining (text table : List ℕ) (n letters : ℕ) (input : List ℕ) (
   pub most : ℕ
   pub enough : length input ≤ at + most
   pub written : List ℕ
-  pub whole : linesUnder text table n letters input start ≡ written ++ linesFrom most letters (wordsIn text table n) input at
+  pub whole : linesUnder text table n letters input start ≡ written ++ linesFrom most letters (wordsIn text table n) (familyBy table n) input at
   pub put : WrittenTo out place written b end
   pub room : place + length (linesUnder text table n letters input start) ≤ length out
 
@@ -77,20 +78,20 @@ module _ (text table : List ℕ) (n letters : ℕ) (input : List ℕ) (start : �
     unfolding linesFrom
     lining-end h = subst (λ (s : List ℕ). WrittenTo out place s b end) (sym (l .whole ∙ nothing (l .most))) (l .put)
       where
-        nothing : (most : ℕ) → l .written ++ linesFrom most letters (wordsIn text table n) input at ≡ l .written
+        nothing : (most : ℕ) → l .written ++ linesFrom most letters (wordsIn text table n) (familyBy table n) input at ≡ l .written
         nothing zero = append-nil (l .written)
         nothing (suc most) = rw (le-leb (length input) at h) (append-nil (l .written))
 
     module _ (h : at < length input) (r : Request) (e : r ≡ requestAt input at) where
       -- the lines from here on, by what the record asks for
       on : (m : ℕ) × (length input ≤ at + suc m)
-          × (linesUnder text table n letters input start ≡ l .written ++ byRequest (linesFrom m letters (wordsIn text table n) input) letters (wordsIn text table n) input r)
+          × (linesUnder text table n letters input start ≡ l .written ++ byRequest (linesFrom m letters (wordsIn text table n) (familyBy table n) input) letters (wordsIn text table n) (familyBy table n) input r)
       unfolding linesFrom
       on = step (l .most) (l .enough) (l .whole)
         where
-          step : (m : ℕ) → length input ≤ at + m → linesUnder text table n letters input start ≡ l .written ++ linesFrom m letters (wordsIn text table n) input at
+          step : (m : ℕ) → length input ≤ at + m → linesUnder text table n letters input start ≡ l .written ++ linesFrom m letters (wordsIn text table n) (familyBy table n) input at
               → (m : ℕ) × (length input ≤ at + suc m)
-              × (linesUnder text table n letters input start ≡ l .written ++ byRequest (linesFrom m letters (wordsIn text table n) input) letters (wordsIn text table n) input r)
+              × (linesUnder text table n letters input start ≡ l .written ++ byRequest (linesFrom m letters (wordsIn text table n) (familyBy table n) input) letters (wordsIn text table n) (familyBy table n) input r)
           step zero k q = absurd (omega arith)
           step (suc m) k q = (m, k, q ∙ rw (lt-leb (length input) at h, e))
 
@@ -103,7 +104,7 @@ module _ (text table : List ℕ) (n letters : ℕ) (input : List ℕ) (start : �
 
       module _ (x : Refusal) (f : r ≡ Refused x) where
         last-whole : linesUnder text table n letters input start ≡ l .written ++ refusedLine x
-        last-whole = on .2 ∙ ap (λ (t : Request). l .written ++ byRequest (linesFrom (on .0) letters (wordsIn text table n) input) letters (wordsIn text table n) input t) f
+        last-whole = on .2 ∙ ap (λ (t : Request). l .written ++ byRequest (linesFrom (on .0) letters (wordsIn text table n) (familyBy table n) input) letters (wordsIn text table n) (familyBy table n) input t) f
 
         pub lining-last-room : end + length (refusedLine x) ≤ length b
         lining-last-room = room-next (refusedLine x) [] (last-whole ∙ rw append-nil)
@@ -120,20 +121,20 @@ module _ (text table : List ℕ) (n letters : ℕ) (input : List ℕ) (start : �
         pub lining-less : length input - to < length input - at
         lining-less = let w0 = lies .behind in let w1 = lies .inside in omega arith
 
-        module _ (c : Comparison) (g : c ≡ comparisonOf letters (wordsIn text table n) (part input first second) (part input second to) a) where
-          next-whole : linesUnder text table n letters input start ≡ l .written ++ (comparisonLine c ++ linesFrom (on .0) letters (wordsIn text table n) input to)
+        module _ (c : Comparison) (g : c ≡ comparisonOf letters (wordsIn text table n) (familyBy table n) (part input first second) (part input second to) a) where
+          next-whole : linesUnder text table n letters input start ≡ l .written ++ (comparisonLine c ++ linesFrom (on .0) letters (wordsIn text table n) (familyBy table n) input to)
           next-whole =
-              on .2 ∙ ap (λ (t : Request). l .written ++ byRequest (linesFrom (on .0) letters (wordsIn text table n) input) letters (wordsIn text table n) input t) f
+              on .2 ∙ ap (λ (t : Request). l .written ++ byRequest (linesFrom (on .0) letters (wordsIn text table n) (familyBy table n) input) letters (wordsIn text table n) (familyBy table n) input t) f
               ∙ rw g
 
           pub lining-room : end + length (comparisonLine c) ≤ length b
-          lining-room = room-next (comparisonLine c) (linesFrom (on .0) letters (wordsIn text table n) input to) next-whole
+          lining-room = room-next (comparisonLine c) (linesFrom (on .0) letters (wordsIn text table n) (familyBy table n) input to) next-whole
 
           pub lining-more : (b′ : List ℕ) (end′ : ℕ) → WrittenTo b end (comparisonLine c) b′ end′ → Lining text table n letters input start out place to end′ b′
           lining-more b′ end′ p =
               let s = l .written in
               let t = comparisonLine c in
-              let rest = linesFrom (on .0) letters (wordsIn text table n) input to in
+              let rest = linesFrom (on .0) letters (wordsIn text table n) (familyBy table n) input to in
               let q : linesUnder text table n letters input start ≡ (s ++ t) ++ rest = next-whole ∙ sym (append-assoc s t rest) in
               let k : place + length ((s ++ t) ++ rest) ≤ length out = subst (λ (x : List ℕ). place + length x ≤ length out) q (l .room) in
               let w0 = lies .behind in
@@ -171,7 +172,7 @@ module _ (text table : List ℕ) (relations letters : ℕ) (input : List ℕ) (e
   accepted-words = omega (arith, h .few)
 
   pub accepted-line : 0 + length (lineOf bookText relations) ≤ length out
-  accepted-line = room-first out 0 (lineOf bookText relations) (linesUnder text table (2 * relations) letters input end) room
+  accepted-line = room-first out 0 (lineOf bookText relations) (linesUnder text table (countOf table) letters input end) room
 
   module _ (a : List ℕ) (r : ℕ) (p : WrittenTo out 0 (lineOf bookText relations) a r) where
     pub accepted-lined : Lined text table (2 * relations) letters input end a r
@@ -179,11 +180,11 @@ module _ (text table : List ℕ) (relations letters : ℕ) (input : List ℕ) (e
         record {
           ready = h .ready;
           within = h .within;
-          room = room-second out 0 (lineOf bookText relations) a r (linesUnder text table (2 * relations) letters input end) room p;
+          room = room-second out 0 (lineOf bookText relations) a r (linesUnder text table (countOf table) letters input end) room p;
         }
 
-    pub accepted-put : (b : List ℕ) (q : ℕ) → WrittenTo a r (linesUnder text table (2 * relations) letters input end) b q
+    pub accepted-put : (b : List ℕ) (q : ℕ) → WrittenTo a r (linesUnder text table (countOf table) letters input end) b q
         → WrittenTo out 0 (linesOfAccepted text table relations letters input end) b q
-    accepted-put b q g = put-both out 0 (lineOf bookText relations) a r (linesUnder text table (2 * relations) letters input end) b q room p g
+    accepted-put b q g = put-both out 0 (lineOf bookText relations) a r (linesUnder text table (countOf table) letters input end) b q room p g
 
 pub ruleset accepts = (accepted-words, accepted-line, accepted-lined, accepted-put, needs)

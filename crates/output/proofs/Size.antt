@@ -9,8 +9,9 @@ use lib.Dec.{eqb, leb, ltb}
 use lib.ListN.{length, take, length-append, length-take}
 use Rattle.words.specs.Words.{Word, part}
 use Rattle.words.specs.Relations.{relationWords}
+use Rattle.words.specs.Families.{wordsOf, familyOf}
 use Rattle.overlap.specs.Cuts.{firstLoose}
-use Rattle.overlap.specs.Verdict.{Verdict, judge, firstRepeated}
+use Rattle.overlap.specs.Verdict.{Verdict, judge, firstLooseSide}
 use Rattle.congruence.specs.Rows.{Next, round}
 use Rattle.congruence.specs.Rows.Next.{end, go}
 use Rattle.congruence.specs.Rounds.{CompareAnswer, answerFrom, compareUnder}
@@ -19,7 +20,7 @@ use Rattle.limits.specs.declared.Record.{Record}
 use Rattle.limits.specs.declared.Record.the-variants.{Whole, CutOff}
 use Rattle.limits.specs.Limits.{inputMost, lettersMost, relationsMost, comparisonKind, comparedMost}
 use Rattle.refusals.specs.declared.Refusal.{Refusal}
-use Rattle.refusals.specs.declared.Refusal.the-variants.{Short, Kind, Length, Range, UnknownLetter, TooMany, Repeated, Loose, Long, Stranger, Spent, Narrow, Heavy, NoSpace}
+use Rattle.refusals.specs.declared.Refusal.the-variants.{Short, Kind, Length, Range, UnknownLetter, TooMany, Loose, Long, Stranger, Spent, Narrow, Heavy, NoSpace}
 use Rattle.refusals.specs.Refusals.{numberAndPlace}
 use Rattle.letters.specs.Letters.{firstUnknown}
 use Rattle.format.specs.declared.HeadReading.{HeadReading}
@@ -83,7 +84,6 @@ number-small (Length at) = omega arith
 number-small (Range at) = omega arith
 number-small (UnknownLetter at) = omega arith
 number-small (TooMany at) = omega arith
-number-small (Repeated i) = omega arith
 number-small (Loose i) = omega arith
 number-small (Long w) = omega arith
 number-small (Stranger w i) = omega arith
@@ -107,18 +107,18 @@ counted (different n) = n
 counted (spent n) = n
 
 -- they are no more than were allowed
-count-allowed : (B : List Word) (left m : ℕ) (u v p : Word) → counted (answerFrom B left m u v p) ≤ m + left
+count-allowed : (B : List Word) (family : ℕ → ℕ) (left m : ℕ) (u v p : Word) → counted (answerFrom B family left m u v p) ≤ m + left
 unfolding answerFrom
-count-allowed B zero m u v p = step (round B u v p) refl
+count-allowed B family zero m u v p = step (round B family u v p) refl
   where
-    step : (x : Next) → round B u v p ≡ x → counted (answerFrom B zero m u v p) ≤ m + zero
+    step : (x : Next) → round B family u v p ≡ x → counted (answerFrom B family zero m u v p) ≤ m + zero
     step (end true) e = rw e (omega arith)
     step (end false) e = rw e (omega arith)
     step (go u′ v′ p′) e = rw e (omega arith)
-count-allowed B (suc left) m u v p = step (count-allowed B left (m + 1)) (round B u v p) refl
+count-allowed B family (suc left) m u v p = step (count-allowed B family left (m + 1)) (round B family u v p) refl
   where
-    step : ((u v p : Word) → counted (answerFrom B left (m + 1) u v p) ≤ m + 1 + left) → (x : Next) → round B u v p ≡ x
-        → counted (answerFrom B (suc left) m u v p) ≤ m + suc left
+    step : ((u v p : Word) → counted (answerFrom B family left (m + 1) u v p) ≤ m + 1 + left) → (x : Next) → round B family u v p ≡ x
+        → counted (answerFrom B family (suc left) m u v p) ≤ m + suc left
     step f (end true) e = rw e (omega arith)
     step f (end false) e = rw e (omega arith)
     step f (go u′ v′ p′) e = rw e (omega (arith, f u′ v′ p′))
@@ -161,14 +161,14 @@ small-given : (g : Given) (c : Comparison) → SmallGiven g → Small c → Smal
 small-given Givens.Fine c a b = b
 small-given (Givens.Refused r) c a b = a
 
-small-comparison : (letters : ℕ) (B : List Word) (u v : Word) (allowance : ℕ) → allowance < numberMost → Small (comparisonOf letters B u v allowance)
+small-comparison : (letters : ℕ) (B : List Word) (family : ℕ → ℕ) (u v : Word) (allowance : ℕ) → allowance < numberMost → Small (comparisonOf letters B family u v allowance)
 unfolding answerOf comparisonOf pairOf
-small-comparison letters B u v allowance h =
-    let n = count-allowed B allowance 0 u v [] in
+small-comparison letters B family u v allowance h =
+    let n = count-allowed B family allowance 0 u v [] in
     let a = small-word 0 letters u (omega arith) in
     let b = small-word 1 letters v (omega arith) in
-    let c = small-answer (compareUnder B allowance u v) (omega arith) in
-    small-given (pairOf letters u v) (byAnswer (compareUnder B allowance u v)) (small-then (givenOf 0 comparedMost letters u) (givenOf 1 comparedMost letters v) a b) c
+    let c = small-answer (compareUnder B family allowance u v) (omega arith) in
+    small-given (pairOf letters u v) (byAnswer (compareUnder B family allowance u v)) (small-then (givenOf 0 comparedMost letters u) (givenOf 1 comparedMost letters v) a b) c
 
 comparison-short : (c : Comparison) → Small c → length (comparisonLine c) ≤ lineMost
 comparison-short (Same n) h = line-short sameText n (omega arith) h
@@ -237,29 +237,215 @@ request-place input at r e = placed (subst (PlacedAt at) e (request-whole input 
     placed : PlacedAt at (Requests.Refused r) → numberAndPlace r .place ≡ at
     placed (refused-there h) = refusal-place at r h
 
-module _ (letters : ℕ) (B : List Word) (input : List ℕ) (bytes : AreBytes input) (small : length input ≤ inputMost) where
+module _ (letters : ℕ) (B : List Word) (family : ℕ → ℕ) (input : List ℕ) (bytes : AreBytes input) (small : length input ≤ inputMost) where
   -- the lines from a record on
   few-request : (next : ℕ → List ℕ) (at : ℕ) → at < length input → ((to : ℕ) → to ≤ length input → Few (length input) to (next to)) → (r : Request) → requestAt input at ≡ r
-      → Few (length input) at (byRequest next letters B input r)
+      → Few (length input) at (byRequest next letters B family input r)
   few-request next at h f (Requests.Refused x) e =
       let p = request-place input at x e in
       few-one _ at _ h (refused-short x (omega arith))
   few-request next at h f (Requests.Compare a first second to) e =
       let w = lies-of input at (Requests.Compare a first second to) (sym e) a first second to refl in
       let k = field-small input (at + 4) bytes in
-      let c = comparisonOf letters B (part input first second) (part input second to) a in
-      let l = small-comparison letters B (part input first second) (part input second to) a (omega (arith, w .allowed)) in
+      let c = comparisonOf letters B family (part input first second) (part input second to) a in
+      let l = small-comparison letters B family (part input first second) (part input second to) a (omega (arith, w .allowed)) in
       few-more _ at to (comparisonLine c) (next to) (omega (arith, w .behind)) (comparison-short c l) (f to (w .inside))
 
-  few-lines : (most at : ℕ) → at ≤ length input → Few (length input) at (linesFrom most letters B input at)
+  few-lines : (most at : ℕ) → at ≤ length input → Few (length input) at (linesFrom most letters B family input at)
   unfolding linesFrom
   few-lines zero at h = few-none _ at (omega arith)
   few-lines (suc most) at h = go (few-lines most) (leb (length input) at) refl
     where
-      go : ((to : ℕ) → to ≤ length input → Few (length input) to (linesFrom most letters B input to)) → (b : Bool) → leb (length input) at ≡ b
-          → Few (length input) at (cond b [] (byRequest (linesFrom most letters B input) letters B input (requestAt input at)))
+      go : ((to : ℕ) → to ≤ length input → Few (length input) to (linesFrom most letters B family input to)) → (b : Bool) → leb (length input) at ≡ b
+          → Few (length input) at (cond b [] (byRequest (linesFrom most letters B family input) letters B family input (requestAt input at)))
       go f true e = few-none _ at (omega arith)
-      go f false e = few-request (linesFrom most letters B input) at (leb-false (length input) at e) f (requestAt input at) refl
+      go f false e = few-request (linesFrom most letters B family input) at (leb-false (length input) at e) f (requestAt input at) refl
+
+-- what reading a record gives: its refusal, or a position up to n
+data HeadUpto (n place : ℕ) : HeadReading → Type 0 where
+  refused-at : {r : Refusal} → RecordRefusal place r → HeadUpto n place (Heads.Refused r)
+  read-to : {letters to : ℕ} → to ≤ n → HeadUpto n place (Heads.Read letters to)
+
+data RelationUpto (n place : ℕ) : RelationReading → Type 0 where
+  refused-at : {r : Refusal} → RecordRefusal place r → RelationUpto n place (Relations.Refused r)
+  read-to : {left right to : ℕ} → to ≤ n → RelationUpto n place (Relations.Read left right to)
+
+head-cond : (n place : ℕ) (b : Bool) (x y : HeadReading) → HeadUpto n place x → HeadUpto n place y → HeadUpto n place (cond b x y)
+head-cond n place true x y h k = h
+head-cond n place false x y h k = k
+
+relation-cond : (n place : ℕ) (b : Bool) (x y : RelationReading) → RelationUpto n place x → RelationUpto n place y → RelationUpto n place (cond b x y)
+relation-cond n place true x y h k = h
+relation-cond n place false x y h k = k
+
+ruleset uptos = (head-cond, relation-cond, HeadUpto.refused-at, HeadUpto.read-to, RelationUpto.refused-at, RelationUpto.read-to, RecordRefusal.short-there, RecordRefusal.kind-there, RecordRefusal.length-there, RecordRefusal.range-there, RecordRefusal.unknown-there, RecordRefusal.many-there)
+
+module _ (book : List ℕ) (at place : ℕ) where
+  -- a record that is there, by its checks
+  upto-whole : {A : Type 0} (P : A → Type 0) (none : A) (next : ℕ → ℕ → ℕ → A) → P none → ((kind from to : ℕ) → to ≤ length book → P (next kind from to)) → (o : Record)
+      → recordAt book at ≡ o → P (onWhole o none next)
+  upto-whole P none next s f CutOff e = s
+  upto-whole P none next s f (Whole kind from to) e = f kind from to (whole-at book at kind from to e .fits)
+
+  head-upto : (most : ℕ) → HeadUpto (length book) place (headAt most place book at)
+  unfolding headAt
+  head-upto most = upto-whole (HeadUpto (length book) place) _ _ (search uptos) (λ kind from to k. search uptos depth 8) (recordAt book at) refl
+
+  relation-upto : (letters count : ℕ) → RelationUpto (length book) place (relationAt letters count place book at)
+  unfolding relationAt fieldsAt
+  relation-upto letters count = upto-whole (RelationUpto (length book) place) _ _ (search uptos) (λ kind from to k. search uptos depth 8) (recordAt book at) refl
+
+-- a book that is read, or refused at a place up to its length
+abbrev BookUpto : ℕ → BookReading → Type 0
+BookUpto n (BookReading.refused r) = numberAndPlace r .place ≤ n
+BookUpto n (BookReading.read presentation) = Unit {0}
+
+relations-upto : (fuel : ℕ) (p : Presentation) (book : List ℕ) (at : ℕ) → at ≤ length book → BookUpto (length book) (relationsFrom fuel p book at)
+unfolding relationsFrom
+relations-upto zero p book at h = tt
+relations-upto (suc fuel) p book at h =
+    step (λ left right to. relations-upto fuel (adding p (relationIn book left right to)) book to) (leb (length book) at) (relationAt (p .letters) (length (p .relations)) at book at)
+    (relation-upto book at at (p .letters) (length (p .relations)))
+  where
+    step : ((left right to : ℕ) → to ≤ length book → BookUpto (length book) (relationsFrom fuel (adding p (relationIn book left right to)) book to)) → (b : Bool)
+        (o : RelationReading) → RelationUpto (length book) at o
+        → BookUpto (length book) (cond b (BookReading.read p) (onRelation o (λ left right to. relationsFrom fuel (adding p (relationIn book left right to)) book to)))
+    step f true o k = tt
+    step f false (Relations.Refused r) (RelationUpto.refused-at k) = omega (arith, refusal-place at r k)
+    step f false (Relations.Read left right to) (RelationUpto.read-to k) = f left right to k
+
+book-upto : (book : List ℕ) → BookUpto (length book) (readBook book)
+unfolding readBook
+book-upto book = step (headAt lettersMost 0 book 0) (head-upto book 0 0 lettersMost)
+  where
+    step : (o : HeadReading) → HeadUpto (length book) 0 o
+        → BookUpto (length book) (onHead o (λ letters to. relationsFrom (length book) (record { letters = letters; relations = [] }) book to))
+    step (Heads.Refused r) (HeadUpto.refused-at k) = omega (arith, refusal-place 0 r k)
+    step (Heads.Read letters to) (HeadUpto.read-to k) = relations-upto (length book) (record { letters = letters; relations = [] }) book to k
+
+-- a book's loading: few relations, or a refusal with a small place
+abbrev SmallLoading : BookReading → Type 0
+SmallLoading (BookReading.refused r) = numberAndPlace r .place < numberMost
+SmallLoading (BookReading.read p) = length (p .relations) ≤ relationsMost
+
+small-judged : (p : Presentation) → length (p .relations) ≤ relationsMost → SmallLoading (byVerdict p (judge (relationWords (p .relations))))
+unfolding judge
+small-judged p h = go (ltb (firstLooseSide sides) (length sides)) refl
+  where
+    sides : List Word
+    sides = relationWords (p .relations)
+
+    go : (b : Bool) → ltb (firstLooseSide sides) (length sides) ≡ b → SmallLoading (byVerdict p (cond b (Verdict.loose (firstLooseSide sides)) Verdict.accepted))
+    go true e = omega (arith, ltb-true (firstLooseSide sides) (length sides) e, length-words (p .relations))
+    go false e = h
+
+small-then : (g h : Given) → SmallGiven g → SmallGiven h → SmallGiven (onGiven g Givens.Refused h)
+small-then Givens.Fine h a b = b
+small-then (Givens.Refused r) h a b = a
+
+small-given : (g : Given) (c : Comparison) → SmallGiven g → Small c → Small (onGiven g Refused c)
+small-given Givens.Fine c a b = b
+small-given (Givens.Refused r) c a b = a
+
+small-comparison : (letters : ℕ) (B : List Word) (family : ℕ → ℕ) (u v : Word) (allowance : ℕ) → allowance < numberMost → Small (comparisonOf letters B family u v allowance)
+unfolding answerOf comparisonOf pairOf
+small-comparison letters B family u v allowance h =
+    let n = count-allowed B family allowance 0 u v [] in
+    let a = small-word 0 letters u (omega arith) in
+    let b = small-word 1 letters v (omega arith) in
+    let c = small-answer (compareUnder B family allowance u v) (omega arith) in
+    small-given (pairOf letters u v) (byAnswer (compareUnder B family allowance u v)) (small-then (givenOf 0 comparedMost letters u) (givenOf 1 comparedMost letters v) a b) c
+
+comparison-short : (c : Comparison) → Small c → length (comparisonLine c) ≤ lineMost
+comparison-short (Same n) h = line-short sameText n (omega arith) h
+comparison-short (Different n) h = line-short differentText n (omega arith) h
+comparison-short (Refused r) h = refused-short r h
+
+-- a four-byte field of bytes
+field-small : (input : List ℕ) (at : ℕ) → AreBytes input → longField input at < numberMost
+field-small input at b = omega (arith, b at, b (at + 1), b (at + 2), b (at + 2 + 1))
+
+-- a text of few lines for the bytes from a position on
+record Few (n at : ℕ) (s : List ℕ) : Type 0 where
+  pub count : ℕ
+  pub lines : length s ≤ lineMost * count
+  pub records : at + 12 * count ≤ n + 11
+
+few-none : (n at : ℕ) → at ≤ n + 11 → Few n at []
+few-none n at h = record { count = 0; lines = omega arith; records = omega arith }
+
+few-one : (n at : ℕ) (s : List ℕ) → at < n → length s ≤ lineMost → Few n at s
+few-one n at s h k = record { count = 1; lines = omega arith; records = omega arith }
+
+few-more : (n at to : ℕ) (s t : List ℕ) → at + 12 ≤ to → length s ≤ lineMost → Few n to t → Few n at (s ++ t)
+few-more n at to s t h k f =
+    let l = length-append s t in
+    record { count = suc (f .count); lines = omega (arith, f .lines); records = omega (arith, f .records) }
+
+-- the refusals of a record, which report a place
+data RecordRefusal (place : ℕ) : Refusal → Type 0 where
+  short-there : RecordRefusal place (Short place)
+  kind-there : RecordRefusal place (Kind place)
+  length-there : RecordRefusal place (Length place)
+  range-there : RecordRefusal place (Range place)
+  unknown-there : RecordRefusal place (UnknownLetter place)
+  many-there : RecordRefusal place (TooMany place)
+
+refusal-place : (place : ℕ) (r : Refusal) → RecordRefusal place r → numberAndPlace r .place ≡ place
+refusal-place place r RecordRefusal.short-there = refl
+refusal-place place r RecordRefusal.kind-there = refl
+refusal-place place r RecordRefusal.length-there = refl
+refusal-place place r RecordRefusal.range-there = refl
+refusal-place place r RecordRefusal.unknown-there = refl
+refusal-place place r RecordRefusal.many-there = refl
+
+-- what a record of the kind 3 part asks for, or its refusal
+data PlacedAt (place : ℕ) : Request → Type 0 where
+  refused-there : {r : Refusal} → RecordRefusal place r → PlacedAt place (Requests.Refused r)
+  asked : {a first second to : ℕ} → PlacedAt place (Requests.Compare a first second to)
+
+request-cond : (place : ℕ) (b : Bool) (x y : Request) → PlacedAt place x → PlacedAt place y → PlacedAt place (cond b x y)
+request-cond place true x y h k = h
+request-cond place false x y h k = k
+
+ruleset requests = (request-cond, PlacedAt.refused-there, PlacedAt.asked, RecordRefusal.short-there, RecordRefusal.kind-there, RecordRefusal.length-there)
+
+request-whole : (input : List ℕ) (at : ℕ) (o : Record)
+    → PlacedAt at (onWhole o (Requests.Refused (Short at)) (λ kind from to. cond (differs kind comparisonKind) (Requests.Refused (Kind at)) (fieldsOf input at from to)))
+unfolding fieldsOf
+request-whole input at CutOff = search requests
+request-whole input at (Whole kind from to) = search requests depth 8
+
+request-place : (input : List ℕ) (at : ℕ) (r : Refusal) → requestAt input at ≡ Requests.Refused r → numberAndPlace r .place ≡ at
+unfolding requestAt
+request-place input at r e = placed (subst (PlacedAt at) e (request-whole input at (recordAt input at)))
+  where
+    placed : PlacedAt at (Requests.Refused r) → numberAndPlace r .place ≡ at
+    placed (refused-there h) = refusal-place at r h
+
+module _ (letters : ℕ) (B : List Word) (family : ℕ → ℕ) (input : List ℕ) (bytes : AreBytes input) (small : length input ≤ inputMost) where
+  -- the lines from a record on
+  few-request : (next : ℕ → List ℕ) (at : ℕ) → at < length input → ((to : ℕ) → to ≤ length input → Few (length input) to (next to)) → (r : Request) → requestAt input at ≡ r
+      → Few (length input) at (byRequest next letters B family input r)
+  few-request next at h f (Requests.Refused x) e =
+      let p = request-place input at x e in
+      few-one _ at _ h (refused-short x (omega arith))
+  few-request next at h f (Requests.Compare a first second to) e =
+      let w = lies-of input at (Requests.Compare a first second to) (sym e) a first second to refl in
+      let k = field-small input (at + 4) bytes in
+      let c = comparisonOf letters B family (part input first second) (part input second to) a in
+      let l = small-comparison letters B family (part input first second) (part input second to) a (omega (arith, w .allowed)) in
+      few-more _ at to (comparisonLine c) (next to) (omega (arith, w .behind)) (comparison-short c l) (f to (w .inside))
+
+  few-lines : (most at : ℕ) → at ≤ length input → Few (length input) at (linesFrom most letters B family input at)
+  unfolding linesFrom
+  few-lines zero at h = few-none _ at (omega arith)
+  few-lines (suc most) at h = go (few-lines most) (leb (length input) at) refl
+    where
+      go : ((to : ℕ) → to ≤ length input → Few (length input) to (linesFrom most letters B family input to)) → (b : Bool) → leb (length input) at ≡ b
+          → Few (length input) at (cond b [] (byRequest (linesFrom most letters B family input) letters B family input (requestAt input at)))
+      go f true e = few-none _ at (omega arith)
+      go f false e = few-request (linesFrom most letters B family input) at (leb-false (length input) at e) f (requestAt input at) refl
 
 -- what reading a record gives: its refusal, or a position up to n
 data HeadUpto (n place : ℕ) : HeadReading → Type 0 where
@@ -379,10 +565,10 @@ end-within (suc most) input at h = first (end-within most input (at + 4 + field 
 loading-fits : (input : List ℕ) (o : BookReading) → AreBytes input → length input ≤ inputMost → SmallLoading o → length (byLoading input o) ≤ outputMost
 loading-fits input (BookReading.refused r) b h k = let l = refused-short r k in omega arith
 loading-fits input (BookReading.read p) b h k =
-    let B = relationWords (p .relations) in
-    let f = few-lines (p .letters) B input b h (length input) (bookEnd input) (end-within (length input) input 0 (omega arith)) in
+    let B = wordsOf (p .relations) in
+    let f = few-lines (p .letters) B (familyOf (p .relations)) input b h (length input) (bookEnd input) (end-within (length input) input 0 (omega arith)) in
     let l = line-short bookText (length (p .relations)) (omega arith) (omega arith) in
-    let a = length-append (lineOf bookText (length (p .relations))) (linesFrom (length input) (p .letters) B input (bookEnd input)) in
+    let a = length-append (lineOf bookText (length (p .relations))) (linesFrom (length input) (p .letters) B (familyOf (p .relations)) input (bookEnd input)) in
     omega (arith, f .lines, f .records)
 
 pub output-fits : OutputFits

@@ -58,14 +58,14 @@ module _ (input : List ℕ) (end : ℕ) (e : end ≡ bookEnd input) where
           let h = held in
           let q : loadBook (take (bookEnd input) input) ≡ BookReading.read (h .presentation) =
           subst (λ (n : ℕ). loadBook (take n input) ≡ BookReading.read (h .presentation)) e (h .is) in
-          ap (byLoading input) q ∙ rw (h .words, ← e, ← h .many, ← h .lettered)
+          ap (byLoading input) q ∙ rw (h .words, h .families, ← e, ← h .many, ← h .lettered)
 
       pub accepted-fits : (out : List ℕ) → Roomy input out → Accepted text table count letters input end out
       accepted-fits out h =
           let k = held in
           record {
             few = omega (arith, k .many, k .within .fewRelations);
-            ready = record { paired = record { checked = k .checked; even = omega arith }; text-short = omega (arith, l .memory .textRoomy) };
+            ready = record { grouped = k .grouped; text-short = omega (arith, l .memory .textRoomy) };
             within = book-within;
             room = omega (arith, h .room, ap length accepted-whole);
           }

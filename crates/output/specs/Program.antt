@@ -6,7 +6,7 @@ use mathlib.Core.Path.{_≡_}
 use lib.Dec.{eqb, leb, ltb}
 use lib.ListN.{length, take}
 use Rattle.words.specs.Words.{Word, part}
-use Rattle.words.specs.Relations.{relationWords}
+use Rattle.words.specs.Families.{wordsOf, familyOf}
 use Rattle.limits.specs.Limits.{recordPrefix, inputMost, comparisonKind}
 use Rattle.refusals.specs.declared.Refusal.{Refusal}
 use Rattle.refusals.specs.declared.Refusal.the-variants.{Heavy}
@@ -58,28 +58,28 @@ abbrev pub bookEnd : List ℕ → ℕ
 bookEnd input = bookEndFrom (length input) input 0
 
 -- the lines from a record on, by what it asks for: a refusal of the record (1, 2 or 3) ends them, else `next` gives those behind it
-abbrev pub byRequest : (ℕ → List ℕ) → ℕ → List Word → List ℕ → Request → List ℕ
-byRequest next letters B input (Requests.Refused r) = refusedLine r
-byRequest next letters B input (Requests.Compare allowance first second end) =
-    comparisonLine (comparisonOf letters B (part input first second) (part input second end) allowance) ++ next end
+abbrev pub byRequest : (ℕ → List ℕ) → ℕ → List Word → (ℕ → ℕ) → List ℕ → Request → List ℕ
+byRequest next letters B family input (Requests.Refused r) = refusedLine r
+byRequest next letters B family input (Requests.Compare allowance first second end) =
+    comparisonLine (comparisonOf letters B family (part input first second) (part input second end) allowance) ++ next end
 
 -- the lines of the comparison records from a position on; a fuel of the input's length never runs out (FuelSuffices)
-unfoldable pub linesFrom : ℕ → ℕ → List Word → List ℕ → ℕ → List ℕ
-linesFrom zero letters B input at = []
-linesFrom (suc fuel) letters B input at = cond (leb (length input) at) [] (byRequest (linesFrom fuel letters B input) letters B input (requestAt input at))
+unfoldable pub linesFrom : ℕ → ℕ → List Word → (ℕ → ℕ) → List ℕ → ℕ → List ℕ
+linesFrom zero letters B family input at = []
+linesFrom (suc fuel) letters B family input at = cond (leb (length input) at) [] (byRequest (linesFrom fuel letters B family input) letters B family input (requestAt input at))
 
 -- a fuel of the bytes behind the position is enough: more of it changes nothing
 pub record FuelSuffices : Type 0 where
   pub end : (fuel more : ℕ) (input : List ℕ) (at : ℕ) → length input ≤ at + fuel → fuel ≤ more → bookEndFrom more input at ≡ bookEndFrom fuel input at
-  pub lines : (fuel more letters : ℕ) (B : List Word) (input : List ℕ) (at : ℕ) → length input ≤ at + fuel → fuel ≤ more
-      → linesFrom more letters B input at ≡ linesFrom fuel letters B input at
+  pub lines : (fuel more letters : ℕ) (B : List Word) (family : ℕ → ℕ) (input : List ℕ) (at : ℕ) → length input ≤ at + fuel → fuel ≤ more
+      → linesFrom more letters B family input at ≡ linesFrom fuel letters B family input at
 
 -- an accepted book's line, then those of the comparisons; the refusal of any other book is the whole output
 abbrev pub byLoading : List ℕ → BookReading → List ℕ
 byLoading input (BookReading.refused r) = refusedLine r
 byLoading input (BookReading.read presentation) =
     lineOf bookText (length (presentation .relations))
-    ++ linesFrom (length input) (presentation .letters) (relationWords (presentation .relations)) input (bookEnd input)
+    ++ linesFrom (length input) (presentation .letters) (wordsOf (presentation .relations)) (familyOf (presentation .relations)) input (bookEnd input)
 
 -- what is written for an input that is not too long
 abbrev pub loadedOutput : List ℕ → List ℕ

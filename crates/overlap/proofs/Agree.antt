@@ -115,11 +115,7 @@ least-iff-none n test P r =
     go k h f true e = absurd (f k h (r k h .0 e))
     go k h f false e = refl
 
--- `firstLoose` is the lowest relation word that is a product of fewer than four pieces
-pub firstLoose-iff-lowest : (B : List Word) (i : ℕ) → i < length B → firstLoose B ≡ i ↔ Lowest (length B) (FewPieces 4 B) i
-unfolding firstLoose
-firstLoose-iff-lowest B i h = least-iff-lowest (length B) (loose B) (FewPieces 4 B) (loose-iff-few-pieces B) i h
-
+-- `firstLoose` is a relation word, or their number
 pub firstLoose-bound : (B : List Word) → firstLoose B ≤ length B
 unfolding firstLoose
 firstLoose-bound B = least-bound (length B) (loose B)

@@ -5,6 +5,7 @@ use mathlib.Core.Logic.{by-cases, _↔_}
 use native.Mathlib.Omega.{arith}
 use native.Mathlib.Decide.{decLt}
 use Rattle.words.specs.Words.{Word}
+use Rattle.words.specs.Families.{distinctWords}
 use Rattle.overlap.specs.Pieces.{word, SmallOverlap}
 use Rattle.overlap.specs.Counts.{noProduct, number, pieceCount, NumbersAtLeast}
 use Rattle.overlap.specs.Theorems.{TestsPieces, VerdictsRight, AcceptsC4, CountsFewest, NumbersDecide, NumbersSmall, LoneLetters, CutsMaximal, CutsGood, PiecesClosed}
@@ -30,7 +31,10 @@ pub numbers-decide : NumbersDecide
 numbers-decide =
     record {
       overlap = overlap;
-      accepts = λ B. (λ e. overlap B 4 (omega arith) .0 (judge-accepts-iff-c4 B .0 e), λ a. judge-accepts-iff-c4 B .1 (overlap B 4 (omega arith) .1 a));
+      accepts = λ sides. (
+        λ e. overlap (distinctWords sides) 4 (omega arith) .0 (judge-accepts-iff-c4 sides .0 e),
+        λ a. judge-accepts-iff-c4 sides .1 (overlap (distinctWords sides) 4 (omega arith) .1 a),
+      );
       searched = λ B i h. (
         λ e.
             let (n, l, p) = loose-iff-few-pieces B i h .0 e in

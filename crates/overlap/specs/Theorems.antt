@@ -6,6 +6,7 @@ use mathlib.Core.Logic.{_↔_}
 use mathlib.Core.Path.{_≡_}
 use lib.ListN.{length, take, drop}
 use Rattle.words.specs.Words.{Word, isPrefix}
+use Rattle.words.specs.Families.{distinctWords}
 use Rattle.overlap.specs.Pieces.{word, Occurs, IsPiece, IsProduct, SmallOverlap, C4}
 use Rattle.overlap.specs.Cuts.{len, pieceAt, loose, xOf, xyOf, zOf}
 use Rattle.overlap.specs.Counts.{PieceCount, pieces, noProduct, number, FewestPieces, pieceCount, NumbersAtLeast}
@@ -18,11 +19,11 @@ TestsPieces = (B : List Word) (i p n : ℕ) → i < length B → p + n ≤ len B
 
 -- the verdict that is computed is the right one, and no other is
 abbrev pub VerdictsRight : Type 0
-VerdictsRight = (B : List Word) (v : Verdict) → (judge B ≡ v) ↔ RightVerdict B v
+VerdictsRight = (sides : List Word) (v : Verdict) → (judge sides ≡ v) ↔ RightVerdict sides v
 
--- a presentation is accepted exactly when it meets C(4)
+-- a presentation is accepted exactly when its distinct words meet C(4)
 abbrev pub AcceptsC4 : Type 0
-AcceptsC4 = (B : List Word) → (judge B ≡ Verdict.accepted) ↔ C4 B
+AcceptsC4 = (sides : List Word) → (judge sides ≡ Verdict.accepted) ↔ C4 (distinctWords sides)
 
 -- the number of pieces that is computed is the smallest, and no other is
 abbrev pub CountsFewest : Type 0
@@ -32,7 +33,7 @@ CountsFewest = (B : List Word) (i : ℕ) (c : PieceCount) → i < length B → (
 -- finds them exactly where the number is below four
 pub record NumbersDecide : Type 0 where
   pub overlap : (B : List Word) (m : ℕ) → m ≤ noProduct → SmallOverlap m B ↔ NumbersAtLeast m B
-  pub accepts : (B : List Word) → (judge B ≡ Verdict.accepted) ↔ NumbersAtLeast 4 B
+  pub accepts : (sides : List Word) → (judge sides ≡ Verdict.accepted) ↔ NumbersAtLeast 4 (distinctWords sides)
   pub searched : (B : List Word) (i : ℕ) → i < length B → (loose B i ≡ true) ↔ (number (pieceCount B i) < 4)
 
 -- no word is a product of more pieces than it has letters unless fewer do as well; so 255 stands for none alone wherever words are shorter than that

@@ -13,7 +13,7 @@ pub fn verdict_is_right()
     ensures { λ _. ⌜ VerdictsRight ⌝ }
 {}
 
-// A presentation is accepted exactly when it meets C(4).
+// A presentation is accepted exactly when its distinct words meet C(4).
 pub fn accepted_is_c4()
     ensures { λ _. ⌜ AcceptsC4 ⌝ }
 {}
@@ -23,7 +23,7 @@ pub fn counts_are_fewest()
     ensures { λ _. ⌜ CountsFewest ⌝ }
 {}
 
-// C(m) is that every number is at least m; a presentation is accepted exactly when every number is at least four.
+// C(m) is that every number is at least m; a presentation is accepted exactly when every number of its distinct words is at least four.
 pub fn numbers_decide()
     ensures { λ _. ⌜ NumbersDecide ⌝ }
 {}

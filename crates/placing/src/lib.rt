@@ -2,6 +2,7 @@
 // A part for the entries, which load the book.
 ghost use mathlib.Core.Path.{_≡_};
 ghost use Rattle.layout.specs.Layout.{wordsIn};
+ghost use Rattle.layout.specs.Families.{familyBy};
 ghost use Rattle.leastword.specs.Writing.{leastFor, Asked};
 ghost use Rattle.answers.specs.Answers.{ofLeast};
 ghost use Rattle.answers.specs.Entries.{LeastOutcome as Leasts, lacksSpace, placedAt, loadedLeast};
@@ -34,7 +35,7 @@ fn place_least(
     offset: usize,
 ) -> Least
     requires { ⌜ Asked (now text) (now table) n (now u) ⌝ }
-    ensures { λ r. ⌜ Leasts.after (ofLeast r) (now (buffer .exit)) ≡ placedAt offset (leastFor (wordsIn (now (text .entry)) (now (table .entry)) n) (now (u .entry))) (now (buffer .entry)) ⌝ }
+    ensures { λ r. ⌜ Leasts.after (ofLeast r) (now (buffer .exit)) ≡ placedAt offset (leastFor (wordsIn (now (text .entry)) (now (table .entry)) n) (familyBy (now (table .entry)) n) (now (u .entry))) (now (buffer .entry)) ⌝ }
 {
     let letters = count_least(text, table, n, u);
     if lacks_space(buffer.len(), offset, letters) {
@@ -55,7 +56,7 @@ fn place_bytes(
     offset: usize,
 ) -> Least
     requires { ⌜ LeastWidenable (now text) (now table) n (now u) (now wide) ⌝ }
-    ensures { λ r. ⌜ Leasts.after (ofLeast r) (now (buffer .exit)) ≡ placedAt offset (leastFor (wordsIn (now (text .entry)) (now (table .entry)) n) (now (u .entry))) (now (buffer .entry)) ⌝ }
+    ensures { λ r. ⌜ Leasts.after (ofLeast r) (now (buffer .exit)) ≡ placedAt offset (leastFor (wordsIn (now (text .entry)) (now (table .entry)) n) (familyBy (now (table .entry)) n) (now (u .entry))) (now (buffer .entry)) ⌝ }
 {
     widen_word(u, wide);
     place_least(text, table, n, &wide[..u.len()], buffer, offset)
@@ -73,7 +74,7 @@ fn least_given(
     offset: usize,
 ) -> Least
     requires { ⌜ LeastGivable (now text) (now table) n letters (now u) (now wide) ⌝ }
-    ensures { λ r. ⌜ Leasts.after (ofLeast r) (now (buffer .exit)) ≡ loadedLeast letters (wordsIn (now (text .entry)) (now (table .entry)) n) (now (u .entry)) (now (buffer .entry)) offset ⌝ }
+    ensures { λ r. ⌜ Leasts.after (ofLeast r) (now (buffer .exit)) ≡ loadedLeast letters (wordsIn (now (text .entry)) (now (table .entry)) n) (familyBy (now (table .entry)) n) (now (u .entry)) (now (buffer .entry)) offset ⌝ }
 {
     let given = given::check_one(letters, u);
     match given {
@@ -93,7 +94,7 @@ fn least_long(
     offset: usize,
 ) -> Least
     requires { ⌜ LeastLoaded (now text) (now table) n letters ⌝ }
-    ensures { λ r. ⌜ Leasts.after (ofLeast r) (now (buffer .exit)) ≡ loadedLeast letters (wordsIn (now (text .entry)) (now (table .entry)) n) (now (u .entry)) (now (buffer .entry)) offset ⌝ }
+    ensures { λ r. ⌜ Leasts.after (ofLeast r) (now (buffer .exit)) ≡ loadedLeast letters (wordsIn (now (text .entry)) (now (table .entry)) n) (familyBy (now (table .entry)) n) (now (u .entry)) (now (buffer .entry)) offset ⌝ }
 {
     let mut wide = [0u16; Word::COMPARED];
     least_given(text, table, n, letters, u, &mut wide, buffer, offset)
@@ -110,7 +111,7 @@ pub fn loaded_least(
     offset: usize,
 ) -> Least
     requires { ⌜ LeastLoaded (now text) (now table) n letters ⌝ }
-    ensures { λ r. ⌜ Leasts.after (ofLeast r) (now (buffer .exit)) ≡ loadedLeast letters (wordsIn (now (text .entry)) (now (table .entry)) n) (now (u .entry)) (now (buffer .entry)) offset ⌝ }
+    ensures { λ r. ⌜ Leasts.after (ofLeast r) (now (buffer .exit)) ≡ loadedLeast letters (wordsIn (now (text .entry)) (now (table .entry)) n) (familyBy (now (table .entry)) n) (now (u .entry)) (now (buffer .entry)) offset ⌝ }
 {
     if given::SHORT < u.len() {
         return least_long(text, table, n, letters, u, buffer, offset);

@@ -8,6 +8,7 @@ ghost use Rattle.output.specs.Writing.{linesUnder, Lined, linesOfAccepted, Acce
 ghost use Rattle.comparison.specs.Comparing.{comparisonOf};
 ghost use Rattle.moves.specs.State.{Ready};
 ghost use Rattle.layout.specs.Layout.{wordsIn};
+ghost use Rattle.layout.specs.Families.{familyBy};
 use comparison::Comparison;
 use comparison::compare_given;
 use comparison::compare_once;
@@ -66,7 +67,7 @@ fn compare_record(
     allowance: u32,
 ) -> Comparison
     requires { ⌜ Ready (now text) (now table) n ⌝ }
-    ensures { λ r. ⌜ r ≡ comparisonOf letters (wordsIn (now (text .entry)) (now (table .entry)) n) (now (u .entry)) (now (v .entry)) allowance ⌝ }
+    ensures { λ r. ⌜ r ≡ comparisonOf letters (wordsIn (now (text .entry)) (now (table .entry)) n) (familyBy (now (table .entry)) n) (now (u .entry)) (now (v .entry)) allowance ⌝ }
 {
     if wide_u.len() < u.len() {
         return compare_once(text, table, n, letters, u, v, allowance);
@@ -133,7 +134,16 @@ fn write_accepted(
     ensures { λ r. ⌜ WrittenTo (now (out .entry)) 0 (linesOfAccepted (now (text .entry)) (now (table .entry)) relations letters (now (input .entry)) end) (now (out .exit)) r ⌝ }
 {
     let place = put_line(out, 0, b"book", relations as u64);
-    write_lines(text, table, 2 * relations, letters, input, end, out, place)
+    write_lines(
+        text,
+        table,
+        layout::count_of(table),
+        letters,
+        input,
+        end,
+        out,
+        place,
+    )
 }
 
 // Writes the output of an input that is not too long at the start of the buffer and answers its length. The book is loaded once for all its comparisons.

@@ -8,16 +8,20 @@ use borrow.Author.Needs.{needs}
 use lib.ListN.{length, length-append}
 use Rattle.limits.specs.Limits.{sheetColumns}
 use Rattle.words.specs.Words.{Word}
+use Rattle.words.specs.Families.{distinctWords, sideWords}
 use Rattle.overlap.specs.Cuts.{len, xlen, ylen, zlen}
 use Rattle.overlap.specs.Counts.{PieceCount, pieces, none, number, pieceCount}
 use Rattle.overlap.proofs.Counts.{count-short}
 use Rattle.overlap.proofs.Facts.{rigid-of-c4}
+use Rattle.layout.specs.Places.{wordsMost, sideCell}
 use Rattle.layout.specs.Layout.{piecesOf, wordsIn, Checked}
+use Rattle.layout.specs.Families.{sideWordOf, sidesIn}
 use Rattle.layout.proofs.Placed.{words-length, word-length}
 use Rattle.layout.proofs.CutPlaces.{cuts-inside, xy-long}
+use Rattle.layout.proofs.Links.{side-cell}
 use Rattle.writing.specs.Writing.{written, over}
 use Rattle.writing.proofs.Writing.{written-zero, written-length, written-behind}
-use Rattle.sheet.specs.Sheet.{cutBytes, cutSheet, cutRow, xAt, yAt, zAt, rowAt, sheetBytes, CutsIn, RowRoom, SheetRoom}
+use Rattle.sheet.specs.Sheet.{cutBytes, cutSheet, cutRow, xAt, yAt, zAt, rowAt, sheetBytes, CutsIn, SideIn, RowRoom, SheetRoom}
 
 -- the number of pieces of a short word is a byte
 number-byte : (B : List Word) (i : ℕ) → len B i < 256 → number (pieceCount B i) < 256
@@ -57,28 +61,43 @@ module _ (text table : List ℕ) (n : ℕ) (c : Checked text table n) where
       let y : yAt table i ≡ ylen (wordsIn text table n) i = omega (arith, k .x, k .y, k .z) in
       rw (x, y, z, c .cut .pieces i h)
 
-  bytes-cut : (m : ℕ) → m ≤ n → sheetBytes table m ≡ cutBytes (wordsIn text table n) m
-  unfolding sheetBytes cutBytes
-  bytes-cut zero h = refl
-  bytes-cut (suc m) h = rw (bytes-cut m (omega arith), row-cut m (omega arith))
+  -- sides whose words are known are told, with their cuts
+  pub side-in : (s : ℕ) → s < wordsMost → sideWordOf table s < n → SideIn table s
+  side-in s h w = record { told = omega (arith, h, c .laid .wide); cuts = cuts-in (sideWordOf table s) w }
 
-  -- the sheet by the table is the cut sheet of the relation words
-  pub sheet-cut : sheetBytes table n ≡ cutSheet (wordsIn text table n)
-  sheet-cut = bytes-cut n (omega arith) ∙ sym (rw (words-length text table n))
+  module _ (m : ℕ) (known : (s : ℕ) → s < m → sideWordOf table s < n) where
+    bytes-cut : (k : ℕ) → k ≤ m → sheetBytes table k ≡ cutBytes (wordsIn text table n) (sidesIn table m) k
+    unfolding sheetBytes cutBytes
+    bytes-cut zero h = refl
+    bytes-cut (suc k) h =
+        rw (bytes-cut k (omega arith), row-cut (sideWordOf table k) (known k (omega arith)))
+        (ap (λ (i : ℕ). cutBytes (wordsIn text table n) (sidesIn table m) k ++ cutRow (wordsIn text table n) i) (sym (side-cell table m k (omega arith))))
 
-pub length-sheet : (table : List ℕ) (n : ℕ) → length (sheetBytes table n) ≡ sheetColumns * n
+    -- the sheet by the table is the cut sheet of the sides
+    pub sheet-cut : (sides : List Word) → m ≡ length sides → wordsIn text table n ≡ distinctWords sides → sidesIn table m ≡ sideWords sides
+        → sheetBytes table m ≡ cutSheet sides
+    sheet-cut sides e w t = bytes-cut m (omega arith) ∙ rw (w, t, e)
+
+pub length-sheet : (table : List ℕ) (m : ℕ) → length (sheetBytes table m) ≡ sheetColumns * m
 unfolding sheetBytes
 length-sheet table zero = refl
-length-sheet table (suc n) = simp length-append (omega (arith, length-sheet table n))
+length-sheet table (suc m) = simp length-append (omega (arith, length-sheet table m))
 
 -- the row is written
-pub row-written : (table : List ℕ) (i : ℕ) (sheet : List ℕ) (x y z p : ℕ) (after : List ℕ) → x ≡ xAt table i → y ≡ yAt table i → z ≡ zAt table i → p ≡ piecesOf table i
-    → after ≡ written (sheetColumns * i) (x ∷ y ∷ z ∷ p ∷ []) sheet → after ≡ written (sheetColumns * i) (rowAt table i) sheet
-row-written table i sheet x y z p after ex ey ez ep e = rw (← ex, ← ey, ← ez, ← ep) e
+module _ (table : List ℕ) (s : ℕ) (sheet : List ℕ) (i : ℕ) (w : i ≡ sideWordOf table s) where
+  pub row-told : RowRoom table s sheet → sideCell s < length table
+  row-told r = r .side .told
 
-pub ruleset rows = (row-written, needs)
+  pub row-cuts : RowRoom table s sheet → CutsIn table i
+  row-cuts r = rw w (r .side .cuts)
 
--- i relation words are on the sheet
+  pub row-written : (x y z p : ℕ) (after : List ℕ) → x ≡ xAt table i → y ≡ yAt table i → z ≡ zAt table i → p ≡ piecesOf table i
+      → after ≡ written (sheetColumns * s) (x ∷ y ∷ z ∷ p ∷ []) sheet → after ≡ written (sheetColumns * s) (rowAt table (sideWordOf table s)) sheet
+  row-written x y z p after ex ey ez ep e = rw (← w, ← ex, ← ey, ← ez, ← ep) e
+
+pub ruleset rows = (row-told, row-cuts, row-written, needs)
+
+-- i sides are on the sheet
 pub record Sheeted (table : List ℕ) (n : ℕ) (sheet : List ℕ) (i : ℕ) (b : List ℕ) : Type 0 where
   pub room : SheetRoom table n sheet
   pub within : i ≤ n
@@ -93,19 +112,19 @@ module _ (table : List ℕ) (n : ℕ) (sheet : List ℕ) (i : ℕ) (b : List ℕ
   pub sheeted-room : i < n → RowRoom table i b
   sheeted-room h =
       let p = s .room .place in
-      record { cuts = s .room .cuts i h; place = omega (arith, s .kept); early = omega (arith, s .room .few) }
+      record { side = s .room .sides i h; place = omega (arith, s .kept); early = omega (arith, s .room .few) }
 
-  pub sheeted-more : (a : List ℕ) → i < n → a ≡ written (sheetColumns * i) (rowAt table i) b → Sheeted table n sheet (i + 1) a
+  pub sheeted-more : (a : List ℕ) → i < n → a ≡ written (sheetColumns * i) (rowAt table (sideWordOf table i)) b → Sheeted table n sheet (i + 1) a
   unfolding sheetBytes
   sheeted-more a h e =
       let l = length-sheet table i in
       let room = s .room .place in
-      let next : sheetBytes table (i + 1) ≡ sheetBytes table i ++ rowAt table i = ap (sheetBytes table) (add-one i) in
+      let next : sheetBytes table (i + 1) ≡ sheetBytes table i ++ rowAt table (sideWordOf table i) = ap (sheetBytes table) (add-one i) in
       record {
         room = s .room;
         within = omega arith;
-        same = e ∙ ap (written (sheetColumns * i) (rowAt table i)) (s .same) ∙ written-behind 0 (sheetBytes table i) (rowAt table i) sheet (sheetColumns * i) (omega arith) (omega arith) ∙ rw next;
-        kept = ap length e ∙ written-length (sheetColumns * i) (rowAt table i) b (omega (arith, s .kept)) ∙ s .kept;
+        same = e ∙ ap (written (sheetColumns * i) (rowAt table (sideWordOf table i))) (s .same) ∙ written-behind 0 (sheetBytes table i) (rowAt table (sideWordOf table i)) sheet (sheetColumns * i) (omega arith) (omega arith) ∙ rw next;
+        kept = ap length e ∙ written-length (sheetColumns * i) (rowAt table (sideWordOf table i)) b (omega (arith, s .kept)) ∙ s .kept;
       }
 
   pub sheeted-end : n ≤ i → b ≡ over (sheetBytes table n) sheet

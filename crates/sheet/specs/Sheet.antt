@@ -1,26 +1,28 @@
--- The cut sheet (document 01, "The cut sheet"): by the cuts and numbers of pieces of the relation words, and by the numbers of a table.
+-- The cut sheet (document 01, "The cut sheet"): by the cuts and numbers of pieces of the sides' words, and by the numbers of a table.
 use Prim.Native.Nat.{ℕ, zero, suc, _+_, _*_, _-_, _≤_, _<_}
 use mathlib.Core.List.{List, [], _∷_, _++_}
-use lib.ListN.{length}
+use lib.ListN.{length, getD}
 use Rattle.words.specs.Words.{Word}
+use Rattle.words.specs.Families.{distinctWords, sideWords}
 use Rattle.overlap.specs.Cuts.{xlen, ylen, zlen}
 use Rattle.overlap.specs.Counts.{number, pieceCount}
 use Rattle.limits.specs.Limits.{sheetColumns}
-use Rattle.layout.specs.Places.{wordsMost, wordMost, piecesCell, endCell}
+use Rattle.layout.specs.Places.{wordsMost, wordMost, piecesCell, endCell, sideCell}
 use Rattle.layout.specs.Layout.{startOf, xEndOf, zStartOf, piecesOf, endOf}
+use Rattle.layout.specs.Families.{sideWordOf}
 
 -- the row of relation word i: the lengths of X, Y, Z and the number of pieces
 abbrev pub cutRow : List Word → ℕ → List ℕ
 cutRow B i = xlen B i ∷ ylen B i ∷ zlen B i ∷ number (pieceCount B i) ∷ []
 
--- the rows of the first n relation words in order
-unfoldable pub cutBytes : List Word → ℕ → List ℕ
-cutBytes B zero = []
-cutBytes B (suc n) = cutBytes B n ++ cutRow B n
+-- the rows of the first m sides in order, each that of its word; `S` lists the number of each side's word
+unfoldable pub cutBytes : List Word → List ℕ → ℕ → List ℕ
+cutBytes B S zero = []
+cutBytes B S (suc m) = cutBytes B S m ++ cutRow B (getD S m 0)
 
--- the sheet of all relation words
+-- the sheet of all sides
 abbrev pub cutSheet : List Word → List ℕ
-cutSheet B = cutBytes B (length B)
+cutSheet sides = cutBytes (distinctWords sides) (sideWords sides) (length sides)
 
 -- the lengths by the table's positions
 abbrev pub xAt : List ℕ → ℕ → ℕ
@@ -35,9 +37,10 @@ zAt table i = endOf table i - zStartOf table i
 abbrev pub rowAt : List ℕ → ℕ → List ℕ
 rowAt table i = xAt table i ∷ yAt table i ∷ zAt table i ∷ piecesOf table i ∷ []
 
+-- the rows of the first m sides
 unfoldable pub sheetBytes : List ℕ → ℕ → List ℕ
 sheetBytes table zero = []
-sheetBytes table (suc n) = sheetBytes table n ++ rowAt table n
+sheetBytes table (suc m) = sheetBytes table m ++ rowAt table (sideWordOf table m)
 
 -- the positions of relation word i are there and in order, it is short, and its number of pieces is a byte
 pub record CutsIn (table : List ℕ) (i : ℕ) : Type 0 where
@@ -49,14 +52,19 @@ pub record CutsIn (table : List ℕ) (i : ℕ) : Type 0 where
   pub short : endOf table i - startOf table i ≤ wordMost
   pub pieces : piecesOf table i < 256
 
--- relation word i and its place in the sheet
-pub record RowRoom (table : List ℕ) (i : ℕ) (sheet : List ℕ) : Type 0 where
-  pub cuts : CutsIn table i
-  pub place : sheetColumns * i + sheetColumns ≤ length sheet
-  pub early : i < wordsMost
+-- the word of side s is told, and its cuts are there
+pub record SideIn (table : List ℕ) (s : ℕ) : Type 0 where
+  pub told : sideCell s < length table
+  pub cuts : CutsIn table (sideWordOf table s)
 
--- n relation words and their places
-pub record SheetRoom (table : List ℕ) (n : ℕ) (sheet : List ℕ) : Type 0 where
-  pub cuts : (i : ℕ) → i < n → CutsIn table i
-  pub place : sheetColumns * n ≤ length sheet
-  pub few : n ≤ wordsMost
+-- side s and its place in the sheet
+pub record RowRoom (table : List ℕ) (s : ℕ) (sheet : List ℕ) : Type 0 where
+  pub side : SideIn table s
+  pub place : sheetColumns * s + sheetColumns ≤ length sheet
+  pub early : s < wordsMost
+
+-- m sides and their places
+pub record SheetRoom (table : List ℕ) (m : ℕ) (sheet : List ℕ) : Type 0 where
+  pub sides : (s : ℕ) → s < m → SideIn table s
+  pub place : sheetColumns * m ≤ length sheet
+  pub few : m ≤ wordsMost

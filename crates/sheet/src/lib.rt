@@ -1,9 +1,10 @@
-// The cut sheet: for each relation word in order the lengths of X, Y and Z and the number of pieces, one byte each (document 01, "The cut sheet").
+// The cut sheet: for each side in order the lengths of X, Y and Z of its word and their number of pieces, one byte each (document 01, "The cut sheet").
 ghost use Prim.Native.Nat.{_+_, _-_, _*_, _<_, _≤_};
 ghost use mathlib.Core.Path.{_≡_};
 ghost use Rattle.writing.specs.Writing.{written, over};
 ghost use Rattle.limits.specs.Limits.{sheetColumns};
 ghost use Rattle.layout.specs.Layout.{piecesOf};
+ghost use Rattle.layout.specs.Families.{sideWordOf};
 ghost use Rattle.sheet.specs.Sheet.{CutsIn, RowRoom, SheetRoom, xAt, yAt, zAt, rowAt, sheetBytes};
 use limits::Sheet;
 
@@ -45,28 +46,29 @@ fn pieces(table: &[u16], i: usize) -> u8
     layout::pieces_of(table, i) as u8
 }
 
-// Writes the row of relation word i in its place.
-fn write_row(table: &[u16], i: usize, sheet: &mut [u8])
-    requires { ⌜ RowRoom (now table) i (now sheet) ⌝ }
-    ensures { λ _. ⌜ now (sheet .exit) ≡ written (sheetColumns * i) (rowAt (now (table .entry)) i) (now (sheet .entry)) ⌝ }
+// Writes the row of side s in its place: that of its word.
+fn write_row(table: &[u16], s: usize, sheet: &mut [u8])
+    requires { ⌜ RowRoom (now table) s (now sheet) ⌝ }
+    ensures { λ _. ⌜ now (sheet .exit) ≡ written (sheetColumns * s) (rowAt (now (table .entry)) (sideWordOf (now (table .entry)) s)) (now (sheet .entry)) ⌝ }
 {
+    let i = layout::side_word(table, s);
     let row = [
         x_length(table, i),
         y_length(table, i),
         z_length(table, i),
         pieces(table, i),
     ];
-    writing::put_bytes(&row, sheet, Sheet::COLUMNS * i);
+    writing::put_bytes(&row, sheet, Sheet::COLUMNS * s);
 }
 
-// Writes the sheet of n relation words at the start of a lent buffer.
-pub fn write_sheet(table: &[u16], n: usize, sheet: &mut [u8])
-    requires { ⌜ SheetRoom (now table) n (now sheet) ⌝ }
-    ensures { λ _. ⌜ now (sheet .exit) ≡ over (sheetBytes (now (table .entry)) n) (now (sheet .entry)) ⌝ }
+// Writes the sheet of m sides at the start of a lent buffer.
+pub fn write_sheet(table: &[u16], m: usize, sheet: &mut [u8])
+    requires { ⌜ SheetRoom (now table) m (now sheet) ⌝ }
+    ensures { λ _. ⌜ now (sheet .exit) ≡ over (sheetBytes (now (table .entry)) m) (now (sheet .entry)) ⌝ }
 {
-    let mut i = 0;
-    while i < n {
-        write_row(table, i, sheet);
-        i += 1;
+    let mut s = 0;
+    while s < m {
+        write_row(table, s, sheet);
+        s += 1;
     }
 }

@@ -26,7 +26,7 @@ use Rattle.index.proofs.PrefixAt.{stands-prefix}
 use Rattle.index.proofs.Seeking.{place-fits}
 use Rattle.sites.specs.declared.Site.{Site}
 use Rattle.sites.specs.Sites.{siteOf, SiteInText, KnownWord}
-use Rattle.sites.specs.Prefixes.{uncleanPrefix, markInEitherX}
+use Rattle.sites.specs.Prefixes.{uncleanPrefix}
 use Rattle.sites.proofs.Sites.{lies, site-in-text}
 use Rattle.sites.proofs.FirstLetters.{none-under-letter, none-past-end}
 use Rattle.sites.proofs.CleanPrefixes.{clean-none, clean-between, clean-here}
@@ -94,18 +94,6 @@ module _ (text : List ℕ) (s : Site) (p : Word) (h : SiteInText text s) where
         ∙ sym (prefix-take p (part text (s .start) (s .middle)))
 
 pub ruleset marks = (mark-nothing, mark-long, mark-span, mark-all, spans, needs)
-
--- p and two X
-pub either-own : (text : List ℕ) (s t : Site) (p : Word) (x : Bool) → x ≡ isPrefix p (part text (s .start) (s .middle)) → x ≡ true → true ≡ markInEitherX text s t p
-unfolding markInEitherX
-either-own text s t p x e h = rw (← e, h)
-
-pub either-other : (text : List ℕ) (s t : Site) (p : Word) (x y : Bool) → x ≡ isPrefix p (part text (s .start) (s .middle)) → x ≡ false
-    → y ≡ isPrefix p (part text (t .start) (t .middle)) → y ≡ markInEitherX text s t p
-unfolding markInEitherX
-either-other text s t p x y e h f = rw (← e, h) f
-
-pub ruleset eitherMarks = (either-own, either-other, needs)
 
 -- X and Y at a place
 pub standing-room : (text table : List ℕ) (n : ℕ) → Checked text table n → length table ≡ tableRoom

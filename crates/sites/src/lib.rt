@@ -2,16 +2,15 @@
 // A word is two slices, a head part and what follows it.
 
 ghost use mathlib.Core.Path.{_≡_};
-ghost use Prim.Native.Nat.{_<_, _≤_};
+ghost use Prim.Native.Nat.{_<_};
 ghost use mathlib.Core.List.{_++_};
 ghost use lib.ListN.{length};
 ghost use Rattle.words.specs.Words.{isPrefix, part};
-ghost use Rattle.words.specs.Relations.{other};
 ghost use Rattle.congruence.specs.Rows.{hasRelationPrefixAt, hasRelationPrefixBetween, cleanRelationPrefix};
 ghost use Rattle.layout.specs.Places.{endCell, tableRoom};
 ghost use Rattle.layout.specs.Layout.{wordsIn, Checked};
-ghost use Rattle.sites.specs.Sites.{siteOf, SiteInText, SitesInText, KnownWord};
-ghost use Rattle.sites.specs.Prefixes.{uncleanPrefix, markInEitherX};
+ghost use Rattle.sites.specs.Sites.{siteOf, SiteInText, KnownWord};
+ghost use Rattle.sites.specs.Prefixes.{uncleanPrefix};
 ghost use Rattle.sites.specs.FirstLetters.{emptyList};
 use layout::Text;
 use numbers::wide16;
@@ -37,14 +36,6 @@ pub fn read_site(table: &[u16], i: usize) -> Site
     }
 }
 
-// The other relation word of the same relation.
-pub fn other_word(i: usize) -> usize
-    requires { ⌜ i ≤ 64 ⌝ }
-    ensures { λ r. ⌜ r ≡ other i ⌝ }
-{
-    i + 1 - 2 * (i % 2)
-}
-
 // Whether p is a prefix of the X at s.
 pub fn mark_in_x(text: &[u16], s: Site, p: &[u16]) -> bool
     requires { ⌜ SiteInText (now text) s ⌝ }
@@ -58,17 +49,6 @@ pub fn mark_in_x(text: &[u16], s: Site, p: &[u16]) -> bool
         return false;
     }
     joined::begins_in(text, from, from + p.len(), p, 0)
-}
-
-// Whether p is a prefix of the X at s or at t.
-pub fn mark_in_either_x(text: &[u16], s: Site, t: Site, p: &[u16]) -> bool
-    requires { ⌜ SitesInText (now text) s t ⌝ }
-    ensures { λ r. ⌜ r ≡ markInEitherX (now (text .entry)) s t (now (p .entry)) ⌝ }
-{
-    if mark_in_x(text, s, p) {
-        return true;
-    }
-    mark_in_x(text, t, p)
 }
 
 // Whether no relation word begins with a letter: its list in the index is empty.

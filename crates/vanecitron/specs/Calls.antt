@@ -14,7 +14,7 @@ use Rattle.results.specs.Numbers.{checkResult, roundResult, compareResult, leas
 
 -- the version of the C functions: 10,000 times the first part, 100 times the second, and the third
 abbrev pub version : ℕ
-version = 400
+version = 500
 
 -- what the cut sheet returns, and the lent buffer after it
 pub data SheetNumbers : Type 0 where

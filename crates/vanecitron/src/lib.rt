@@ -16,7 +16,7 @@ pub struct Version {
 }
 
 impl Version {
-    pub const NUMBER: u32 = 400;
+    pub const NUMBER: u32 = 500;
 }
 
 // The version, so that a caller can hold his header to the archive that he links.

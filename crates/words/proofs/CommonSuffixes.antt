@@ -9,7 +9,7 @@ use native.Mathlib.Decide.{decLe, decLt}
 use lib.ListN.{length, take, drop, length-append, length-drop, take-append-drop, drop-of-length-le}
 use lib.Seq.{length-take-le, drop-at}
 use Rattle.words.specs.Words.{Word, isPrefix, commonSuffix, lastLetters}
-use Rattle.words.proofs.Prefixes.{prefix-split, prefix-append}
+use Rattle.words.proofs.Prefixes.{prefix-append, equal-of-prefix}
 use Rattle.words.proofs.Searching.{greatest-bound, greatest-passes, greatest-last}
 
 -- z is the longest common suffix of a and b, a = e z, b = f z
@@ -17,10 +17,6 @@ pub record LongestSuffix (a b e f z : Word) : Type 0 where
   pub left : a ≡ e ++ z
   pub right : b ≡ f ++ z
   pub most : (c d x : Word) → a ≡ c ++ x → b ≡ d ++ x → length x ≤ length z
-
--- a prefix of the same length is the word
-equal-of-prefix : (x y : Word) → length x ≡ length y → isPrefix x y ≡ true → x ≡ y
-equal-of-prefix x y l e = sym (append-nil x) ∙ ap (x ++_) (sym (drop-of-length-le y {i = length x} (omega arith))) ∙ prefix-split x y e
 
 -- the common suffix lies in both words
 pub suffix-within : (a b : Word) → (commonSuffix a b ≤ length a) × (commonSuffix a b ≤ length b)

@@ -8,3 +8,5 @@ pub mod Segments
 pub mod Prefixes
 pub mod Commons
 pub mod CommonSuffixes
+pub mod Distinct
+pub mod Families

@@ -1,14 +1,15 @@
 -- What the test `isPrefix` says of two words: by append, and by position.
-use Prim.Native.Nat.{ℕ, zero, suc, _+_, _-_, _≤_, _<_}
+use Prim.Native.Nat.{ℕ, zero, suc, _+_, _≤_, _<_}
 use mathlib.Core.Bool.{Bool, true, false, _&&_, true≢false, and-eq-true-iff, and-assoc}
-use mathlib.Core.List.{[], _∷_, _++_}
-use mathlib.Core.Path.{_≡_, refl, sym, ap, _∙_}
+use mathlib.Core.List.{[], _∷_, _++_, append-nil}
+use mathlib.Core.Logic.{_↔_}
+use mathlib.Core.Path.{_≡_, refl, sym, ap, _∙_, subst}
 use native.Mathlib.Omega.{arith}
 use borrow.Author.Tests.{eqb-true, eq-eqb}
 use lib.Dec.{eqb}
-use lib.ListN.{length, getD, take, drop, length-drop}
+use lib.ListN.{length, getD, take, drop, length-drop, drop-of-length-le}
 use lib.Seq.{getD-drop}
-use Rattle.words.specs.Words.{Word, isPrefix}
+use Rattle.words.specs.Words.{Word, isPrefix, sameWord}
 use Rattle.words.proofs.Segments.{Same}
 
 -- a word is a prefix of what begins with it
@@ -102,3 +103,16 @@ unfolding isPrefix
 prefix-take [] b = refl
 prefix-take (x ∷ a) [] = refl
 prefix-take (x ∷ a) (y ∷ b) = ap (eqb x y &&_) (prefix-take a b)
+
+-- a prefix of the same length is the word
+pub equal-of-prefix : (a b : Word) → length a ≡ length b → isPrefix a b ≡ true → a ≡ b
+equal-of-prefix a b l e = sym (append-nil a) ∙ ap (a ++_) (sym (drop-of-length-le b {i = length a} (omega arith))) ∙ prefix-split a b e
+
+-- the test for equal words
+pub sameWord-iff-equal : (a b : Word) → sameWord a b ≡ true ↔ (a ≡ b)
+unfolding sameWord
+sameWord-iff-equal a b = (
+  λ e. let r = simp and-eq-true-iff at e in equal-of-prefix a b (eqb-true (length a) (length b) (r .0)) (r .1),
+  λ e.
+      simp and-eq-true-iff (eq-eqb (length a) (length b) (ap length e), subst (λ u. isPrefix a u ≡ true) (append-nil a ∙ e) (prefix-append a [])),
+)

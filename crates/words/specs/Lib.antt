@@ -1,3 +1,4 @@
 pub mod Search
 pub mod Words
 pub mod Relations
+pub mod Families

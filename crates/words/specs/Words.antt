@@ -37,3 +37,7 @@ lastLetters n u = drop (length u - n) u
 -- the length of the longest common suffix (document 01: common end)
 unfoldable pub commonSuffix : Word → Word → ℕ
 commonSuffix a b = greatest (min (length a) (length b)) (λ n. isPrefix (lastLetters n a) (lastLetters n b))
+
+-- the two words are equal
+unfoldable pub sameWord : Word → Word → Bool
+sameWord a b = eqb (length a) (length b) && isPrefix a b

@@ -117,7 +117,7 @@ pub fn version() -> u32 {
     raw::version()
 }
 
-/// The number of rules of a book that is accepted: well-formed, within the limits, no side twice, and C(4).
+/// The number of rules of a book that is accepted: well-formed, within the limits, and C(4) of its distinct sides.
 ///
 /// ```
 /// use vanecitron::{check, Place, Reason};

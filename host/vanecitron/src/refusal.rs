@@ -21,8 +21,6 @@ pub enum Reason {
     UnknownStep,
     /// 6: there is a rule too many
     Thick,
-    /// 7: a side equals an earlier side
-    Twice,
     /// 8: C(4) fails, since a side is a product of three or fewer pieces
     Loose,
     /// 9: a given run is over its limit
@@ -41,29 +39,28 @@ pub enum Reason {
     Other(u32),
 }
 
-/// Each reason with the specification's word for it and an explanation, by number from 1 on; the C header has the same.
-const KNOWN: [(Reason, &str, &str); 14] = [
-    (Reason::Short, "short", "the bytes end inside a record, or there is no book"),
-    (Reason::Kind, "kind", "the first record is no head, or a later one is no rule"),
-    (Reason::Length, "length", "a record's length does not fit it"),
-    (Reason::Range, "range", "the number of letters, or of the steps of a side, is outside its range"),
-    (Reason::UnknownStep, "unknown step", "a side has a step that is not below the number of letters"),
-    (Reason::Thick, "thick", "there is a rule too many"),
-    (Reason::Twice, "twice", "a side equals an earlier side"),
-    (Reason::Loose, "loose", "C(4) fails, since a side is a product of three or fewer pieces"),
-    (Reason::Long, "long", "a given run is over its limit"),
-    (Reason::Stranger, "stranger", "a given run has a step that is not below the number of letters"),
-    (Reason::Spent, "spent", "another round was due and the allowance was used up"),
-    (Reason::Narrow, "narrow", "a lent buffer is too small"),
-    (Reason::Heavy, "heavy", "the program's input is over its limit"),
-    (Reason::NoSpace, "no space", "the offset lies past the buffer's end, or the least run is longer than what follows it"),
+/// Each reason with its number, the specification's word for it and an explanation; the C header has the same. 7 is not used: a side may equal an earlier one.
+const KNOWN: [(u32, Reason, &str, &str); 13] = [
+    (1, Reason::Short, "short", "the bytes end inside a record, or there is no book"),
+    (2, Reason::Kind, "kind", "the first record is no head, or a later one is no rule"),
+    (3, Reason::Length, "length", "a record's length does not fit it"),
+    (4, Reason::Range, "range", "the number of letters, or of the steps of a side, is outside its range"),
+    (5, Reason::UnknownStep, "unknown step", "a side has a step that is not below the number of letters"),
+    (6, Reason::Thick, "thick", "there is a rule too many"),
+    (8, Reason::Loose, "loose", "C(4) fails, since a side is a product of three or fewer pieces"),
+    (9, Reason::Long, "long", "a given run is over its limit"),
+    (10, Reason::Stranger, "stranger", "a given run has a step that is not below the number of letters"),
+    (11, Reason::Spent, "spent", "another round was due and the allowance was used up"),
+    (12, Reason::Narrow, "narrow", "a lent buffer is too small"),
+    (13, Reason::Heavy, "heavy", "the program's input is over its limit"),
+    (14, Reason::NoSpace, "no space", "the offset lies past the buffer's end, or the least run is longer than what follows it"),
 ];
 
 impl Reason {
     /// The reason with this number.
     pub fn from_number(number: u32) -> Reason {
-        match KNOWN.get((number as usize).wrapping_sub(1)) {
-            Some((reason, _, _)) => *reason,
+        match KNOWN.iter().find(|known| known.0 == number) {
+            Some((_, reason, _, _)) => *reason,
             None => Reason::Other(number),
         }
     }
@@ -72,22 +69,22 @@ impl Reason {
     pub fn number(self) -> u32 {
         match self {
             Reason::Other(number) => number,
-            known => 1 + KNOWN.iter().position(|(reason, _, _)| *reason == known).expect("every known reason is listed") as u32,
+            known => known.known().expect("every known reason is listed").0,
         }
     }
 
     /// The specification's word.
     pub fn word(self) -> &'static str {
-        self.known().map_or("refused", |(_, word, _)| word)
+        self.known().map_or("refused", |(_, _, word, _)| word)
     }
 
     /// What it means.
     pub fn text(self) -> &'static str {
-        self.known().map_or("a refusal that this version does not know", |(_, _, text)| text)
+        self.known().map_or("a refusal that this version does not know", |(_, _, _, text)| text)
     }
 
-    fn known(self) -> Option<&'static (Reason, &'static str, &'static str)> {
-        KNOWN.iter().find(|(reason, _, _)| *reason == self)
+    fn known(self) -> Option<&'static (u32, Reason, &'static str, &'static str)> {
+        KNOWN.iter().find(|(_, reason, _, _)| *reason == self)
     }
 }
 
@@ -106,7 +103,7 @@ pub enum Run {
 pub enum Place {
     /// Reasons 1 to 6: the first byte of the record at fault, counted from the start of the book.
     Byte(usize),
-    /// Reasons 7 and 8: the side at fault; rule `i`, counted from 0, has the sides `2 * i`, its left one, and `2 * i + 1`.
+    /// Reason 8: the side at fault; rule `i`, counted from 0, has the sides `2 * i`, its left one, and `2 * i + 1`.
     Side(usize),
     /// Reason 9: the run that is too long.
     Run(Run),
@@ -134,7 +131,7 @@ impl Place {
         let (number, position) = (place as usize, (place % PLACE_SPACING) as usize);
         match (reason, run) {
             (Reason::Short | Reason::Kind | Reason::Length | Reason::Range | Reason::UnknownStep | Reason::Thick, _) => Place::Byte(number),
-            (Reason::Twice | Reason::Loose, _) => Place::Side(number),
+            (Reason::Loose, _) => Place::Side(number),
             (Reason::Long, Some(run)) => Place::Run(run),
             (Reason::Stranger, Some(run)) => Place::Step { run, position },
             (Reason::Spent, _) => Place::Rounds(place),

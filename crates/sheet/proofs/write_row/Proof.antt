@@ -10,6 +10,7 @@ write-row-spec =
     (λ c κs. search rows)
     (λ c κs. search rows)
     (λ c κs. search rows)
+    (λ c κs. search rows)
     (λ c. search rows)
     (λ c. search rows)
     (λ c κs. search rows)

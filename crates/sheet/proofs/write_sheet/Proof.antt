@@ -4,10 +4,10 @@ use Rattle.sheet.proofs.write_sheet.Statement.{statement}
 use Rattle.sheet.proofs.write_sheet.Tie as tie
 
 abbrev Inv-loop : tie.InvT-loop
-Inv-loop table n sheet₀ i₀ sheet i = Sheeted table n sheet₀ i sheet
+Inv-loop table m sheet₀ s₀ sheet s = Sheeted table m sheet₀ s sheet
 
 abbrev μ-loop : tie.MeasureT-loop
-μ-loop table n sheet₀ i₀ sheet i = n - i
+μ-loop table m sheet₀ s₀ sheet s = m - s
 
 pub write-sheet-spec : {M : Type 1} → statement M
 write-sheet-spec =
