@@ -368,10 +368,13 @@ static void measure_comparison(const char *expected)
 
 /* --- the calls --- */
 
-/* each row of a round, with what it can come to; the cuts of q are 1 2 1 and 1 2 1, and under ends acfe and bdge are cut into ac fe and bd ge */
+/*
+ * each row of a round, with what it can come to; the cuts of q are 1 2 1 and 1 2 1, and under ends acfe and bdge are cut into ac fe and bd ge. Rules that share a
+ * run: a member alone, a second side with the same run, a tail for which the rest is active behind one for which it is not, and a mark of a third member
+ */
 static void rows(void)
 {
-    static const char q[] = "abdc=cadb", ends[] = "acfe=bdge,hfei=jgek";
+    static const char q[] = "abdc=cadb", ends[] = "acfe=bdge,hfei=jgek", third[] = "ada=ca,ca=e";
     static const struct {
         int row; /* for the reader */
         const char *rules, *u, *v, *p, *expected;
@@ -386,9 +389,15 @@ static void rows(void)
         {2, q, "b", "b", "a", "different"},
         {3, q, "abd", "abd", "b", "different"},
         {3, q, "abd", "b", "", "different"},
+        {3, third, "e", "e", "d", "different"},
+        {3, third, "ade", "b", "", "different"},
         {4, q, "abdc", "abdc", "", "next b b -"},
         {4, q, "abdc", "cadb", "c", "next b b -"},
         {4, q, "abdcad", "cadbad", "", "next cad cad -"},
+        {4, "ab=ab", "ab", "ab", "", "next - - -"},
+        {4, "d=d,cac=d", "d", "d", "", "next c c -"},
+        {4, "ad=c,c=aea", "cea", "cd", "", "next aea ad -"},
+        {4, third, "e", "e", "a", "next a a -"},
         {5, q, "abd", "abd", "a", "next - - -"},
         {5, q, "abdb", "abdc", "c", "next b c c"},
         {6, q, "abdb", "cadb", "", "next b c -"},
@@ -420,6 +429,9 @@ static void comparisons(void)
         {"abdc=cadb", "cadbadb", "abdabdc", "same 3"},
         {"abdc=cadb", "abdabdc", "cadbadb", "same 3"},
         {"acfe=bdge,hfei=jgek", "acfa", "bdgb", "different 1"},
+        {"ad=c,c=aea", "cea", "cd", "same 2"},
+        {"ada=ca,ca=e", "ade", "ce", "same 3"},
+        {"c=e,d=c", "ecd", "dde", "same 3"},
     };
     for (size_t i = 0; i < sizeof cases / sizeof cases[0]; i++) {
         book_of(cases[i].rules);
@@ -450,6 +462,9 @@ static void least_runs(void)
         {ends, "bdgno", "least acfem"},
         {ends, "bdqr", "least acfep"},
         {ends, "bdqs", "least bdqs"},
+        {"abdc=cadb,cadb=bcda", "bcdcadb", "least abdcbdc"},
+        {"ad=c,c=aea", "cea", "least add"},
+        {"ada=ca,ca=e", "ce", "least adada"},
     };
     for (size_t i = 0; i < sizeof cases / sizeof cases[0]; i++) {
         book_of(cases[i].rules);
@@ -569,16 +584,36 @@ static void spoiled_book(uint32_t refusal)
 /* refusals 1 to 6 and 8 in each function that has them; the program prints them */
 static void refused_books(void)
 {
-    static const uint32_t refusals[] = {VANECITRON_SHORT, VANECITRON_KIND, VANECITRON_LENGTH, VANECITRON_RANGE, VANECITRON_UNKNOWN_STEP, VANECITRON_THICK, VANECITRON_LOOSE};
-    static const char *const expected[] = {"refused 1 4159", "refused 2 4159", "refused 3 4159", "refused 4 4159", "refused 5 4159", "refused 6 4293", "refused 8 63"};
-    for (size_t r = 0; r < sizeof refusals / sizeof refusals[0]; r++) {
-        spoiled_book(refusals[r]);
+    static const struct {
+        uint32_t refusal;
+        const char *expected;
+    } books[] = {
+        {VANECITRON_SHORT, "refused 1 4159"}, {VANECITRON_KIND, "refused 2 4159"},         {VANECITRON_LENGTH, "refused 3 4159"},
+        {VANECITRON_RANGE, "refused 4 4159"}, {VANECITRON_UNKNOWN_STEP, "refused 5 4159"}, {VANECITRON_THICK, "refused 6 4293"},
+        {VANECITRON_LOOSE, "refused 8 63"},
+    };
+    for (size_t spoiled = 0; spoiled < sizeof books / sizeof books[0]; spoiled++) {
+        spoiled_book(books[spoiled].refusal);
         runs_of("a", "a", "a");
         begin_input();
         for (size_t i = 0; i < sizeof functions / sizeof functions[0]; i++) {
-            measure(functions[i], expected[r]);
+            measure(functions[i], books[spoiled].expected);
         }
     }
+}
+
+/* a full book whose last side is the first one: three of its runs are a family */
+static void full_book_with_a_shared_run(void)
+{
+    full_random_book();
+    memcpy(book + book_length - VANECITRON_SIDE, full_side(0), VANECITRON_SIDE);
+    begin_call();
+    measure(&check, "rules 32");
+    measure(&cut_sheet, "rules 32");
+    memcpy(u, full_side(1), u_length = VANECITRON_SIDE);
+    memcpy(v, full_side(62), v_length = VANECITRON_SIDE);
+    allowance = 0;
+    measure_comparison("refused 11 0");
 }
 
 /* refusals 9 to 11: each given run too long, each with a stranger, and an allowance used up */
@@ -667,6 +702,7 @@ int main(void)
     full_calls(full_random_book, "next 4098 4098 -", "same 176");
     full_calls(full_shared_book, "next 4126 4126 -", "same 1988");
     limits();
+    full_book_with_a_shared_run();
     refused_books();
     refused_runs();
     narrow_buffers();

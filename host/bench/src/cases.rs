@@ -4,7 +4,7 @@ use std::cell::RefCell;
 
 use difftest::entries::{Compared, Entries, Refused, Rounded};
 use difftest::trial::{LEAST, SHEET, SHEET_SIDE};
-use gen::{books, inputs, words, Book, Chance};
+use gen::{books, inputs, shared, words, Book, Chance};
 
 /// Something to run with the entries of either; the numbers it gives are only there to be equal for both.
 pub struct Case {
@@ -57,6 +57,19 @@ fn compare(group: &'static str, name: impl Into<String>, book: &Book, u: Vec<u8>
     Case { group, name: name.into(), run: Box::new(move |entries| numbers(entries.compare(&bytes, &u, &v, u32::MAX), rounds)) }
 }
 
+/// One round with the empty mark.
+fn round(group: &'static str, name: impl Into<String>, book: &Book, u: Vec<u8>, v: Vec<u8>) -> Case {
+    let bytes = book.bytes();
+    let run = move |entries: &dyn Entries| {
+        let (mut next_u, mut next_v, mut next_p) = ([0; 4_224], [0; 4_224], [0; 64]);
+        numbers(entries.round(&bytes, [&u, &v, &[]], [&mut next_u, &mut next_v, &mut next_p]), |rounded| match rounded {
+            Rounded::Next([u, v, p]) => u + v + p,
+            _ => 0,
+        })
+    };
+    Case { group, name: name.into(), run: Box::new(run) }
+}
+
 /// The least word in a buffer that has room for every one.
 fn least(group: &'static str, name: impl Into<String>, book: &Book, word: Vec<u8>) -> Case {
     let bytes = book.bytes();
@@ -100,6 +113,8 @@ const COMPARISONS: &str = "the comparison alone: many in one input, or far more 
 const CALLS: &str = "the comparison as one call, which checks its book";
 const GROWTH_BY_LENGTH: &str = "the comparison, by length of words";
 const GROWTH_BY_RELATIONS: &str = "the comparison, by number of relations";
+const FAMILIES: &str = "relations that share a word: a family of 33 beside 32 pairs, words of 20 and their random exchanges";
+const QUIET: &str = "the worst of families: row 4, 32 other members, nothing active";
 const LEASTS: &str = "the least word as one call, which checks its book";
 const GROWTH_OF_LEAST: &str = "the least word, by length of words";
 const PROGRAM: &str = "the program on 60,000 bytes";
@@ -111,6 +126,7 @@ pub fn all() -> Vec<Case> {
     sheet_and_round(&mut all, &mut chance);
     comparisons(&mut all, &mut chance);
     growth(&mut all, &mut chance);
+    families(&mut all, &mut chance);
     least_words(&mut all, &mut chance);
     programs(&mut all, &mut chance);
     all
@@ -138,16 +154,8 @@ fn sheet_and_round(all: &mut Vec<Case>, chance: &mut Chance) {
         all.push(sheet(SHEET_AND_ROUND, format!("cut sheet of {name}"), book));
     }
     for (name, book) in [("a full random book", book), ("book Q", q())] {
-        let bytes = book.bytes();
         let word = sides(&book, 4_160);
-        let run = move |entries: &dyn Entries| {
-            let (mut u, mut v, mut p) = ([0; 4_224], [0; 4_224], [0; 64]);
-            numbers(entries.round(&bytes, [&word, &word, &[]], [&mut u, &mut v, &mut p]), |rounded| match rounded {
-                Rounded::Next([u, v, p]) => u + v + p,
-                _ => 0,
-            })
-        };
-        all.push(Case { group: SHEET_AND_ROUND, name: format!("one round under {name}, words of 4,160"), run: Box::new(run) });
+        all.push(round(SHEET_AND_ROUND, format!("one round under {name}, words of 4,160"), &book, word.clone(), word));
     }
 }
 
@@ -193,6 +201,45 @@ fn growth(all: &mut Vec<Case>, chance: &mut Chance) {
         let (word, other) = (sides(&book, 4_096), exchanged_sides(&book, 4_096));
         all.push(compare_many(GROWTH_BY_RELATIONS, format!("{relations} relations, words of 4,096"), &book, &word, &other, 7));
     }
+}
+
+/// A family of 33 and pairs under the same words: the check, a round, comparisons, the least word; and the worst that a family can do to row 4.
+fn families(all: &mut Vec<Case>, chance: &mut Chance) {
+    let kinds = [
+        ("32 pairs", shared::random_pairs(chance, 20)),
+        ("33 in a chain", shared::random_family(chance, 20, shared::Shape::Chain)),
+        ("33 in a star", shared::random_family(chance, 20, shared::Shape::Star)),
+        ("33 in a tree", shared::random_family(chance, 20, shared::Shape::Tree)),
+    ];
+    for (name, book) in &kinds {
+        let word = sides(book, 4_000);
+        let [u, v] = [(); 2].map(|_| words::exchanged(chance, book, &word, 2_000, 4_096));
+        all.push(check(FAMILIES, format!("for measure: the check alone, {name}"), book));
+        all.push(round(FAMILIES, format!("one round, {name}"), book, u.clone(), v.clone()));
+        all.push(compare_many(FAMILIES, format!("comparison of 4,000, {name}"), book, &u, &v, 7));
+        all.push(least(FAMILIES, format!("least word of 4,000, {name}"), book, u));
+    }
+    let tails = shared::quiet_tails(chance);
+    let letters = vec![shared::QUIET_LETTER; 4_096];
+    all.push(check(QUIET, "for measure: the check alone, tails of 63", &tails));
+    all.push(round(QUIET, "one round, tails of 63, words of 4,096", &tails, letters.clone(), letters.clone()));
+    for n in [64, 4_096] {
+        all.push(compare_many(QUIET, format!("tails of 63, a member of one letter {n} times"), &tails, &letters[..n], &letters[..n], 7));
+    }
+    all.push(compare_many(QUIET, "tails of 63, members of 64, 4,096 letters", &tails, &long_members(&tails), &long_members(&tails), 7));
+    all.push(least(QUIET, "least word, tails of 63, a member of one letter 4,096 times", &tails, letters));
+    let overlaps = shared::quiet_overlaps(chance);
+    let letters: Vec<u8> = [shared::QUIET_LETTER, shared::STRANGE_LETTER].repeat(2_048);
+    all.push(check(QUIET, "for measure: the check alone, tails of period 1", &overlaps));
+    for n in [64, 4_096] {
+        all.push(compare_many(QUIET, format!("tails of period 1, a member of one letter, {n} letters"), &overlaps, &letters[..n], &letters[..n], 7));
+    }
+    all.push(least(QUIET, "least word, tails of period 1, 4,096 letters", &overlaps, letters));
+}
+
+/// The members of 64 letters one after the other, 4,096 letters.
+fn long_members(book: &Book) -> Vec<u8> {
+    book.words.iter().filter(|word| word.len() == 64).flatten().copied().cycle().take(4_096).collect()
 }
 
 fn least_words(all: &mut Vec<Case>, chance: &mut Chance) {

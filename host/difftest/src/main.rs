@@ -9,24 +9,39 @@ use gen::Chance;
 /// A trial by name.
 type Named = (&'static str, fn(&mut Trial, &mut Chance));
 
-const TRIALS: [Named; 18] = [
+const TRIALS: [Named; 27] = [
     ("generated books", |trial, chance| trials::generated_books(trial, chance, 1_000)),
-    ("sheets", |trial, chance| trials::sheets(trial, chance, 1_000)),
+    ("sheets", |trial, chance| trials::sheets(trial, chance, &trials::SHEETS, 1_000)),
+    ("sheets, shared words", |trial, chance| trials::sheets(trial, chance, &trials::SHARED_SHEETS, 1_000)),
     ("damaged books", |trial, chance| trials::damaged_books(trial, chance, 1_000)),
     ("every byte", |trial, chance| trials::every_byte(trial, chance, 4)),
     ("wrong lengths", |trial, chance| trials::wrong_lengths(trial, chance, 4)),
     ("records out of place", |trial, chance| trials::records_out_of_place(trial, chance, 500)),
-    ("comparisons", |trial, chance| trials::comparisons(trial, chance, 300, 120)),
-    ("long comparisons", |trial, chance| trials::comparisons(trial, chance, 10, 1_500)),
-    ("rounds", |trial, chance| trials::rounds(trial, chance, 400)),
-    ("rounds make comparisons", |trial, chance| trials::rounds_make_comparisons(trial, chance, 200)),
+    ("comparisons", |trial, chance| trials::comparisons(trial, chance, &trials::COMPARED, 300, 120)),
+    ("comparisons, shared words", |trial, chance| trials::comparisons(trial, chance, &trials::SHARED, 300, 120)),
+    ("long comparisons", |trial, chance| trials::comparisons(trial, chance, &trials::COMPARED, 10, 1_500)),
+    ("long comparisons, shared words", |trial, chance| trials::comparisons(trial, chance, &trials::SHARED, 10, 1_500)),
+    ("rounds", |trial, chance| trials::rounds(trial, chance, &trials::COMPARED, 400)),
+    ("rounds, shared words", |trial, chance| trials::rounds(trial, chance, &trials::SHARED, 400)),
+    ("rounds make comparisons", |trial, chance| trials::rounds_make_comparisons(trial, chance, &trials::COMPARED, 200)),
+    ("rounds make comparisons, shared words", |trial, chance| trials::rounds_make_comparisons(trial, chance, &trials::SHARED, 200)),
+    ("other ways to write a family", |trial, chance| trials::other_ways(trial, chance, &trials::SHARED, 200)),
     ("limits", |trial, chance| trials::limits(trial, chance, AT_THE_LIMITS)),
     ("programs", |trial, chance| trials::programs(trial, chance, 1_000)),
-    ("chains", |trial, chance| trials::chains(trial, chance, 40, 700)),
-    ("classes", |trial, chance| trials::classes(trial, chance, 1_000)),
-    ("least words", |trial, chance| trials::least_words(trial, chance, 500)),
-    ("least of all words", |trial, chance| trials::least_of_all_words(trial, chance, 40, 1_000)),
-    ("least of joined words", |trial, chance| trials::least_of_joined_words(trial, chance, 40, 200, 2_000)),
+    ("chains", |trial, chance| trials::chains(trial, chance, &trials::SMALL, 40, 700)),
+    ("chains, shared words", |trial, chance| trials::chains(trial, chance, &trials::SHARED_SMALL, 40, 800)),
+    ("classes", |trial, chance| trials::classes(trial, chance, &trials::CLASSES, 1_000)),
+    ("classes, shared words", |trial, chance| trials::classes(trial, chance, &trials::SHARED_CLASSES, 1_000)),
+    ("least words", |trial, chance| trials::least_words(trial, chance, &trials::RANKED, 500)),
+    ("least words, shared words", |trial, chance| trials::least_words(trial, chance, &trials::SHARED_CLASSES, 500)),
+    ("least of all words", |trial, chance| {
+        trials::least_of_all_words(trial, chance, &trials::SMALL, 40, 1_000);
+        trials::least_of_all_words(trial, chance, &trials::SHARED_SMALL, 40, 1_000);
+    }),
+    ("least of joined words", |trial, chance| {
+        trials::least_of_joined_words(trial, chance, &trials::RANKED, 40, 200, 2_000);
+        trials::least_of_joined_words(trial, chance, &trials::SHARED, 40, 200, 2_000);
+    }),
     ("least at the limits", trials::least_at_the_limits),
 ];
 

@@ -53,15 +53,30 @@ impl<'a> Trial<'a> {
         let expected = known.as_ref().map(|accepted| accepted.relations() as u64).map_err(|refusal| of_reference(*refusal));
         assert_eq!(self.entries.check(book), expected, "check {}", hex(book));
         self.met(&expected);
-        self.tally.accepted += expected.is_ok() as u64;
+        self.meet_book(book, &known);
         known
+    }
+
+    /// Counts what a book is.
+    pub fn meet_book(&mut self, book: &[u8], known: &Known) {
+        match known {
+            Ok(accepted) => {
+                self.tally.accepted += 1;
+                self.tally.meet_families(accepted);
+            }
+            Err(Refusal { number: 8, place }) => {
+                let read = reference::book::read(book).expect("8 comes behind 1 to 6");
+                self.tally.meet_loose(&read.sides, *place as usize);
+            }
+            Err(_) => {}
+        }
     }
 
     /// The cut sheet in a buffer of this size.
     pub fn cut_sheet(&mut self, book: &[u8], known: &Known, size: usize) {
         let expected = match known {
             Err(refusal) => Err(of_reference(*refusal)),
-            Ok(accepted) if size < SHEET_SIDE * accepted.cuts.len() => Err((12, 0)),
+            Ok(accepted) if size < SHEET_SIDE * accepted.sides.len() => Err((12, 0)),
             Ok(accepted) => Ok(accepted.relations() as u64),
         };
         let mut sheet = Lent::new(size);
@@ -123,7 +138,7 @@ impl<'a> Trial<'a> {
         }
         self.met(&expected);
         if let (Ok(accepted), Ok(rounded)) = (known, expected) {
-            self.tally.rows[reference::rows::row(&accepted.cuts, u, v, p).0] += 1;
+            self.tally.meet_row(accepted, reference::rows::row(&accepted.words, u, v, p).0, words);
             if let Rounded::Next(_) = rounded {
                 return Some(written);
             }

@@ -3,20 +3,37 @@
 use std::collections::HashMap;
 
 use gen::books::{renamed, Renaming};
-use gen::{books, damage, inputs, words, Book, Chance};
+use gen::{books, damage, inputs, shared, words, Book, Chance};
 use reference::pieces::{longest_tail, numbers};
-use reference::Refusal;
+use reference::{Accepted, Refusal};
 
 use crate::entries::Compared;
 use crate::trial::{Known, KnownLeast, Trial, LEAST, NEXT, SHEET, SHEET_SIDE};
 
+/// What makes books of one kind.
+pub type Make = fn(&mut Chance) -> Book;
+
+/// Kinds of books for sheets, for comparisons and rounds, and for searches over all short words and over whole classes.
+pub const SHEETS: [Make; 5] = [books::of_many_numbers, books::of_many_numbers, books::of_three_parts, books::small, books::any];
+pub const COMPARED: [Make; 5] = [books::any, books::few_letters, books::overlapping, books::linked, books::marked];
+pub const SMALL: [Make; 2] = [books::small, small_marked];
+pub const CLASSES: [Make; 4] = [books::few_letters, books::overlapping, books::linked, books::marked];
+pub const RANKED: [Make; 5] = [books::any, books::few_letters, books::overlapping, books::linked, books::tangled];
+
+/// The same with relations that share words.
+pub const SHARED: [Make; 4] = [shared::any, shared::linked, shared::apart, shared::large];
+pub const SHARED_SHEETS: [Make; 4] = [shared::any, shared::loose, shared::loose, shared::small];
+pub const SHARED_SMALL: [Make; 1] = [shared::small];
+pub const SHARED_CLASSES: [Make; 4] = [shared::any, shared::linked, shared::apart, shared::small];
+
 /// A book that the reference accepts, with its bytes.
-fn accepted(chance: &mut Chance, make: fn(&mut Chance) -> Book) -> (Book, Vec<u8>, Known) {
+fn accepted(trial: &mut Trial, chance: &mut Chance, make: Make) -> (Book, Vec<u8>, Known) {
     loop {
         let book = make(chance);
         let bytes = book.bytes();
         let known = reference::accept(&bytes);
         if known.is_ok() {
+            trial.meet_book(&bytes, &known);
             return (book, bytes, known);
         }
     }
@@ -35,11 +52,10 @@ pub fn generated_books(trial: &mut Trial, chance: &mut Chance, cases: usize) {
     }
 }
 
-/// Sheets of books whose sides are products of few pieces, of many and of none, and at their longest of three with cuts anywhere or just not, in buffers of every
+/// Sheets of books whose sides are products of few pieces, of many and of none, at their longest of three with cuts anywhere or just not, or share words, in buffers of every
 /// size within a side's bytes of theirs, of three bytes a side, and of a few at random. A book is accepted just where every number is at least 4, and refused at
 /// the lowest side whose number is not.
-pub fn sheets(trial: &mut Trial, chance: &mut Chance, cases: usize) {
-    let kinds = [books::of_many_numbers, books::of_many_numbers, books::of_three_parts, books::small, books::any];
+pub fn sheets(trial: &mut Trial, chance: &mut Chance, kinds: &[Make], cases: usize) {
     for case in 0..cases {
         let book = kinds[case % kinds.len()](chance);
         let bytes = book.bytes();
@@ -48,7 +64,7 @@ pub fn sheets(trial: &mut Trial, chance: &mut Chance, cases: usize) {
         match known {
             Ok(_) => assert_eq!(low, None, "{book:?}"),
             Err(Refusal { number: 8, place }) => assert_eq!(low, Some(place as usize), "{book:?}"),
-            Err(Refusal { number, .. }) => assert_eq!(number, 7, "{book:?}"),
+            Err(refusal) => panic!("{refusal:?} of {book:?}"),
         }
         let fits = SHEET_SIDE * book.words.len();
         let near = fits.saturating_sub(SHEET_SIDE)..=fits + SHEET_SIDE;
@@ -85,7 +101,7 @@ fn every_entry(trial: &mut Trial, bytes: &[u8], known: &Known, u: &[u8], v: &[u8
 /// Small books and inputs of the program cut off at every byte, and with every byte changed.
 pub fn every_byte(trial: &mut Trial, chance: &mut Chance, cases: usize) {
     for _ in 0..cases {
-        let (book, bytes, _) = accepted(chance, books::small);
+        let (book, bytes, _) = accepted(trial, chance, books::small);
         let (u, v) = words::pair(chance, &book, 12);
         let input = inputs::input(chance, &book, 3, 6);
         let cut_off = damage::truncations(&bytes).map(<[u8]>::to_vec);
@@ -115,7 +131,7 @@ fn inside_record(input: &[u8], at: usize, position: usize) -> bool {
 /// Books and inputs whose length fields say other numbers: L of each record, and m and n of each rule and comparison.
 pub fn wrong_lengths(trial: &mut Trial, chance: &mut Chance, cases: usize) {
     for _ in 0..cases {
-        let (book, bytes, _) = accepted(chance, books::marked);
+        let (book, bytes, _) = accepted(trial, chance, books::marked);
         let questions = chance.between(1, 3);
         let input = inputs::input(chance, &book, questions, 8);
         let mut at = 0;
@@ -175,10 +191,9 @@ pub fn records_out_of_place(trial: &mut Trial, chance: &mut Chance, cases: usize
 }
 
 /// Comparisons of words that random exchanges join or nearly join, with the allowance ample, just enough, one short and none.
-pub fn comparisons(trial: &mut Trial, chance: &mut Chance, cases: usize, most: usize) {
-    let kinds = [books::any, books::few_letters, books::overlapping, books::linked, books::marked];
+pub fn comparisons(trial: &mut Trial, chance: &mut Chance, kinds: &[Make], cases: usize, most: usize) {
     for case in 0..cases {
-        let (book, bytes, known) = accepted(chance, kinds[case % kinds.len()]);
+        let (book, bytes, known) = accepted(trial, chance, kinds[case % kinds.len()]);
         for _ in 0..4 {
             let (u, v) = words::pair(chance, &book, most);
             compare_with_allowances(trial, &bytes, &known, &u, &v);
@@ -196,7 +211,7 @@ pub fn comparisons(trial: &mut Trial, chance: &mut Chance, cases: usize, most: u
 fn compare_with_allowances(trial: &mut Trial, bytes: &[u8], known: &Known, u: &[u8], v: &[u8]) {
     let Ok(accepted) = known else { panic!("the book is accepted") };
     if let Ok(Compared::Same(count) | Compared::Different(count)) = trial.compare(bytes, known, u, v, u32::MAX) {
-        let bound = (longest_tail(&accepted.cuts) + 1) * u.len();
+        let bound = (longest_tail(&accepted.words.cuts) + 1) * u.len().min(v.len());
         assert!(count <= bound as u64, "{count} rounds, over the bound {bound}");
         for allowance in [Some(count), count.checked_sub(1), Some(0)].into_iter().flatten() {
             let _ = trial.compare(bytes, known, u, v, allowance as u32);
@@ -205,10 +220,9 @@ fn compare_with_allowances(trial: &mut Trial, bytes: &[u8], known: &Known, u: &[
 }
 
 /// Single rounds from words and marks of all kinds, followed for some rounds, with buffers that fit, are ample, or are one byte short.
-pub fn rounds(trial: &mut Trial, chance: &mut Chance, cases: usize) {
-    let kinds = [books::any, books::few_letters, books::overlapping, books::linked, books::linked];
+pub fn rounds(trial: &mut Trial, chance: &mut Chance, kinds: &[Make], cases: usize) {
     for case in 0..cases {
-        let (book, bytes, known) = accepted(chance, kinds[case % kinds.len()]);
+        let (book, bytes, known) = accepted(trial, chance, kinds[case % kinds.len()]);
         for _ in 0..4 {
             let [mut u, mut v, mut p] = words_and_mark(chance, &book, &known);
             for _ in 0..8 {
@@ -237,16 +251,16 @@ fn words_and_mark(chance: &mut Chance, book: &Book, known: &Known) -> [Vec<u8>; 
         let (u, v) = words::pair(chance, book, 100);
         return [u, v, words::mark(chance, book)];
     }
-    let cuts = &known.as_ref().expect("accepted").cuts;
-    let lengths: Vec<[usize; 3]> = cuts.iter().map(|cut| [cut.x().len(), cut.y().len(), cut.z().len()]).collect();
+    let Accepted { sides, words, .. } = known.as_ref().expect("accepted");
+    let cuts = sides.iter().map(|side| words.cut_of(side));
+    let lengths: Vec<[usize; 3]> = cuts.map(|cut| [cut.x().len(), cut.y().len(), cut.z().len()]).collect();
     words::shaped(chance, book, &lengths)
 }
 
 /// Single rounds from two words and the empty mark to the end make the comparison's answer and count.
-pub fn rounds_make_comparisons(trial: &mut Trial, chance: &mut Chance, cases: usize) {
-    let kinds = [books::any, books::linked];
+pub fn rounds_make_comparisons(trial: &mut Trial, chance: &mut Chance, kinds: &[Make], cases: usize) {
     for case in 0..cases {
-        let (book, bytes, known) = accepted(chance, kinds[case % 2]);
+        let (book, bytes, known) = accepted(trial, chance, kinds[case % kinds.len()]);
         let (u, v) = words::pair(chance, &book, 60);
         let answer = trial.compare(&bytes, &known, &u, &v, u32::MAX);
         let (mut state, mut count) = ([u, v, Vec::new()], 0);
@@ -257,6 +271,44 @@ pub fn rounds_make_comparisons(trial: &mut Trial, chance: &mut Chance, cases: us
         let same = state.iter().all(Vec::is_empty);
         assert_eq!(answer, Ok(if same { Compared::Same(count) } else { Compared::Different(count) }));
     }
+}
+
+/// Books whose families are written in another way, with more rules behind the first: rules again and turned round, rules with equal sides, and rules between
+/// members that a chain of rules joins already. The words, their order and their families stay, and so do all answers but the number of relations and the sheet,
+/// which has a row more for each side more.
+pub fn other_ways(trial: &mut Trial, chance: &mut Chance, kinds: &[Make], cases: usize) {
+    for case in 0..cases {
+        let (book, bytes, known) = accepted(trial, chance, kinds[case % kinds.len()]);
+        let longer = written_longer(chance, &book);
+        let longer_bytes = longer.bytes();
+        let longer_known = trial.check(&longer_bytes);
+        let [sheet, longer_sheet] = [&known, &longer_known].map(|known| known.as_ref().expect("accepted").sheet());
+        assert!(longer_sheet.starts_with(&sheet), "{book:?} {longer:?}");
+        trial.cut_sheet(&longer_bytes, &longer_known, SHEET);
+        for _ in 0..3 {
+            let (u, v) = words::pair(chance, &book, 80);
+            let answer = trial.compare(&bytes, &known, &u, &v, u32::MAX);
+            assert_eq!(trial.compare(&longer_bytes, &longer_known, &u, &v, u32::MAX), answer, "{u:?} {v:?} {book:?} {longer:?}");
+            let [u, v, p] = words_and_mark(chance, &book, &known);
+            let next = trial.round(&bytes, &known, [&u, &v, &p], NEXT);
+            assert_eq!(trial.round(&longer_bytes, &longer_known, [&u, &v, &p], NEXT), next, "{u:?} {v:?} {p:?} {book:?} {longer:?}");
+            let least = trial.least_in_ample_buffer(&bytes, &u);
+            assert_eq!(trial.least_in_ample_buffer(&longer_bytes, &u), least, "{u:?} {book:?} {longer:?}");
+        }
+    }
+}
+
+/// The book with up to four relations more, each between two sides of one family.
+fn written_longer(chance: &mut Chance, book: &Book) -> Book {
+    let family = shared::families(book);
+    let mut longer = book.clone();
+    while !book.words.is_empty() && longer.relations() < 32 && longer.relations() < book.relations() + 4 {
+        let one = chance.below(family.len());
+        let members: Vec<usize> = (0..family.len()).filter(|&i| family[i] == family[one]).collect();
+        let other = if chance.once_in(4) { one } else { *chance.pick(&members) };
+        longer.words.extend([book.words[one].clone(), book.words[other].clone()]);
+    }
+    longer
 }
 
 /// Books at the limits, and words at, and just over, theirs.
@@ -372,10 +424,9 @@ fn length_for(letters: u8, count: usize) -> usize {
 }
 
 /// Breadth-first search on all words of a length and below under small books, for about `count` words each.
-pub fn chains(trial: &mut Trial, chance: &mut Chance, cases: usize, count: usize) {
-    let kinds = [books::small, small_marked];
+pub fn chains(trial: &mut Trial, chance: &mut Chance, kinds: &[Make], cases: usize, count: usize) {
     for case in 0..cases {
-        let (book, bytes, known) = accepted(chance, kinds[case % kinds.len()]);
+        let (book, bytes, known) = accepted(trial, chance, kinds[case % kinds.len()]);
         all_pairs(trial, &book, &bytes, &known, length_for(book.letters, count));
     }
 }
@@ -405,7 +456,7 @@ pub fn two_letters(trial: &mut Trial, most: usize, words_of: usize) {
 fn all_pairs(trial: &mut Trial, book: &Book, bytes: &[u8], known: &Known, most: usize) {
     let all = all_words(book.letters, most);
     let classes = classes_of(book, &all);
-    let bound = longest_tail(&known.as_ref().expect("accepted").cuts) + 1;
+    let bound = longest_tail(&known.as_ref().expect("accepted").words.cuts) + 1;
     let pairs: Vec<(usize, usize)> = (0..all.len()).flat_map(|i| (0..all.len()).map(move |j| (i, j))).collect();
     for part in pairs.chunks(1_800) {
         let mut input = bytes.to_vec();
@@ -421,7 +472,7 @@ fn all_pairs(trial: &mut Trial, book: &Book, bytes: &[u8], known: &Known, most: 
             let (word, rounds) = lines.next().and_then(|line| line.split_once(' ')).expect("a line for each comparison");
             let expected = if classes[i] == classes[j] { "same" } else { "different" };
             assert_eq!(word, expected, "{:?} and {:?} under {book:?}", all[i], all[j]);
-            assert!(rounds.parse::<usize>().expect("a count") <= bound * all[i].len());
+            assert!(rounds.parse::<usize>().expect("a count") <= bound * all[i].len().min(all[j].len()));
         }
         assert_eq!(lines.next(), None);
         trial.tally.calls += 1;
@@ -454,10 +505,9 @@ fn classes_of(book: &Book, all: &[Vec<u8>]) -> Vec<usize> {
 }
 
 /// Breadth-first search from longer words: every word reached compares 'same' with the first, both ways round, and words near it that are not reached 'different'.
-pub fn classes(trial: &mut Trial, chance: &mut Chance, cases: usize) {
-    let kinds = [books::few_letters, books::overlapping, books::linked, books::marked];
+pub fn classes(trial: &mut Trial, chance: &mut Chance, kinds: &[Make], cases: usize) {
     for case in 0..cases {
-        let (book, bytes, known) = accepted(chance, kinds[case % kinds.len()]);
+        let (book, bytes, known) = accepted(trial, chance, kinds[case % kinds.len()]);
         let u = words::of_sides(chance, &book, 40);
         let Some(reached) = reference::chains::reached(&book.words, &u, 300) else { continue };
         let mut sorted: Vec<&Vec<u8>> = reached.iter().collect();
@@ -485,8 +535,8 @@ struct Ranked {
 }
 
 impl Ranked {
-    fn new(chance: &mut Chance, make: fn(&mut Chance) -> Book) -> Ranked {
-        let (book, _, _) = accepted(chance, make);
+    fn new(trial: &mut Trial, chance: &mut Chance, make: Make) -> Ranked {
+        let (book, _, _) = accepted(trial, chance, make);
         Ranked::of(book, books::renaming(chance))
     }
 
@@ -498,12 +548,10 @@ impl Ranked {
     }
 }
 
-const RANKED_KINDS: [fn(&mut Chance) -> Book; 5] = [books::any, books::few_letters, books::overlapping, books::linked, books::tangled];
-
 /// Least words by breadth-first search over whole classes, in buffers of every size near theirs, at offsets from the start to one past the end; and strangers.
-pub fn least_words(trial: &mut Trial, chance: &mut Chance, cases: usize) {
+pub fn least_words(trial: &mut Trial, chance: &mut Chance, kinds: &[Make], cases: usize) {
     for case in 0..cases {
-        let ranked = Ranked::new(chance, RANKED_KINDS[case % RANKED_KINDS.len()]);
+        let ranked = Ranked::new(trial, chance, kinds[case % kinds.len()]);
         for _ in 0..4 {
             let mut word = renamed(&words::pair(chance, &ranked.book, 40).0, &ranked.table);
             if let Some(least) = trial.search_least(&ranked.known, &word, 300) {
@@ -532,10 +580,9 @@ fn least_in_many_buffers(trial: &mut Trial, bytes: &[u8], least: &KnownLeast, wo
 }
 
 /// Least words of all words of a length and below under small books, for about `count` words each.
-pub fn least_of_all_words(trial: &mut Trial, chance: &mut Chance, cases: usize, count: usize) {
-    let kinds = [books::small, small_marked];
+pub fn least_of_all_words(trial: &mut Trial, chance: &mut Chance, kinds: &[Make], cases: usize, count: usize) {
     for case in 0..cases {
-        let ranked = Ranked::new(chance, kinds[case % kinds.len()]);
+        let ranked = Ranked::new(trial, chance, kinds[case % kinds.len()]);
         let most = length_for(ranked.book.letters, count);
         least_of_words_up_to(trial, &ranked, most);
     }
@@ -556,12 +603,12 @@ pub fn least_of_two_letters(trial: &mut Trial, chance: &mut Chance, most: usize,
 
 /// All words of at most so many letters; those of one class have one least word, which one search finds for them all.
 fn least_of_words_up_to(trial: &mut Trial, ranked: &Ranked, most: usize) {
-    let sides = ranked.known.as_ref().expect("accepted").words();
+    let sides = &ranked.known.as_ref().expect("accepted").sides;
     let mut least_of: HashMap<Vec<u8>, Vec<u8>> = HashMap::new();
     for word in all_words(ranked.book.letters, most) {
         let word = renamed(&word, &ranked.table);
         if !least_of.contains_key(&word) {
-            let class = reference::chains::reached(&sides, &word, 1_000_000).expect("few words are reached");
+            let class = reference::chains::reached(sides, &word, 1_000_000).expect("few words are reached");
             let least = class.iter().min_by(|a, b| reference::least::order(a, b)).expect("the word itself").clone();
             least_of.extend(class.into_iter().map(|word| (word, least.clone())));
         }
@@ -574,9 +621,9 @@ fn least_of_words_up_to(trial: &mut Trial, ranked: &Ranked, most: usize) {
 
 /// Words that many exchanges join have one least word, which is the least word of itself and joined to them;
 /// and two words compare 'same' just where their least words are equal.
-pub fn least_of_joined_words(trial: &mut Trial, chance: &mut Chance, cases: usize, most: usize, exchanges: usize) {
+pub fn least_of_joined_words(trial: &mut Trial, chance: &mut Chance, kinds: &[Make], cases: usize, most: usize, exchanges: usize) {
     for case in 0..cases {
-        let Ranked { book, table, bytes, known } = Ranked::new(chance, RANKED_KINDS[case % RANKED_KINDS.len()]);
+        let Ranked { book, table, bytes, known } = Ranked::new(trial, chance, kinds[case % kinds.len()]);
         let u = words::linked(chance, &book, most);
         let v = words::exchanged(chance, &book, &u, exchanges, 2 * most);
         let [u, v] = [u, v].map(|word| renamed(&word, &table));

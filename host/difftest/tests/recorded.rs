@@ -101,15 +101,21 @@ fn bench_cases_of_books() {
         ("a = aa", "refused 8 0"),
         ("aa = b", "refused 8 0"),
         ("a = b", "1: 0 1 0 255, 0 1 0 255"),
-        ("ab = ab", "refused 7 1"),
+        // a word may stand on several sides; pieces are counted over distinct words
+        ("ab = ab", "1: 0 2 0 255, 0 2 0 255"),
         ("abdc = acbd", "refused 8 0"),
         ("abdc = cadb", "1: 1 2 1 4, 1 2 1 4"),
         ("daaa = dc", "refused 8 0"),
         // document 000, section 1
         ("abc = cba", "refused 8 0"),
         ("acba = aabc", "1: 1 2 1 4, 1 2 1 4"),
-        ("acba = aabc, acba = dbbbd", "refused 7 2"),
+        ("acba = aabc, acba = dbbbd", "2: 1 2 1 4, 1 2 1 4, 1 2 1 4, 1 3 1 4"),
         ("aabc = aabd", "1: 3 1 0 255, 3 1 0 255"),
+        // words at fault that stand on several sides, and behind sides that are repeated
+        ("aa = aa", "refused 8 0"),
+        ("b = aa, aa = c", "refused 8 1"),
+        ("b = b, aa = b, cc = aa", "refused 8 2"),
+        ("b = c, c = b, d = aa, aa = b", "refused 8 5"),
     ];
     for (rules, expected) in cases {
         assert_eq!(sheet(&book(rules), SHEET), expected, "{rules}");
@@ -170,6 +176,56 @@ fn bench_cases_of_comparisons() {
     ];
     for (rules, u, v, allowance, expected) in cases {
         assert_eq!(compared(chosen().compare(&book(rules), &word(u), &word(v), allowance)), expected, "{u} {v} under {rules}");
+    }
+}
+
+/// Three ways of rinsing that may replace each other, written down in several ways.
+const RINSING: [&str; 6] = [
+    "abdc = cadb, cadb = bcda",
+    "abdc = cadb, bcda = abdc",
+    "abdc = cadb, cadb = bcda, bcda = abdc",
+    "abdc = cadb, abdc = cadb, cadb = bcda, bcda = cadb",
+    "abdc = abdc, abdc = cadb, cadb = bcda",
+    "abdc = cadb, cadb = cadb, bcda = cadb, bcda = bcda",
+];
+
+/// The comparisons of the reference's hand-worked cases, where their derivations stand.
+#[test]
+fn bench_cases_where_a_word_is_shared() {
+    let cases = [
+        ("ab = ab", "ab", "ab", "same 1"),
+        ("ab = ab", "ab", "ba", "different 0"),
+        ("ad = c, c = aea", "cea", "cd", "same 2"),
+        ("ad = c, c = aea", "ce", "cd", "different 2"),
+        ("d = d, cac = d", "d", "d", "same 2"),
+        ("d = d, cac = d", "cac", "d", "same 1"),
+        ("ada = ca", "adca", "cca", "same 3"),
+        ("ada = ca, ca = e", "ade", "ce", "same 3"),
+        ("c = e, d = c", "e", "d", "same 1"),
+        ("c = e, d = c", "ecd", "dde", "same 3"),
+    ];
+    for (rules, u, v, expected) in cases {
+        assert_eq!(compared(chosen().compare(&book_over(5, rules), &word(u), &word(v), u32::MAX)), expected, "{u} {v} under {rules}");
+    }
+    let cases = [
+        ("abdc", "bcda", "same 2"),
+        ("abdcbdc", "cadbbdc", "same 3"),
+        ("abdcbdc", "bcdcadb", "same 3"),
+        ("bcdcadb", "abdcbdc", "same 3"),
+        ("abdcad", "bcdaad", "same 2"),
+        ("abdc", "acdb", "different 0"),
+        ("abda", "cada", "different 0"),
+    ];
+    for rules in RINSING {
+        let sides = 2 * rules.split(", ").count();
+        assert_eq!(sheet(&book(rules), SHEET), format!("{}: {}", sides / 2, vec!["1 2 1 4"; sides].join(", ")));
+        for (u, v, expected) in cases {
+            assert_eq!(compared(chosen().compare(&book(rules), &word(u), &word(v), u32::MAX)), expected, "{u} {v} under {rules}");
+        }
+        for run in ["abdcbdc", "cadbbdc", "bcdabdc", "bcdcadb", "bcdbcda"] {
+            let mut buffer = [0; 7];
+            assert_eq!((chosen().least(&book(rules), &word(run), &mut buffer, 0), &buffer[..]), (Ok(7), &word("abdcbdc")[..]), "{run} under {rules}");
+        }
     }
 }
 

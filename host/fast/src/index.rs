@@ -48,7 +48,7 @@ impl Index {
     /// The same among the words listed from one place on and below another, which share the first letter of a b.
     ///
     /// `matched` letters are shared with the listed word before. Where two neighbours share more, the next one parts from a b at the same letter;
-    /// where they share less, no later one can match, because no XY is a front of another side.
+    /// where they share less, no later one can match, because no XY is a front of another word.
     fn walk(&self, laid: &Laid, a: &[u8], b: &[u8], from: usize, to: usize) -> Option<usize> {
         let mut matched = 1;
         for j in from..to {
@@ -60,8 +60,8 @@ impl Index {
                 return None;
             }
             let i = self.order[j] as usize;
-            let side = &laid.sides[i];
-            let xy = &laid.text[side.start as usize..side.z_start as usize];
+            let word = &laid.table[i];
+            let xy = &laid.text[word.start as usize..word.z_start as usize];
             matched = agree(a, b, xy, matched);
             if matched >= xy.len() {
                 return Some(i);
@@ -71,17 +71,17 @@ impl Index {
     }
 }
 
-/// How many letters the word a b shares with the side, where `matched` are known to be shared.
+/// How many letters the word a b shares with the listed one, where `matched` are known to be shared.
 #[inline]
-fn agree(a: &[u8], b: &[u8], side: &[u8], mut matched: usize) -> usize {
-    while matched < side.len() && matched < a.len() && a[matched] == side[matched] {
+fn agree(a: &[u8], b: &[u8], xy: &[u8], mut matched: usize) -> usize {
+    while matched < xy.len() && matched < a.len() && a[matched] == xy[matched] {
         matched += 1;
     }
     if matched < a.len() {
         return matched;
     }
     let offset = a.len();
-    while matched < side.len() && matched - offset < b.len() && b[matched - offset] == side[matched] {
+    while matched < xy.len() && matched - offset < b.len() && b[matched - offset] == xy[matched] {
         matched += 1;
     }
     matched

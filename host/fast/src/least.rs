@@ -16,28 +16,26 @@ fn rank(code: u8) -> u8 {
     code ^ 32
 }
 
-/// What each relation word is beside the other of its relation: whether its XY comes first, and how long an end their tails have in common.
-struct Kin {
-    first: [bool; SIDES],
-    shared: [u8; SIDES],
+/// For each family, by its number, the member that comes first: the one whose XY does, since no XY is a front of another.
+struct First([u8; SIDES]);
+
+impl First {
+    fn new(laid: &Laid) -> First {
+        let mut first = First([0; SIDES]);
+        for i in 0..laid.words {
+            let family = laid.table[i].family as usize;
+            if family == i || comes_before(laid, i, first.0[family] as usize) {
+                first.0[family] = i as u8;
+            }
+        }
+        first
+    }
 }
 
-impl Kin {
-    fn new(laid: &Laid) -> Kin {
-        let mut kin = Kin { first: [false; SIDES], shared: [0; SIDES] };
-        for i in (0..laid.words).step_by(2) {
-            let [a, b] = [i, i + 1].map(|j| &laid.sides[j]);
-            let [xy, xy_] = [a, b].map(|side| &laid.text[side.start as usize..side.z_start as usize]);
-            let [z, z_] = [a, b].map(|side| &laid.text[side.z_start as usize..side.end as usize]);
-            // no XY is a front of another, so that they differ
-            let parted = xy.iter().zip(xy_).find(|(x, y)| x != y);
-            kin.first[i] = parted.is_some_and(|(&x, &y)| rank(x) < rank(y));
-            kin.first[i + 1] = !kin.first[i];
-            kin.shared[i] = z.iter().rev().zip(z_.iter().rev()).take_while(|(x, y)| x == y).count() as u8;
-            kin.shared[i + 1] = kin.shared[i];
-        }
-        kin
-    }
+/// XY of word i comes before that of word j.
+fn comes_before(laid: &Laid, i: usize, j: usize) -> bool {
+    let [xy, xy_] = [i, j].map(|i| &laid.text[laid.table[i].start as usize..laid.table[i].z_start as usize]);
+    xy.iter().zip(xy_).find(|(x, y)| x != y).is_some_and(|(&x, &y)| rank(x) < rank(y))
 }
 
 /// Whether q, a part of the text that is not empty, is a possible front of u.
@@ -99,7 +97,7 @@ impl Sink for Write<'_> {
 /// A book and a word under it.
 struct Walk<'a> {
     ready: &'a Ready,
-    kin: Kin,
+    first: First,
     text: &'a [u8],
     given: &'a [u8],
 }
@@ -138,7 +136,7 @@ impl Walk<'_> {
         (self.text[at] == letter && at + 1 < to).then_some(Hint { q: (at + 1, to), ..hint })
     }
 
-    /// A clean front XY of relation word i, with s behind it.
+    /// A clean front XY of word i, with s behind it.
     #[inline]
     fn front(&self, state: State, i: usize, u: Parts, sink: &mut impl Sink) -> State {
         let (xy, z) = (self.xy_length(i), self.z(i));
@@ -150,78 +148,86 @@ impl Walk<'_> {
         } else if wanted == i {
             self.own(behind, i, sink)
         } else {
-            self.exchanged(behind, i, s, sink)
+            self.exchanged(behind, i, wanted, s, sink)
         }
     }
 
-    /// What a hint at a clean front XY of relation word i says of Z behind it.
+    /// What a hint at a clean front XY of word i says of Z behind it.
     #[inline]
     fn behind(&self, hint: Hint, i: usize) -> Option<Hint> {
-        (!self.x_begins(i, hint.q) && self.x_begins(i ^ 1, hint.q)).then_some(Hint { q: self.z(i), ..hint })
+        (!self.x_begins(i, hint.q) && self.other_x_begins(i, hint.q)).then_some(Hint { q: self.z(i), ..hint })
     }
 
-    /// Of relation word i and the other of its relation, the one that comes first among those whose X begins with p.
+    /// Of the members of the family of word i, the one that comes first among those whose X begins with p.
     #[inline]
     fn wanted(&self, p: Part, i: usize) -> usize {
-        if self.x_begins(i ^ 1, p) && (!self.kin.first[i] || !self.x_begins(i, p)) {
-            i ^ 1
-        } else {
-            i
+        let laid = &self.ready.laid;
+        if p.0 == p.1 {
+            return self.first.0[laid.table[i].family as usize] as usize;
         }
+        let mut wanted = self.x_begins(i, p).then_some(i);
+        for member in laid.others(i) {
+            if self.x_begins(member, p) && wanted.is_none_or(|earlier| comes_before(laid, member, earlier)) {
+                wanted = Some(member);
+            }
+        }
+        wanted.unwrap_or(i)
     }
 
-    /// Relation word i stands there in full, and can be exchanged for j: the next tail is put where the rest is active for it.
+    /// Word i stands there in full, and can be exchanged for j: the next tail is put where the rest is active for it. Else the tail of a member is put for which
+    /// it is, or i's own, and is the next mark.
     fn whole(&self, behind: State, i: usize, j: usize, sink: &mut impl Sink) -> State {
         let (z, tail) = (self.z(i), self.z(j));
         let from = behind.u.skip(z.1 - z.0).from;
+        let rest = &self.given[from..];
         let put = |tail: Part, p: Part| State { u: Held { at: tail.0, to: tail.1, from }, p, hint: None };
-        if self.is_active(tail, from) {
+        if self.ready.is_active(j, rest) {
             self.tell(behind.p, j, tail.0, sink);
             return put(tail, (0, 0));
         }
         self.tell(behind.p, j, tail.1, sink);
-        let other = self.z(i ^ 1);
-        let carrier = if j == i && self.is_active(other, from) { other } else { z };
+        let active = self.ready.laid.others(i).find(|&member| member != j && self.ready.is_active(member, rest));
+        let carrier = active.map_or(z, |member| self.z(member));
         put(carrier, carrier)
     }
 
-    /// XY of relation word i stays.
+    /// XY of word i stays.
     #[inline]
     fn own(&self, behind: State, i: usize, sink: &mut impl Sink) -> State {
         self.tell(behind.p, i, self.z(i).0, sink);
         State { p: (0, 0), ..behind }
     }
 
-    /// XY of relation word i, with s behind it that does not begin with Z, gives way to the other relation word where Z is a possible front of s.
-    fn exchanged(&self, behind: State, i: usize, s: Parts, sink: &mut impl Sink) -> State {
-        let z = self.z(i);
+    /// XY of word i, with s behind it that does not begin with Z, gives way to the member j of its family where Z is a possible front of s.
+    fn exchanged(&self, behind: State, i: usize, j: usize, s: Parts, sink: &mut impl Sink) -> State {
+        let (z, tail) = (self.z(i), self.z(j));
         let hint = behind.hint.unwrap_or_else(|| Hint { q: z, possible: self.is_possible(z, s) });
         let behind = State { hint: Some(hint), ..behind };
         if !hint.possible {
             return self.own(behind, i, sink);
         }
-        let shared = self.kin.shared[i] as usize;
+        let shared = self.common_end(z, tail);
         let parted = z.1 - z.0 - shared;
-        let end = self.z(i ^ 1).1;
         if self.begins(s, (z.0, z.0 + parted)) && !(0..parted).any(|g| self.ready.clean_front(s.skip(g)).is_some()) {
-            self.tell(behind.p, i ^ 1, end - shared, sink);
+            self.tell(behind.p, j, tail.1 - shared, sink);
             let q = (z.1 - shared, z.1);
             return State { u: behind.u.skip(parted), p: (0, 0), hint: Some(Hint { q, ..hint }) };
         }
-        self.tell(behind.p, i ^ 1, end, sink);
+        self.tell(behind.p, j, tail.1, sink);
         State { p: z, ..behind }
     }
 
-    /// Writes relation word j up to a place of the text, without p, which it begins with.
+    /// The length of the longest common end of two parts of the text.
     #[inline]
-    fn tell(&self, p: Part, j: usize, to: usize, sink: &mut impl Sink) {
-        sink.part(&self.text[self.ready.laid.sides[j].start as usize + p.1 - p.0..to]);
+    fn common_end(&self, a: Part, b: Part) -> usize {
+        let (a, b) = (&self.text[a.0..a.1], &self.text[b.0..b.1]);
+        a.iter().rev().zip(b.iter().rev()).take_while(|(x, y)| x == y).count()
     }
 
-    /// The given word from a place on is active for a tail.
-    fn is_active(&self, tail: Part, from: usize) -> bool {
-        let joined = Parts { a: &self.text[tail.0..tail.1], b: &self.given[from..] };
-        self.ready.crowded(joined, 0, tail.1 - tail.0)
+    /// Writes word j up to a place of the text, without p, which it begins with.
+    #[inline]
+    fn tell(&self, p: Part, j: usize, to: usize, sink: &mut impl Sink) {
+        sink.part(&self.text[self.ready.laid.table[j].start as usize + p.1 - p.0..to]);
     }
 
     /// Some word that q begins is congruent to u.
@@ -238,7 +244,7 @@ impl Walk<'_> {
                     if self.x_begins(i, q) {
                         return true;
                     }
-                    if !self.x_begins(i ^ 1, q) {
+                    if !self.other_x_begins(i, q) {
                         return false;
                     }
                     (q, u) = (self.z(i), u.skip(self.xy_length(i)));
@@ -253,24 +259,29 @@ impl Walk<'_> {
         from == to || (word.first() == Some(self.text[from]) && word.begins(&self.text[from..to]))
     }
 
-    /// X of relation word i begins with a part of the text. Marks are short, and most differ at once.
+    /// X of word i begins with a part of the text. Marks are short, and most differ at once.
     #[inline]
     fn x_begins(&self, i: usize, front: Part) -> bool {
-        let side = &self.ready.laid.sides[i];
-        let (x, front) = (&self.text[side.start as usize..side.x_end as usize], &self.text[front.0..front.1]);
+        let (x, front) = (self.ready.laid.x(i), &self.text[front.0..front.1]);
         front.len() <= x.len() && front.iter().zip(x).all(|(a, b)| a == b)
+    }
+
+    /// X of some member of the family of word i other than i begins with a part of the text.
+    #[inline]
+    fn other_x_begins(&self, i: usize, front: Part) -> bool {
+        self.ready.laid.others(i).any(|member| self.x_begins(member, front))
     }
 
     #[inline]
     fn xy_length(&self, i: usize) -> usize {
-        let side = &self.ready.laid.sides[i];
-        (side.z_start - side.start) as usize
+        let word = &self.ready.laid.table[i];
+        (word.z_start - word.start) as usize
     }
 
     #[inline]
     fn z(&self, i: usize) -> Part {
-        let side = &self.ready.laid.sides[i];
-        (side.z_start as usize, side.end as usize)
+        let word = &self.ready.laid.table[i];
+        (word.z_start as usize, word.end as usize)
     }
 }
 
@@ -278,7 +289,7 @@ impl Walk<'_> {
 pub fn least(book: &[u8], word: &[u8], buffer: &mut [u8], offset: usize) -> Result<u64, Refusal> {
     let ready = Ready::new(book)?;
     check_word(word, 0, COMPARED, ready.laid.letters)?;
-    let walk = Walk { ready: &ready, kin: Kin::new(&ready.laid), text: &ready.laid.text, given: word };
+    let walk = Walk { ready: &ready, first: First::new(&ready.laid), text: &ready.laid.text, given: word };
     let mut count = Count(0);
     walk.run(&mut count);
     match buffer.get_mut(offset..) {

@@ -1,6 +1,7 @@
 //! A fast unverified version of the design of the proved library, the yardstick of its benchmark. Nothing rests on it.
 //!
-//! All relation words lie in one text, word number i followed by its fence, the code 64 + i. One row of common fronts, updated in place, gives the
+//! All distinct relation words lie in one text, each laid once, word number i followed by its fence, the code 64 + i; each side has the number of its word,
+//! and each word that of its family and a link to the next member. One row of common fronts, updated in place, gives the
 //! longest piece that starts at each place of the text; C(4), the cuts and the numbers of pieces are read off that table. A comparison finds relation
 //! words by an index and holds each of its words as a part of the text followed by the rest of a given word, in three numbers, and copies nothing; so does
 //! the least word.
@@ -46,24 +47,22 @@ pub const SHEET_SIDE: usize = 4;
 pub fn cut_sheet(book: &[u8], sheet: &mut [u8]) -> Result<u64, Refusal> {
     let mut laid = Laid::empty();
     accept(book, &mut laid)?;
-    if sheet.len() < SHEET_SIDE * laid.words {
+    if sheet.len() < SHEET_SIDE * laid.sides {
         return refuse(12, 0);
     }
-    for (place, side) in sheet.chunks_exact_mut(SHEET_SIDE).zip(&laid.sides[..laid.words]) {
-        place[0] = (side.x_end - side.start) as u8;
-        place[1] = (side.z_start - side.x_end) as u8;
-        place[2] = (side.end - side.z_start) as u8;
-        place[3] = side.pieces;
+    for (place, &i) in sheet.chunks_exact_mut(SHEET_SIDE).zip(&laid.word_of[..laid.sides]) {
+        let word = &laid.table[i as usize];
+        place[0] = (word.x_end - word.start) as u8;
+        place[1] = (word.z_start - word.x_end) as u8;
+        place[2] = (word.end - word.z_start) as u8;
+        place[3] = word.pieces;
     }
     Ok(laid.relations() as u64)
 }
 
-/// Reads a book, checks it, and cuts its relation words.
+/// Reads a book, checks it, and cuts its words.
 fn accept(book: &[u8], laid: &mut Laid) -> Result<(), Refusal> {
     reader::read(book, laid)?;
-    if let Some(side) = pieces::first_repeated(laid) {
-        return refuse(7, side);
-    }
     match pieces::cut_all(laid) {
         Some(side) => refuse(8, side),
         None => Ok(()),

@@ -2,11 +2,6 @@
 
 use crate::reader::{Laid, TEXT};
 
-/// The lowest relation word that equals an earlier one.
-pub fn first_repeated(laid: &Laid) -> Option<usize> {
-    (0..laid.words).find(|&i| (0..i).any(|j| laid.word(j) == laid.word(i)))
-}
-
 /// One pass over part of the row: the common fronts of place p, whose letter is given, with the places of this part.
 /// The row holds those of place p + 1, and gives up each as it is used. The largest comes back.
 /// Every turn loads and stores whatever the letters are, so that the compiler makes vectors of it.
@@ -66,21 +61,21 @@ fn number(longest: &[u8]) -> u8 {
     count
 }
 
-/// Cuts every relation word and counts its pieces, or gives the lowest one that is loose.
+/// Cuts every word and counts its pieces, or gives the lowest side whose word is loose. The words are in order of their lowest sides.
 pub fn cut_all(laid: &mut Laid) -> Option<usize> {
     let mut longest = [0u8; TEXT];
     longest_pieces(&laid.text[..laid.length], &mut longest[..laid.length]);
     for i in 0..laid.words {
-        let side = &mut laid.sides[i];
-        let (start, end) = (side.start as usize, side.end as usize);
+        let word = &mut laid.table[i];
+        let (start, end) = (word.start as usize, word.end as usize);
         let own = &longest[start..end];
         if is_loose(own) {
-            return Some(i);
+            return laid.word_of[..laid.sides].iter().position(|&word| word as usize == i);
         }
         let tail = (0..own.len()).find(|&at| at + own[at] as usize >= own.len()).unwrap_or(own.len());
-        side.x_end = side.start + own[0] as u16;
-        side.z_start = side.start + tail as u16;
-        side.pieces = number(own);
+        word.x_end = word.start + own[0] as u16;
+        word.z_start = word.start + tail as u16;
+        word.pieces = number(own);
     }
     None
 }

@@ -10,46 +10,115 @@ const SIDE: usize = 64;
 pub const SIDES: usize = 2 * RELATIONS;
 pub const TEXT: usize = SIDES * (SIDE + 1);
 
-/// Where a relation word and its parts lie in the text, and its number of pieces.
+/// Where a relation word and its parts lie in the text, its number of pieces, and its family.
 #[derive(Debug, Clone, Copy, Default)]
-pub struct Side {
+pub struct Word {
     pub start: u16,
     pub x_end: u16,
     pub z_start: u16,
     pub end: u16,
     pub pieces: u8,
+    /// the number of its family, which is the lowest member's
+    pub family: u8,
+    /// the next member of its family, in rising order; `LAST` where there is none
+    pub next: u8,
 }
 
-/// The relation words one after the other, each with its fence behind it.
+/// No further member.
+pub const LAST: u8 = 255;
+
+/// The distinct relation words one after the other, each with its fence behind it, and for each side the number of its word.
 pub struct Laid {
     pub letters: u8,
     pub words: usize,
+    pub sides: usize,
     pub length: usize,
     pub text: [u8; TEXT],
-    pub sides: [Side; SIDES],
+    pub table: [Word; SIDES],
+    pub word_of: [u8; SIDES],
 }
 
 impl Laid {
     pub fn empty() -> Laid {
-        Laid { letters: 0, words: 0, length: 0, text: [0; TEXT], sides: [Side::default(); SIDES] }
+        Laid { letters: 0, words: 0, sides: 0, length: 0, text: [0; TEXT], table: [Word::default(); SIDES], word_of: [0; SIDES] }
     }
 
     pub fn relations(&self) -> usize {
-        self.words / 2
+        self.sides / 2
     }
 
-    /// The letters of relation word i.
+    /// The letters of word i.
     pub fn word(&self, i: usize) -> &[u8] {
-        &self.text[self.sides[i].start as usize..self.sides[i].end as usize]
+        &self.text[self.table[i].start as usize..self.table[i].end as usize]
     }
 
-    fn lay(&mut self, word: &[u8]) {
+    /// X of word i.
+    #[inline]
+    pub fn x(&self, i: usize) -> &[u8] {
+        &self.text[self.table[i].start as usize..self.table[i].x_end as usize]
+    }
+
+    /// Z of word i.
+    #[inline]
+    pub fn z(&self, i: usize) -> &[u8] {
+        &self.text[self.table[i].z_start as usize..self.table[i].end as usize]
+    }
+
+    /// The members of the family of word i other than itself, in rising order.
+    #[inline]
+    pub fn others(&self, i: usize) -> impl Iterator<Item = usize> + '_ {
+        let mut next = self.table[i].family;
+        std::iter::from_fn(move || {
+            if next as usize == i {
+                next = self.table[i].next;
+            }
+            let member = next;
+            (member != LAST).then(|| {
+                next = self.table[member as usize].next;
+                member as usize
+            })
+        })
+    }
+
+    /// The sides of a relation: each word is laid where it is new, and their families become one.
+    fn lay_relation(&mut self, left: &[u8], right: &[u8]) {
+        let [a, b] = [self.lay_side(left), self.lay_side(right)].map(|i| self.table[i].family);
+        if a != b {
+            let (low, high) = (a.min(b), a.max(b));
+            for word in &mut self.table[..self.words] {
+                word.family = if word.family == high { low } else { word.family };
+            }
+        }
+    }
+
+    /// The number of a side's word.
+    fn lay_side(&mut self, side: &[u8]) -> usize {
+        let i = (0..self.words).find(|&i| self.word(i) == side).unwrap_or_else(|| self.lay(side));
+        self.word_of[self.sides] = i as u8;
+        self.sides += 1;
+        i
+    }
+
+    /// Lays a new word, which is a family of its own.
+    fn lay(&mut self, word: &[u8]) -> usize {
         let (start, end) = (self.length, self.length + word.len());
         self.text[start..end].copy_from_slice(word);
         self.text[end] = LETTERS + self.words as u8;
-        self.sides[self.words] = Side { start: start as u16, x_end: start as u16, z_start: end as u16, end: end as u16, pieces: 0 };
+        let (start, end, family) = (start as u16, end as u16, self.words as u8);
+        self.table[self.words] = Word { start, x_end: start, z_start: end, end, pieces: 0, family, next: LAST };
         self.words += 1;
-        self.length = end + 1;
+        self.length = end as usize + 1;
+        self.words - 1
+    }
+
+    /// Each word gets the link to the next member of its family.
+    fn link(&mut self) {
+        let mut next = [LAST; SIDES];
+        for i in (0..self.words).rev() {
+            let family = self.table[i].family as usize;
+            self.table[i].next = next[family];
+            next[family] = i as u8;
+        }
     }
 }
 
@@ -64,6 +133,7 @@ pub fn read(bytes: &[u8], laid: &mut Laid) -> Result<(), Refusal> {
     while at < bytes.len() {
         at = read_rule(bytes, at, laid)?;
     }
+    laid.link();
     Ok(())
 }
 
@@ -118,7 +188,6 @@ fn read_rule(bytes: &[u8], at: usize, laid: &mut Laid) -> Result<usize, Refusal>
     if payload[2..].iter().fold(0, |most, &code| most.max(code)) >= letters {
         return refuse(5, at);
     }
-    laid.lay(&payload[2..2 + m]);
-    laid.lay(&payload[2 + m..]);
+    laid.lay_relation(&payload[2..2 + m], &payload[2 + m..]);
     Ok(end)
 }

@@ -91,26 +91,49 @@ impl Ready {
     #[inline]
     pub fn clean_front(&self, u: Parts) -> Option<usize> {
         let i = self.index.find(&self.laid, u.a, u.b)?;
-        let side = &self.laid.sides[i];
-        let (x, xy) = ((side.x_end - side.start) as usize, (side.z_start - side.start) as usize);
+        let word = &self.laid.table[i];
+        let (x, xy) = ((word.x_end - word.start) as usize, (word.z_start - word.start) as usize);
         if self.crowded(u, x + 1, xy) {
             return None;
         }
         Some(i)
     }
 
-    /// How much of relation word i begins the word: 2 all of it, 1 only XY, 0 less.
+    /// The member of a family whose XY the word begins with. At most one XY begins a word, so that one look-up finds it.
     #[inline]
-    fn shape(&self, i: usize, word: Parts) -> u8 {
-        let side = &self.laid.sides[i];
-        let (start, z_start, end) = (side.start as usize, side.z_start as usize, side.end as usize);
-        if !word.begins(&self.laid.text[start..z_start]) {
-            0
-        } else if word.skip(z_start - start).begins(&self.laid.text[z_start..end]) {
-            2
-        } else {
-            1
+    fn member(&self, family: u8, word: Parts) -> Option<usize> {
+        self.index.find(&self.laid, word.a, word.b).filter(|&j| self.laid.table[j].family == family)
+    }
+
+    /// The mark is a front of the X of some member of the family of word i other than i. Mostly it is empty, and i's own X is tried first.
+    #[inline]
+    fn of_other_x(&self, i: usize, p: &[u8]) -> bool {
+        self.laid.others(i).any(|member| self.laid.x(member).starts_with(p))
+    }
+
+    /// The rest, which lies in the given word alone, is active for the tail of word i.
+    pub fn is_active(&self, i: usize, rest: &[u8]) -> bool {
+        let z = self.laid.z(i);
+        self.crowded(Parts { a: z, b: rest }, 0, z.len())
+    }
+
+    /// The member whose tail row 4 goes on with, where s is not active for that of word i: the first other one for whose tail it is, or else the first.
+    /// So where there is one other, or none, nothing is tried.
+    #[inline]
+    fn other_tail(&self, i: usize, s: Parts) -> usize {
+        debug_assert!(s.a.is_empty(), "a whole word is longer than the tail that is held");
+        let mut others = self.laid.others(i);
+        let Some(first) = others.next() else { return i };
+        if others.next().is_none() {
+            return first;
         }
+        self.active_tail(i, s.b).unwrap_or(first)
+    }
+
+    /// The first member of the family of word i other than i for whose tail the rest is active.
+    #[inline(never)]
+    fn active_tail(&self, i: usize, rest: &[u8]) -> Option<usize> {
+        self.laid.others(i).find(|&member| self.is_active(member, rest))
     }
 
     /// One round: the first row that fits.
@@ -137,41 +160,41 @@ impl Ready {
     #[inline(never)]
     fn rows_3_to_8(&self, i: usize, u: Parts, v: Parts, p: &[u8]) -> Plan {
         let text = &self.laid.text[..];
-        let (this, other) = (self.laid.sides[i], self.laid.sides[i ^ 1]);
-        let [start, x_end, z_start, end] = [this.start, this.x_end, this.z_start, this.end].map(usize::from);
-        let [start_, x_end_, z_start_, end_] = [other.start, other.x_end, other.z_start, other.end].map(usize::from);
-        let of_x = text[start..x_end].starts_with(p);
-        let cleared = Change { from: 0, to: 0, cut: p.len() };
-        let cut = |n: usize| Change { from: 0, to: 0, cut: n };
-        let (v_this, v_other) = match self.shape(i, v) {
-            0 => (0, self.shape(i ^ 1, v)),
-            shape => (shape, 0),
-        };
+        let table = &self.laid.table;
+        let this = table[i];
         // row 3
-        if (!of_x && !text[start_..x_end_].starts_with(p)) || v_this + v_other == 0 {
+        let Some(j) = self.member(this.family, v) else { return Plan::End(false) };
+        let of_x = p.is_empty() || self.laid.x(i).starts_with(p);
+        if !of_x && !self.of_other_x(i, p) {
             return Plan::End(false);
         }
-        let whole = u.skip(z_start - start).begins(&text[z_start..end]);
+        let other = table[j];
+        let [start, z_start, end] = [this.start, this.z_start, this.end].map(usize::from);
+        let [start_, z_start_, end_] = [other.start, other.z_start, other.end].map(usize::from);
+        let cleared = Change { from: 0, to: 0, cut: p.len() };
+        let cut = |n: usize| Change { from: 0, to: 0, cut: n };
         let (xy, w) = (z_start - start, end - start);
         let (xy_, w_) = (z_start_ - start_, end_ - start_);
-        match (whole, v_this, v_other) {
+        let u_whole = u.skip(xy).begins(&text[z_start..end]);
+        let v_whole = v.skip(xy_).begins(&text[z_start_..end_]);
+        match (u_whole, v_whole) {
             // row 4
-            (true, 2, _) | (true, _, 2) => {
-                let (from, to) = if self.crowded(u, xy, w) { (z_start, end) } else { (z_start_, end_) };
-                let v_cut = if v_this == 2 { w } else { w_ };
-                Plan::Go(Change { from, to, cut: w }, Change { from, to, cut: v_cut }, cleared)
+            (true, true) => {
+                let tail = if self.crowded(u, xy, w) { this } else { table[self.other_tail(i, u.skip(w))] };
+                let (from, to) = (tail.z_start as usize, tail.end as usize);
+                Plan::Go(Change { from, to, cut: w }, Change { from, to, cut: w_ }, cleared)
             }
             // row 5
-            (_, 1.., _) => {
+            _ if i == j => {
                 let mark = if of_x { cleared } else { Change { from: z_start, to: end, cut: p.len() } };
                 Plan::Go(cut(xy), cut(xy), mark)
             }
             // row 6
-            (false, _, 2) => Plan::Go(cut(xy), Change { from: z_start, to: end, cut: w_ }, cleared),
+            (false, true) => Plan::Go(cut(xy), Change { from: z_start, to: end, cut: w_ }, cleared),
             // row 7
-            (true, _, _) => Plan::Go(Change { from: z_start_, to: end_, cut: w }, cut(xy_), cleared),
+            (true, false) => Plan::Go(Change { from: z_start_, to: end_, cut: w }, cut(xy_), cleared),
             // row 8
-            (false, _, _) => {
+            (false, false) => {
                 let (z, z_) = (&text[z_start..end], &text[z_start_..end_]);
                 let shared = z.iter().rev().zip(z_.iter().rev()).take_while(|(x, y)| x == y).count();
                 let (e, f) = (&z[..z.len() - shared], &z_[..z_.len() - shared]);
@@ -199,7 +222,7 @@ impl Held {
         Parts { a: &text[self.at..self.to], b: &given[self.from..] }
     }
 
-    /// A tail is put back only where a whole side is cut off, which is never shorter than the tail that is held.
+    /// A tail is put back only where a whole word is cut off, which is never shorter than the tail that is held.
     #[inline]
     fn advance(self, change: Change) -> Held {
         let tail = self.to - self.at;

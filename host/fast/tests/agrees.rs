@@ -1,6 +1,6 @@
 //! Agrees with the reference on generated books, words, rounds, least words, damage and program inputs, and on the recorded vectors.
 
-use gen::{books, damage, inputs, words, Chance};
+use gen::{books, damage, inputs, shared, words, Chance};
 use vectors::Call;
 
 type Refused = (u32, u64);
@@ -56,7 +56,7 @@ fn round(book: &[u8], accepted: &reference::Accepted, state: [&[u8]; 3]) -> Opti
 
 /// The least word at an offset of a buffer, if the class has few words. The answer, and every byte of the buffer, are as they should be.
 fn least(book: &[u8], accepted: &reference::Accepted, word: &[u8], offset: usize, spare: isize) -> Option<Vec<u8>> {
-    let least = reference::least::least_word(&accepted.words(), word, 300)?;
+    let least = reference::least::least_word(&accepted.sides, word, 300)?;
     let room = (offset + least.len()).saturating_add_signed(spare);
     let mut one = vec![170; room];
     let mut two = one.clone();
@@ -76,8 +76,8 @@ fn program(input: &[u8]) {
 fn on_books_and_words() {
     let mut chance = Chance::new(1);
     let (mut accepted, mut same) = (0, 0);
-    for _ in 0..6_000 {
-        let book = books::any(&mut chance);
+    for case in 0..6_000 {
+        let book = if case % 3 == 0 { shared::any(&mut chance) } else { books::any(&mut chance) };
         let bytes = book.bytes();
         if let Some(known) = check(&bytes) {
             accepted += 1;
@@ -97,7 +97,8 @@ fn on_sheets() {
     let mut chance = Chance::new(8);
     let mut met = [0; 256];
     for case in 0..5_000 {
-        let book = if case % 5 == 0 { books::of_three_parts(&mut chance) } else { books::of_many_numbers(&mut chance) };
+        let kinds = [books::of_three_parts, books::of_many_numbers, books::of_many_numbers, books::of_many_numbers, shared::loose];
+        let book = kinds[case % kinds.len()](&mut chance);
         let bytes = book.bytes();
         let fits = fast::SHEET_SIDE * book.words.len();
         for size in [0, 3 * book.words.len(), fits - 1, fits, fits + 1] {
@@ -132,8 +133,8 @@ fn on_numbers_worked_out_by_hand() {
 fn on_rounds_with_marks() {
     let mut chance = Chance::new(2);
     let mut next = 0;
-    for _ in 0..3_000 {
-        let book = books::any(&mut chance);
+    for case in 0..3_000 {
+        let book = if case % 3 == 0 { shared::any(&mut chance) } else { books::any(&mut chance) };
         let bytes = book.bytes();
         let Some(accepted) = check(&bytes) else { continue };
         for _ in 0..4 {
@@ -155,7 +156,7 @@ fn on_rounds_with_marks() {
 #[test]
 fn on_least_words() {
     let mut chance = Chance::new(6);
-    let kinds = [books::any, books::few_letters, books::overlapping, books::linked, books::tangled, books::small];
+    let kinds = [books::any, books::few_letters, books::overlapping, books::linked, books::tangled, books::small, shared::any, shared::linked];
     let (mut longer, mut shorter, mut kept) = (0, 0, 0);
     for case in 0..6_000 {
         let book = kinds[case % kinds.len()](&mut chance);

@@ -2,7 +2,7 @@
 
 use std::collections::HashSet;
 
-use crate::Chance;
+use crate::{shared, Chance};
 
 /// The letters and relation words of a book; two words for each relation.
 #[derive(Debug, Clone, PartialEq, Eq)]
@@ -65,9 +65,9 @@ pub fn rule(left: &[u8], right: &[u8]) -> Vec<u8> {
     [&length.to_le_bytes()[..], &[2, 0, left.len() as u8, right.len() as u8], left, right].concat()
 }
 
-/// A book of any kind below: mostly small, many accepted, some refused by 7 or 8.
+/// A book of any kind below, or one whose relations share words: mostly small, many accepted, some refused by 8.
 pub fn any(chance: &mut Chance) -> Book {
-    match chance.below(14) {
+    match chance.below(18) {
         0 => anything(chance),
         1 | 2 => few_letters(chance),
         3 | 4 => random(chance),
@@ -77,7 +77,8 @@ pub fn any(chance: &mut Chance) -> Book {
         9 => overlapping(chance),
         10 => linked(chance),
         11 => of_many_numbers(chance),
-        _ => small(chance),
+        12 | 13 => small(chance),
+        _ => shared::any(chance),
     }
 }
 
@@ -380,7 +381,7 @@ pub fn long_middles(chance: &mut Chance) -> Book {
 }
 
 /// How many books at the limits there are.
-pub const AT_THE_LIMITS: usize = 8;
+pub const AT_THE_LIMITS: usize = 12;
 
 /// Some books at the limits, by number; every one is accepted.
 pub fn at_the_limits(chance: &mut Chance, number: usize) -> Book {
@@ -392,6 +393,10 @@ pub fn at_the_limits(chance: &mut Chance, number: usize) -> Book {
         4 => full_periodic(&[0, 1, 0, 0, 1]),
         5 => most_rounds(),
         6 => long_middles(chance),
-        _ => full_letter_by_letter(),
+        7 => full_letter_by_letter(),
+        8 => shared::quiet_tails(chance),
+        9 => shared::quiet_overlaps(chance),
+        10 => shared::random_family(chance, 64, shared::Shape::Chain),
+        _ => shared::random_family(chance, 20, shared::Shape::Tree),
     }
 }

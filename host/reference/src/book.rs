@@ -1,6 +1,7 @@
-//! Reading a book (document 01, "Book bytes" and "Refusals by number", numbers 1 to 8).
+//! Reading a book (document 01, "Book bytes" and "Refusals by number", numbers 1 to 6 and 8).
 
-use crate::pieces::{cut, first_loose, number, pieces, Cut};
+use crate::families::Words;
+use crate::pieces::{first_loose, number, pieces};
 use crate::{refuse, Refusal, Word};
 
 /// What a book's records say, before any check of its relation words against each other.
@@ -8,8 +9,8 @@ use crate::{refuse, Refusal, Word};
 pub struct Presentation {
     /// the number of letters, A
     pub letters: u8,
-    /// the relation words (document 01: sides), two for each relation, in the order of the book
-    pub words: Vec<Word>,
+    /// the sides, two for each relation, in the order of the book; a word may stand on several
+    pub sides: Vec<Word>,
 }
 
 /// A little-endian field of two bytes.
@@ -23,7 +24,7 @@ pub fn read(bytes: &[u8]) -> Result<Presentation, Refusal> {
         return refuse(1, 0);
     }
     let mut letters = 0;
-    let mut words: Vec<Word> = Vec::new();
+    let mut sides: Vec<Word> = Vec::new();
     let mut at = 0;
     while at < bytes.len() {
         let left = bytes.len() - at;
@@ -36,13 +37,13 @@ pub fn read(bytes: &[u8]) -> Result<Presentation, Refusal> {
         if at == 0 {
             letters = read_head(kind, payload)?;
         } else {
-            let (left_word, right_word) = read_rule(kind, payload, letters, words.len() / 2, at)?;
-            words.push(left_word);
-            words.push(right_word);
+            let (left_word, right_word) = read_rule(kind, payload, letters, sides.len() / 2, at)?;
+            sides.push(left_word);
+            sides.push(right_word);
         }
         at += 4 + length;
     }
-    Ok(Presentation { letters, words })
+    Ok(Presentation { letters, sides })
 }
 
 /// The head, kind 1: one byte A, from 1 to 64.
@@ -92,42 +93,38 @@ pub const SHEET_SIDE: usize = 4;
 pub struct Accepted {
     /// the number of letters, A
     pub letters: u8,
-    /// the relation words, each cut into X, Y, Z
-    pub cuts: Vec<Cut>,
-    /// of each relation word the smallest number of pieces whose product it is, 255 standing for none
+    /// the sides, two for each relation, in the order of the book
+    pub sides: Vec<Word>,
+    /// the distinct words among them, with their families
+    pub words: Words,
+    /// of each side the smallest number of pieces whose product its word is, 255 standing for none
     pub numbers: Vec<u8>,
 }
 
 impl Accepted {
     /// The number of relations (document 01: rules).
     pub fn relations(&self) -> usize {
-        self.cuts.len() / 2
+        self.sides.len() / 2
     }
 
-    /// The relation words, uncut.
-    pub fn words(&self) -> Vec<Word> {
-        self.cuts.iter().map(|cut| cut.xyz().to_vec()).collect()
-    }
-
-    /// The cut sheet: for each relation word in order the lengths of X, Y and Z and its number of pieces.
+    /// The cut sheet: for each side in order the lengths of X, Y and Z and the number of pieces of its word.
     pub fn sheet(&self) -> Vec<u8> {
-        let side = |(cut, &number): (&Cut, &u8)| -> [u8; SHEET_SIDE] { [cut.x().len() as u8, cut.y().len() as u8, cut.z().len() as u8, number] };
-        self.cuts.iter().zip(&self.numbers).flat_map(side).collect()
+        let row = |(side, &number): (&Word, &u8)| -> [u8; SHEET_SIDE] {
+            let cut = self.words.cut_of(side);
+            [cut.x().len() as u8, cut.y().len() as u8, cut.z().len() as u8, number]
+        };
+        self.sides.iter().zip(&self.numbers).flat_map(row).collect()
     }
 }
 
-/// Reads a book and checks it: 1 to 6 record by record, then 7 over the whole book, then 8.
+/// Reads a book and checks it: 1 to 6 record by record, then 8 over the whole book. No book is refused by 7.
 pub fn accept(bytes: &[u8]) -> Result<Accepted, Refusal> {
-    let presentation = read(bytes)?;
-    let words = &presentation.words;
-    if let Some(side) = (0..words.len()).find(|&i| words[..i].contains(&words[i])) {
-        return refuse(7, side);
-    }
-    let pieces = pieces(words);
-    if let Some(side) = first_loose(words, &pieces) {
+    let Presentation { letters, sides } = read(bytes)?;
+    let pieces = pieces(&sides);
+    if let Some(side) = first_loose(&sides, &pieces) {
         return refuse(8, side);
     }
-    let cuts = words.iter().map(|word| cut(word, &pieces)).collect();
-    let numbers = words.iter().map(|word| number(word, &pieces)).collect();
-    Ok(Accepted { letters: presentation.letters, cuts, numbers })
+    let words = Words::new(&sides, &pieces);
+    let numbers = sides.iter().map(|side| number(side, &pieces)).collect();
+    Ok(Accepted { letters, words, numbers, sides })
 }

@@ -22,7 +22,7 @@ pub fn check(book: &[u8]) -> Result<u64, Refusal> {
 /// Writes the lengths of X, Y, Z and the number of pieces of each side in order, one byte each, and gives the number of relations.
 pub fn cut_sheet(book: &[u8], sheet: &mut [u8]) -> Result<u64, Refusal> {
     let accepted = accept(book)?;
-    let size = SHEET_SIDE * accepted.cuts.len();
+    let size = SHEET_SIDE * accepted.sides.len();
     if sheet.len() < size {
         return refuse(12, 0);
     }
@@ -62,7 +62,7 @@ pub fn round_under(book: &Accepted, [u, v, p]: [&[u8]; 3], next: [&mut [u8]; 3])
     if let Some(buffer) = (0..3).find(|&i| next[i].len() < NEXT[i]) {
         return refuse(12, buffer);
     }
-    match rows::round(&book.cuts, u, v, p) {
+    match rows::round(&book.words, u, v, p) {
         Next::Same => Ok(RoundEnd::Same),
         Next::Different => Ok(RoundEnd::Different),
         Next::Go { u, v, p } => {
@@ -91,7 +91,7 @@ pub fn compare(book: &[u8], u: &[u8], v: &[u8], allowance: u32) -> Result<Compar
 pub fn compare_under(book: &Accepted, u: &[u8], v: &[u8], allowance: u32) -> Result<Comparison, Refusal> {
     check_word(u, 0, COMPARED, book.letters)?;
     check_word(v, 1, COMPARED, book.letters)?;
-    match rows::rounds(&book.cuts, u, v, allowance) {
+    match rows::rounds(&book.words, u, v, allowance) {
         Answer::Same(count) => Ok(Comparison::Same(count)),
         Answer::Different(count) => Ok(Comparison::Different(count)),
         Answer::Spent(done) => refuse(11, done as usize),
@@ -112,7 +112,7 @@ pub fn least_under(book: &Accepted, word: &[u8], buffer: &mut [u8], offset: usiz
 /// 9 and 10 of the word, and then its least word; none where a chain reaches more than `most` words.
 pub fn find_least(book: &Accepted, word: &[u8], most: usize) -> Result<Option<Word>, Refusal> {
     check_word(word, 0, COMPARED, book.letters)?;
-    Ok(least_word(&book.words(), word, most))
+    Ok(least_word(&book.sides, word, most))
 }
 
 /// Writes a least word at an offset: 14 where the offset lies past the buffer's end, or the word is longer than what follows the offset.

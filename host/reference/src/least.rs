@@ -19,6 +19,6 @@ pub fn order(a: &[u8], b: &[u8]) -> Ordering {
 }
 
 /// The first in dictionary order of all words that a chain reaches from this one, or none where there are more than `most`.
-pub fn least_word(words: &[Word], from: &[u8], most: usize) -> Option<Word> {
-    reached(words, from, most)?.into_iter().min_by(|a, b| order(a, b))
+pub fn least_word(sides: &[Word], from: &[u8], most: usize) -> Option<Word> {
+    reached(sides, from, most)?.into_iter().min_by(|a, b| order(a, b))
 }

@@ -1,8 +1,9 @@
 //! An independent implementation of document 01, for tests only.
 //!
 //! It is written literally from document 01 and from document 003, section 1: words are vectors, pieces are found by listing every factor of
-//! every relation word, numbers of pieces by trying every start of the last piece, the rows stand in the order and by the words of the paper, chains
-//! are found by breadth-first search, and the least word by looking at every word that a chain reaches.
+//! every distinct relation word, numbers of pieces by trying every start of the last piece, families by breadth-first search over the relations, the rows
+//! stand in the order and by the words of the paper, chains are found by breadth-first search over single exchanges, and the least word by looking at every
+//! word that a chain reaches.
 //! It shares nothing with any other implementation, and is made to be read, not to be fast.
 //!
 //! Document 01's words: a step is a letter, a run a word, a side a relation word, a rule a relation, a book a presentation.
@@ -10,6 +11,7 @@
 pub mod book;
 pub mod chains;
 pub mod entries;
+pub mod families;
 pub mod least;
 pub mod pieces;
 pub mod program;

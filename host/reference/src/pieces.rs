@@ -3,13 +3,15 @@
 
 use std::collections::HashSet;
 
+use crate::families::distinct;
 use crate::Word;
 
 /// The pieces: the words found as factors in two different relation words or in two different places of one, which may overlap; and the empty word.
-pub fn pieces(words: &[Word]) -> HashSet<&[u8]> {
+/// They are counted over distinct words, so that a word on several sides is no piece for that reason.
+pub fn pieces(sides: &[Word]) -> HashSet<&[u8]> {
     let mut once: HashSet<&[u8]> = HashSet::new();
     let mut twice: HashSet<&[u8]> = HashSet::new();
-    for word in words {
+    for word in distinct(sides) {
         for from in 0..word.len() {
             for to in from + 1..=word.len() {
                 // each turn is one place of one relation word
@@ -29,9 +31,9 @@ pub fn is_loose(word: &[u8], pieces: &HashSet<&[u8]>) -> bool {
     (0..=word.len()).any(|a| pieces.contains(&word[..a]) && (a..=word.len()).any(|b| pieces.contains(&word[a..b]) && pieces.contains(&word[b..])))
 }
 
-/// The lowest relation word that is a product of three or fewer pieces.
-pub fn first_loose(words: &[Word], pieces: &HashSet<&[u8]>) -> Option<usize> {
-    (0..words.len()).find(|&i| is_loose(&words[i], pieces))
+/// The lowest side whose word is a product of three or fewer pieces.
+pub fn first_loose(sides: &[Word], pieces: &HashSet<&[u8]>) -> Option<usize> {
+    (0..sides.len()).find(|&i| is_loose(&sides[i], pieces))
 }
 
 /// The number of a word that is no product of pieces.
@@ -53,10 +55,10 @@ pub fn number(word: &[u8], pieces: &HashSet<&[u8]>) -> u8 {
     fewest_pieces(word, pieces).map_or(NO_PRODUCT, |count| u8::try_from(count).expect("a relation word has 64 letters at most"))
 }
 
-/// The numbers of all relation words.
-pub fn numbers(words: &[Word]) -> Vec<u8> {
-    let pieces = pieces(words);
-    words.iter().map(|word| number(word, &pieces)).collect()
+/// The numbers of all sides, each that of its word.
+pub fn numbers(sides: &[Word]) -> Vec<u8> {
+    let pieces = pieces(sides);
+    sides.iter().map(|side| number(side, &pieces)).collect()
 }
 
 /// A relation word cut into X, its longest front that is a piece, Z, its longest end that is a piece, and Y, the rest.
@@ -99,10 +101,10 @@ pub fn cut(word: &[u8], pieces: &HashSet<&[u8]>) -> Cut {
     Cut { word: word.to_vec(), x_length, z_length }
 }
 
-/// The cuts of all relation words.
-pub fn cuts(words: &[Word]) -> Vec<Cut> {
-    let pieces = pieces(words);
-    words.iter().map(|word| cut(word, &pieces)).collect()
+/// The cuts of all sides, each that of its word.
+pub fn cuts(sides: &[Word]) -> Vec<Cut> {
+    let pieces = pieces(sides);
+    sides.iter().map(|side| cut(side, &pieces)).collect()
 }
 
 /// Document 01's k: the length of the longest Z, or 0 where there are no relations.

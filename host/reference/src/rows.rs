@@ -1,5 +1,6 @@
 //! One round and the rounds of two words (document 01, "Exchanges and rounds"; document 003, procedure WP-PREFIX).
 
+use crate::families::Words;
 use crate::pieces::Cut;
 use crate::Word;
 
@@ -35,7 +36,7 @@ pub fn is_clean_front(cuts: &[Cut], cut: &Cut, u: &[u8]) -> bool {
     !(1..cut.y().len()).any(|l| begins_with_some_xy(cuts, &u[cut.x().len() + l..]))
 }
 
-/// The number of the relation word whose XY is a clean front of u.
+/// The number of the distinct word whose XY is a clean front of u.
 pub fn clean_front(cuts: &[Cut], u: &[u8]) -> Option<usize> {
     (0..cuts.len()).find(|&i| is_clean_front(cuts, &cuts[i], u))
 }
@@ -51,46 +52,62 @@ fn common_end(a: &[u8], b: &[u8]) -> usize {
     (0..=a.len().min(b.len())).rev().find(|&l| a[a.len() - l..] == b[b.len() - l..]).expect("the empty word ends both")
 }
 
+/// The number of the member of a family whose XY the word begins with.
+pub fn member_in_front(words: &Words, family: &[usize], word: &[u8]) -> Option<usize> {
+    family.iter().copied().find(|&member| word.starts_with(words.cuts[member].xy()))
+}
+
+/// The member whose tail row 4 goes on with, where u is word i and then s: i itself if s is active for its Z; else the first other member for whose Z s is
+/// active; else the first other member; else, where there is none, i.
+pub fn member_of_next_tail(words: &Words, i: usize, s: &[u8]) -> usize {
+    let active = |member: &usize| is_active(&words.cuts, words.cuts[*member].z(), s);
+    if active(&i) {
+        return i;
+    }
+    let others = words.others(i);
+    others.iter().copied().find(active).or(others.first().copied()).unwrap_or(i)
+}
+
 /// One round: the first row that fits applies.
-pub fn round(cuts: &[Cut], u: &[u8], v: &[u8], p: &[u8]) -> Next {
-    row(cuts, u, v, p).1
+pub fn round(words: &Words, u: &[u8], v: &[u8], p: &[u8]) -> Next {
+    row(words, u, v, p).1
 }
 
 /// The number of the first row that fits, and what the round gives.
-pub fn row(cuts: &[Cut], u: &[u8], v: &[u8], p: &[u8]) -> (usize, Next) {
+pub fn row(words: &Words, u: &[u8], v: &[u8], p: &[u8]) -> (usize, Next) {
+    let cuts = &words.cuts;
     // row 1
     if u.is_empty() || v.is_empty() {
         return (1, if u.is_empty() && v.is_empty() && p.is_empty() { Next::Same } else { Next::Different });
     }
     // row 2
-    let Some(side) = clean_front(cuts, u) else {
+    let Some(i) = clean_front(cuts, u) else {
         if u[0] != v[0] || (!p.is_empty() && p[0] != u[0]) {
             return (2, Next::Different);
         }
         let p = if p.is_empty() { p } else { &p[1..] };
         return (2, Next::Go { u: u[1..].to_vec(), v: v[1..].to_vec(), p: p.to_vec() });
     };
-    // W = XYZ is side 2i or 2i + 1, and its rule's other side, written with a dash in the paper, is the other of these two
-    let this = &cuts[side];
-    let other = &cuts[if side % 2 == 0 { side + 1 } else { side - 1 }];
-    let (xy, xy_) = (this.xy(), other.xy());
+    let family = &words.families[i];
+    // row 3: p is a front of the X of any member, and v begins with the XY of any member
+    if !family.iter().any(|&member| cuts[member].x().starts_with(p)) {
+        return (3, Next::Different);
+    }
+    let Some(j) = member_in_front(words, family, v) else {
+        return (3, Next::Different);
+    };
+    // W = XYZ is word i; X'Y'Z', written with a dash in the paper, is whichever member v begins with, W itself perhaps
+    let (this, other) = (&cuts[i], &cuts[j]);
     let (xyz, xyz_) = (this.xyz(), other.xyz());
     let (z, z_) = (this.z(), other.z());
-    // row 3
-    if !this.x().starts_with(p) && !other.x().starts_with(p) {
-        return (3, Next::Different);
-    }
-    if !v.starts_with(xy) && !v.starts_with(xy_) {
-        return (3, Next::Different);
-    }
     // row 4
-    if let (Some(s), Some(t)) = (after(u, xyz), after(v, xyz).or(after(v, xyz_))) {
-        let tail = if is_active(cuts, z, s) { z } else { z_ };
+    if let (Some(s), Some(t)) = (after(u, xyz), after(v, xyz_)) {
+        let tail = cuts[member_of_next_tail(words, i, s)].z();
         return (4, Next::Go { u: joined(&[tail, s]), v: joined(&[tail, t]), p: Vec::new() });
     }
-    let s = after(u, xy).expect("u begins with its clean front");
+    let s = after(u, this.xy()).expect("u begins with its clean front");
     // row 5
-    if let Some(t) = after(v, xy) {
+    if let Some(t) = after(v, this.xy()) {
         let p = if this.x().starts_with(p) { Vec::new() } else { z.to_vec() };
         return (5, Next::Go { u: s.to_vec(), v: t.to_vec(), p });
     }
@@ -98,7 +115,7 @@ pub fn row(cuts: &[Cut], u: &[u8], v: &[u8], p: &[u8]) -> (usize, Next) {
     if let (false, Some(t)) = (s.starts_with(z), after(v, xyz_)) {
         return (6, Next::Go { u: s.to_vec(), v: joined(&[z, t]), p: Vec::new() });
     }
-    let t = after(v, xy_).expect("row 3 leaves only X'Y'");
+    let t = after(v, other.xy()).expect("v begins with the XY of its member");
     // row 7
     if let (Some(s), false) = (after(u, xyz), t.starts_with(z_)) {
         return (7, Next::Go { u: joined(&[z_, s]), v: t.to_vec(), p: Vec::new() });
@@ -123,13 +140,13 @@ pub enum Answer {
 }
 
 /// A comparison begins with the two words and p empty; a round is counted for each 'go on' and each drop.
-pub fn rounds(cuts: &[Cut], u: &[u8], v: &[u8], allowance: u32) -> Answer {
+pub fn rounds(words: &Words, u: &[u8], v: &[u8], allowance: u32) -> Answer {
     let mut u = u.to_vec();
     let mut v = v.to_vec();
     let mut p = Vec::new();
     let mut done = 0u64;
     loop {
-        match round(cuts, &u, &v, &p) {
+        match round(words, &u, &v, &p) {
             Next::Same => return Answer::Same(done),
             Next::Different => return Answer::Different(done),
             Next::Go { .. } if done == allowance as u64 => return Answer::Spent(done),

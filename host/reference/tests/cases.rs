@@ -1,10 +1,11 @@
-//! The bench cases of document 01, the presentations of document 000, section 1, each refusal number, the cut sheet with its numbers of pieces, and chains
-//! and least words on small cases.
+//! The bench cases of document 01, the presentations of document 000, section 1, each refusal number, the cut sheet with its numbers of pieces, relations
+//! that share a word, and chains and least words on small cases.
 //! The answers are worked out from the papers.
 
 use std::cmp::Ordering::{Equal, Greater, Less};
 
 use reference::chains::{exchanges, reached};
+use reference::families::{distinct, families, Words};
 use reference::least::{order, rank};
 use reference::pieces::{cuts, is_loose, longest_tail, numbers, pieces};
 use reference::{check, compare, cut_sheet, least, program, round, Comparison, Refusal, RoundEnd, SHEET_SIDE};
@@ -66,7 +67,8 @@ fn books_of_the_bench() {
     assert_eq!(check(&book(4, &[("aa", "b")])), refused(8, 0));
     assert_eq!(check(&book(4, &[("a", "b")])), Ok(1));
     assert_eq!(sheet(&book(4, &[("a", "b")])), [0, 1, 0, 255, 0, 1, 0, 255]);
-    assert_eq!(check(&book(4, &[("ab", "ab")])), refused(7, 1));
+    assert_eq!(check(&book(4, &[("ab", "ab")])), Ok(1));
+    assert_eq!(sheet(&book(4, &[("ab", "ab")])), [0, 2, 0, 255, 0, 2, 0, 255]);
     assert_eq!(check(&book(4, &[("abdc", "acbd")])), refused(8, 0));
     assert_eq!(check(&q()), Ok(1));
     assert_eq!(sheet(&q()), [1, 2, 1, 4, 1, 2, 1, 4]);
@@ -130,8 +132,11 @@ fn presentations_of_document_000() {
     assert_eq!(pieces(&second).len(), 4);
     assert_eq!(check(&book(3, &[("acba", "aabc")])), Ok(1));
     assert_eq!(sheet(&book(3, &[("acba", "aabc")])), [1, 2, 1, 4, 1, 2, 1, 4]);
-    // the one with a shared run is refused by 7
-    assert_eq!(check(&book(4, &[("acba", "aabc"), ("acba", "dbbbd")])), refused(7, 2));
+    // the one with a shared run: the pieces are the empty word, the letters and bb, and dbbbd is d bb b d
+    let shared = [("acba", "aabc"), ("acba", "dbbbd")];
+    assert_eq!(pieces(&words(&shared)).len(), 6);
+    assert_eq!(check(&book(4, &shared)), Ok(2));
+    assert_eq!(sheet(&book(4, &shared)), [1, 2, 1, 4, 1, 2, 1, 4, 1, 2, 1, 4, 1, 3, 1, 4]);
     // aabc = aabd: the pieces are the empty word, a, b, aa, ab and aab, and no relation word is a product of pieces
     let last = words(&[("aabc", "aabd")]);
     assert_eq!(pieces(&last).len(), 6);
@@ -176,10 +181,9 @@ fn records_are_refused_in_the_order_of_the_paper() {
     assert_eq!(then(&[9, 0, 2, 0, 1]), refused(1, place));
     assert_eq!(then(&[0, 0, 7, 0]), refused(2, place));
     assert_eq!(then(&[0, 0, 2, 0]), refused(6, place));
-    // sides x, y, y, x: side 2
-    assert_eq!(check(&book(4, &[("a", "b"), ("b", "a")])), refused(7, 2));
-    // 7 over the whole book comes before 8
-    assert_eq!(check(&book(4, &[("a", "aa"), ("b", "b")])), refused(7, 3));
+    // sides x, y, y, x: a word may stand on several sides, and 7 is no number of a refusal any more
+    assert_eq!(check(&book(4, &[("a", "b"), ("b", "a")])), Ok(2));
+    assert_eq!(check(&book(4, &[("a", "aa"), ("b", "b")])), refused(8, 0));
 }
 
 fn single(bytes: &[u8], u: &[u8], v: &[u8], p: &[u8], sizes: [usize; 3]) -> (Result<RoundEnd, Refusal>, [Vec<u8>; 3]) {
@@ -223,7 +227,7 @@ type Rules = &'static [(&'static str, &'static str)];
 type Rows = &'static [[u8; SHEET_SIDE]];
 
 /// Books, by their number of letters and their rules, with their sheets, worked out by hand.
-const SHEETS: [(u8, Rules, Rows); 10] = [
+const SHEETS: [(u8, Rules, Rows); 16] = [
     (4, &[], &[]),
     // no piece but the empty one
     (2, &[("a", "b")], &[[0, 1, 0, 255], [0, 1, 0, 255]]),
@@ -241,6 +245,17 @@ const SHEETS: [(u8, Rules, Rows); 10] = [
     (5, &[("bcaaade", "edcb")], &[[1, 5, 1, 6], [1, 2, 1, 4]]),
     // letter by letter, as in Q
     (6, &[("abdc", "cadbe"), ("eacfde", "fbcedaf")], &[[1, 2, 1, 4], [1, 3, 1, 5], [1, 4, 1, 6], [1, 5, 1, 7]]),
+    // a word on two sides is no piece for that reason, whether the sides are of one rule or of two
+    (2, &[("ab", "ab")], &[[0, 2, 0, 255], [0, 2, 0, 255]]),
+    (5, &[("abc", "d"), ("e", "abc")], &[[0, 3, 0, 255], [0, 1, 0, 255], [0, 1, 0, 255], [0, 3, 0, 255]]),
+    // a is a piece, at three places of two words
+    (5, &[("ad", "c"), ("c", "aea")], &[[1, 1, 0, 255], [0, 1, 0, 255], [0, 1, 0, 255], [1, 1, 1, 255]]),
+    // c is a piece, at two places of one word
+    (4, &[("d", "d"), ("cac", "d")], &[[0, 1, 0, 255], [0, 1, 0, 255], [1, 1, 1, 255], [0, 1, 0, 255]]),
+    // a is a piece, at three places of two words
+    (4, &[("ada", "ca")], &[[1, 1, 1, 255], [0, 1, 1, 255]]),
+    // letter by letter, as in Q, and Q turned round
+    (4, &[("abdc", "cadb"), ("cadb", "abdc"), ("bcda", "abdc")], &[[1, 2, 1, 4]; 6]),
 ];
 
 #[test]
@@ -272,12 +287,12 @@ fn the_sheet_takes_four_bytes_a_side() {
     }
     // the refusals of the book come before that of the buffer
     assert_eq!(cut_sheet(&[], &mut []), refused(1, 0));
-    assert_eq!(cut_sheet(&book(4, &[("ab", "ab")]), &mut []), refused(7, 1));
+    assert_eq!(cut_sheet(&book(4, &[("ab", "ab")]), &mut []), refused(12, 0));
     assert_eq!(cut_sheet(&book(4, &[("a", "aa")]), &mut []), refused(8, 0));
 }
 
 /// Books with the number of each side, worked out by hand, and the lowest side whose number is below 4.
-const REFUSED: [(Rules, &[u8], u64); 13] = [
+const REFUSED: [(Rules, &[u8], u64); 19] = [
     (&[("a", "aa")], &[1, 2], 0),
     (&[("aa", "b")], &[2, 255], 0),
     // a bd c, and a c bd
@@ -296,6 +311,16 @@ const REFUSED: [(Rules, &[u8], u64); 13] = [
     (&[("abdc", "cadb"), ("eaf", "ba")], &[4, 4, 255, 2], 3),
     // ab is a piece by the second rule: ab d c
     (&[("abdc", "cadb"), ("abe", "f")], &[3, 4, 255, 255], 0),
+    // a word at fault on several sides: the lowest of them
+    (&[("aa", "aa")], &[2, 2], 0),
+    (&[("b", "aa"), ("aa", "c")], &[255, 2, 2, 255], 1),
+    // behind sides that are repeated: side 2 is the second word, and side 5 the fourth
+    (&[("b", "b"), ("aa", "b"), ("cc", "aa")], &[255, 255, 2, 255, 2, 2], 2),
+    (&[("b", "c"), ("c", "b"), ("d", "aa"), ("aa", "b")], &[255, 255, 255, 255, 255, 2, 2, 255], 5),
+    // a is a piece of aa, and b of no other word
+    (&[("b", "b"), ("b", "a"), ("a", "aa")], &[255, 255, 255, 1, 1, 2], 3),
+    // Q twice over, and bcd, which is b c d
+    (&[("abdc", "cadb"), ("cadb", "abdc"), ("abdc", "bcd")], &[4, 4, 4, 4, 4, 3], 5),
 ];
 
 #[test]
@@ -349,14 +374,142 @@ fn chains_of_small_cases() {
     assert!(class.contains(&word("abdabdc")));
 }
 
+#[test]
+fn words_and_families() {
+    let [chain, star, ring] = [
+        words(&[("a", "b"), ("b", "c"), ("c", "d")]),
+        words(&[("d", "a"), ("b", "d"), ("d", "c")]),
+        words(&[("c", "a"), ("a", "b"), ("b", "d"), ("d", "c")]),
+    ];
+    assert_eq!(distinct(&chain), [&word("a"), &word("b"), &word("c"), &word("d")]);
+    assert_eq!(distinct(&star), [&word("d"), &word("a"), &word("b"), &word("c")]);
+    assert_eq!(distinct(&ring), [&word("c"), &word("a"), &word("b"), &word("d")]);
+    for sides in [chain, star, ring] {
+        assert_eq!(families(&sides), vec![vec![0, 1, 2, 3]; 4]);
+    }
+    // two families, one of which is joined by the last rule; a rule with equal sides joins nothing
+    assert_eq!(
+        families(&words(&[("a", "b"), ("c", "d"), ("e", "e"), ("f", "b")])),
+        [vec![0, 1, 5], vec![0, 1, 5], vec![2, 3], vec![2, 3], vec![4], vec![0, 1, 5]]
+    );
+    assert_eq!(families(&words(&[("a", "b"), ("c", "d"), ("d", "a")])), vec![vec![0, 1, 2, 3]; 4]);
+    assert_eq!(families(&[]), Vec::<Vec<usize>>::new());
+}
+
+/// Books with relations that share a word, and comparisons under them, worked out by hand: round by round where a row says more than for a pair.
+#[test]
+fn comparisons_where_a_word_is_shared() {
+    let answer = |rules: &[(&str, &str)], u: &str, v: &str| compare(&book(5, rules), &word(u), &word(v), u32::MAX).expect("accepted");
+    // ab = ab: the only word is ab, and its Z is empty. Row 4, no other member: the next words are empty
+    let alone = [("ab", "ab")];
+    assert_eq!(answer(&alone, "ab", "ab"), Same(1));
+    assert_eq!(answer(&alone, "abab", "abab"), Same(2));
+    assert_eq!(answer(&alone, "ba", "ba"), Same(2));
+    assert_eq!(answer(&alone, "ab", "ba"), Different(0));
+    // ad = c, c = aea. cea, cd: row 4 on c, s = ea, t = d. s is not active for the empty Z of c nor for that of ad, the first other member, but for that of aea,
+    // since a ea begins with ae: go on with aea, ad. Row 4 on aea and ad, s and t empty, and nothing active: the Z of ad is empty. Both reach aec
+    let later = [("ad", "c"), ("c", "aea")];
+    assert_eq!(answer(&later, "cea", "cd"), Same(2));
+    // row 6: s = c does not begin with a, and v is c d: go on with c, ad. Row 4, nothing active: the Z of ad
+    assert_eq!(answer(&later, "aec", "cd"), Same(2));
+    // the other way round d is active for a too: ad, aea, and then the Z of c, the first member other than ad, which is empty
+    assert_eq!(answer(&later, "cd", "cea"), Same(2));
+    // s = e is active for a: ae, ad. Row 6: s is empty and does not begin with a, and v is ad: go on with the empty word and a
+    assert_eq!(answer(&later, "ce", "cd"), Different(2));
+    // d = d, cac = d. d, d: row 4, nothing active; the first other member is cac, not the second side with d: go on with c, c, which are dropped
+    let equal = [("d", "d"), ("cac", "d")];
+    assert_eq!(answer(&equal, "d", "d"), Same(2));
+    assert_eq!(answer(&equal, "d", "cac"), Same(2));
+    // from cac the first other member is d, whose Z is empty
+    assert_eq!(answer(&equal, "cac", "d"), Same(1));
+    // ada = ca. adca, cca: row 8, Z and Z' are a, s = t = ca, p = a. Then u = v = ca: p is no prefix of the empty X of ca, but of that of ada. Row 4: a, a; dropped
+    assert_eq!(answer(&[("ada", "ca")], "adca", "cca"), Same(3));
+    // ada = ca, ca = e. ade, ce: row 8 as before, then u = v = e, p = a, a prefix of the X of ada alone, with which neither begins. Row 4: the Z of ada, a; dropped
+    let third = [("ada", "ca"), ("ca", "e")];
+    assert_eq!(answer(&third, "ade", "ce"), Same(3));
+    assert_eq!(answer(&third, "ce", "ade"), Same(3));
+    // c = e, d = c. e and d are joined by two rules; every Z is empty
+    let closed = [("c", "e"), ("d", "c")];
+    assert_eq!(answer(&closed, "e", "d"), Same(1));
+    assert_eq!(answer(&closed, "ecd", "dde"), Same(3));
+    assert_eq!(answer(&closed, "aed", "acb"), Different(2));
+    assert_eq!(answer(&closed, "e", "a"), Different(0));
+}
+
+/// Three ways of rinsing that may replace each other, abdc, cadb and bcda, written down in several ways.
+/// The X are a, c, b and the Z c, b, a: what follows one of them can be active for another, and no Z is empty.
+const RINSING: [Rules; 6] = [
+    &[("abdc", "cadb"), ("cadb", "bcda")],
+    &[("abdc", "cadb"), ("bcda", "abdc")],
+    &[("abdc", "cadb"), ("cadb", "bcda"), ("bcda", "abdc")],
+    &[("abdc", "cadb"), ("abdc", "cadb"), ("cadb", "bcda"), ("bcda", "cadb")],
+    &[("abdc", "abdc"), ("abdc", "cadb"), ("cadb", "bcda")],
+    &[("abdc", "cadb"), ("cadb", "cadb"), ("bcda", "cadb"), ("bcda", "bcda")],
+];
+
+#[test]
+fn three_ways_of_rinsing() {
+    let cases = [
+        // row 4, nothing active: the Z of cadb, b, is put and dropped
+        ("abdc", "bcda", Same(2)),
+        ("abdc", "abdc", Same(2)),
+        // the first member other than cadb, and than bcda, is abdc, whose Z is c
+        ("cadb", "bcda", Same(2)),
+        ("bcda", "cadb", Same(2)),
+        // s = bdc is not active for c or b, but for a: go on with abdc, abdc, and then as above
+        ("abdcbdc", "cadbbdc", Same(3)),
+        ("abdcbdc", "bcdabdc", Same(3)),
+        // row 7: t = cadb does not begin with a; go on with abdc, cadb
+        ("abdcbdc", "bcdcadb", Same(3)),
+        // row 6, the other way round: go on with cadb, abdc
+        ("bcdcadb", "abdcbdc", Same(3)),
+        // s = ad is active for c: cad, cad, which is row 5 with cad on both sides
+        ("abdcad", "bcdaad", Same(2)),
+        // no member in front of v
+        ("abdc", "acdb", Different(0)),
+        // row 8: no two Z have an end in common
+        ("abda", "cada", Different(0)),
+    ];
+    for rules in RINSING {
+        let bytes = book(4, rules);
+        assert_eq!(sheet(&bytes), [1, 2, 1, 4].repeat(2 * rules.len()), "{rules:?}");
+        assert_eq!(families(&words(rules)), vec![vec![0, 1, 2]; 3], "{rules:?}");
+        for (u, v, answer) in cases {
+            assert_eq!(compare(&bytes, &word(u), &word(v), u32::MAX), Ok(answer), "{u} {v} {rules:?}");
+        }
+        // all of them are one class, whose least word has abdc
+        for text in ["abdc", "cadb", "bcda"] {
+            assert_eq!(least_of(&bytes, &word(text)), word("abdc"), "{rules:?}");
+        }
+        // abdc bdc, cadb bdc, bcda bdc = bcd abdc, bcd cadb = bcdc adb, bcd bcda
+        for text in ["abdcbdc", "cadbbdc", "bcdabdc", "bcdcadb", "bcdbcda"] {
+            assert_eq!(least_of(&bytes, &word(text)), word("abdcbdc"), "{rules:?}");
+        }
+    }
+    // as a pair alone s = bdc is not active: b bdc is put, and its four letters are dropped
+    assert_eq!(compare(&q(), &word("abdcbdc"), &word("cadbbdc"), u32::MAX), Ok(Same(5)));
+}
+
 /// Breadth-first search and the rounds agree on all words of up to six letters, and the count keeps to (k + 2) times the first word's length.
 #[test]
 fn the_rounds_agree_with_the_chains() {
-    for rules in [&[("abdc", "cadb")][..], &[("acba", "aabc")], &[("a", "b")], &[("aabc", "aabd")]] {
+    for rules in [
+        &[("abdc", "cadb")][..],
+        &[("acba", "aabc")],
+        &[("a", "b")],
+        &[("aabc", "aabd")],
+        &[("ab", "ab")],
+        &[("abdc", "cadb"), ("cadb", "bcda")],
+        &[("ad", "c"), ("c", "aea")],
+        &[("d", "d"), ("cac", "d")],
+        &[("ada", "ca")],
+        &[("ada", "ca"), ("ca", "e")],
+        &[("c", "e"), ("d", "c")],
+    ] {
         let sides = words(rules);
         let letters = 1 + *sides.iter().flatten().max().expect("some letter");
         let bytes = book(letters, rules);
-        let cuts = cuts(&sides);
+        let (cuts, words) = (cuts(&sides), Words::of(&sides));
         let bound = longest_tail(&cuts) as u64 + 2;
         let mut all: Vec<Vec<u8>> = vec![vec![]];
         let mut from = 0;
@@ -373,7 +526,7 @@ fn the_rounds_agree_with_the_chains() {
         for u in &all {
             let class = reached(&sides, u, 10_000).expect("few");
             for v in class.iter().chain(all.iter().filter(|v| v.len() == u.len()).step_by(17)) {
-                match reference::rows::rounds(&cuts, u, v, u32::MAX) {
+                match reference::rows::rounds(&words, u, v, u32::MAX) {
                     reference::rows::Answer::Same(count) => {
                         assert!(class.contains(v), "{u:?} {v:?}");
                         assert!(count <= bound * u.len() as u64);

@@ -1,10 +1,13 @@
 //! The number of pieces of every side of many small books: what it is by trying every way to cut the side, and that it is below 4 just where the side is
 //! a product of three or fewer pieces.
 
+use std::collections::BTreeSet;
+
 use reference::pieces::{first_loose, is_loose, numbers, pieces};
 
-/// The factor is a piece: it stands at two places of the relation words, or it is empty.
-fn is_piece(words: &[Vec<u8>], factor: &[u8]) -> bool {
+/// The factor is a piece: it stands at two places of the relation words, each of which counts once on however many sides it stands, or it is empty.
+fn is_piece(sides: &[Vec<u8>], factor: &[u8]) -> bool {
+    let words: BTreeSet<&Vec<u8>> = sides.iter().collect();
     factor.is_empty() || words.iter().map(|word| word.windows(factor.len()).filter(|part| *part == factor).count()).sum::<usize>() > 1
 }
 

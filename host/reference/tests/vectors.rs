@@ -57,7 +57,7 @@ fn recorded_inputs_of_the_program() {
 fn executed_answer(line: &str) -> Option<String> {
     let (word, fields) = line.split_once(' ').expect("a word and its fields");
     Some(match word {
-        "read" => book::read(&bytes(fields)).map_or_else(refused, |read| format!("read {} {}", read.letters, read.words.len() / 2)),
+        "read" => book::read(&bytes(fields)).map_or_else(refused, |read| format!("read {} {}", read.letters, read.sides.len() / 2)),
         "check" => check(&bytes(fields)).map_or_else(refused, |relations| format!("accepted {relations}")),
         _ => {
             let call = call(line);

@@ -1,5 +1,5 @@
-//! The recorded calls of the entries (`entries.txt`, and `least.txt` of least words), the recorded inputs and outputs of the program (`program/`) and the
-//! executed cases of the proved part (`crates/cases`), as tests read them.
+//! The recorded calls of the entries (`entries.txt`; `least.txt` of least words; `shared.txt` under books whose relations share words), the recorded inputs and
+//! outputs of the program (`program/`) and the executed cases of the proved part (`crates/cases`), as tests read them.
 //! Their answers are written down, so no implementation has a part in this crate.
 
 use std::fs;
@@ -43,7 +43,7 @@ pub struct Run {
 
 /// All recorded calls.
 pub fn calls() -> Vec<Recorded> {
-    [calls_of("entries.txt", 381), calls_of("least.txt", 148)].into_iter().flatten().collect()
+    [calls_of("entries.txt", 381), calls_of("least.txt", 148), calls_of("shared.txt", 178)].into_iter().flatten().collect()
 }
 
 /// The recorded calls of a file that has so many.
