@@ -21,7 +21,7 @@ use Rattle.layout.specs.Places.{countCell, textRoom, tableRoom}
 use Rattle.layout.specs.Layout.{wordsIn}
 use Rattle.layout.specs.Families.{sideWordOf, countOf, familyBy}
 use Rattle.layout.proofs.Placed.{words-length}
-use Rattle.layout.proofs.Links.{side-cell}
+use Rattle.layout.proofs.Cells.{side-at}
 use Rattle.refusals.specs.declared.Refusal.{Refusal}
 use Rattle.refusals.specs.declared.Refusal.the-variants.{Narrow}
 use Rattle.format.specs.declared.Reading.{Reading}
@@ -108,7 +108,7 @@ module _ (book : List ℕ) (reading : Reading) (text table : List ℕ) (d : Book
         let n = length-words (k .presentation .relations) in
         let l : s < length sides = omega (arith, n, k .many, h) in
         let d = distinct-right sides .all s l .0 in
-        let e : sideWordOf table s ≡ wordOfSide sides s = sym (side-cell table (2 * count) s h) ∙ ap (λ (S : List ℕ). getD S s 0) (k .sides) in
+        let e : sideWordOf table s ≡ wordOfSide sides s = sym (side-at table (2 * count) s h) ∙ ap (λ (S : List ℕ). getD S s 0) (k .sides) in
         let c = ap length (k .words) in
         omega (arith, d, e, c, words-length text table (countOf table))
 

@@ -7,15 +7,13 @@ use native.Mathlib.Omega.{arith}
 use borrow.Author.Needs.{needs}
 use lib.ListN.{length, drop}
 use Rattle.words.specs.Words.{Word, isPrefix, part}
-use Rattle.congruence.specs.Rows.{hasRelationPrefixBetween}
-use Rattle.layout.specs.Layout.{Span, Checked}
+use Rattle.layout.specs.Layout.{Span}
 use Rattle.changes.specs.declared.Change.{Change}
 use Rattle.changes.specs.declared.Plan.the-variants.{Go}
 use Rattle.sites.specs.declared.Site.{Site}
-use Rattle.sites.specs.Sites.{SitesInText}
-use Rattle.changes.specs.Asked.{CheckedSites, TailHas}
-use Rattle.changes.specs.Changes.{cutBy, tailBy, keptTail, wholeCut, putBoth, markAfter, plan6, plan7, restAt, plan8}
-use Rattle.sites.proofs.Laws.{tail-after, stop-after}
+use Rattle.changes.specs.Asked.{TailHas}
+use Rattle.changes.specs.Changes.{cutBy, tailBy, putBoth, markAfter, plan6, plan7, restAt, plan8}
+use Rattle.sites.proofs.Laws.{tail-after}
 
 -- changes by their numbers
 pub cut-made : (m : ℕ) → record { from = 0; to = 0; cut = m } ≡ cutBy m
@@ -56,52 +54,6 @@ pub sum-far : (a l b : ℕ) → a + l ≤ b → a ≤ b - l
 sum-far a l b h = omega arith
 
 pub ruleset mades = (made4, made6, made7, made8, sum-low, sum-far, tail-after, needs)
-
--- row 4
-module _ (text table : List ℕ) (n : ℕ) (s t : Site) (h : CheckedSites text table n s t) where
-  pub checked-of-sites : Checked text table n
-  checked-of-sites = h .checked
-
-  pub sites-of-checked : SitesInText text s t
-  sites-of-checked = h .sites
-
-  pub tail-of-sites : s .start ≤ s .tail
-  tail-of-sites = tail-after text s (h .sites .own)
-
-  pub stop-of-sites : s .start ≤ s .stop
-  stop-of-sites = stop-after text s (h .sites .own)
-
-module _ (B : List Word) (s t : Site) (u : Word) (x : Bool) (e : x ≡ hasRelationPrefixBetween B u (s .tail - s .start) (s .stop - s .start)) where
-  pub kept-own : x ≡ true → s ≡ keptTail B s t u
-  unfolding keptTail
-  kept-own h = rw (← e, h)
-
-  pub kept-other : x ≡ false → t ≡ keptTail B s t u
-  unfolding keptTail
-  kept-other h = rw (← e, h)
-
-pub ruleset keptTails = (checked-of-sites, tail-of-sites, stop-of-sites, kept-own, kept-other, needs)
-
-module _ (text : List ℕ) (s t : Site) (h : SitesInText text s t) where
-  pub sites-whole : Span text (s .start) (s .stop)
-  sites-whole = record { upwards = stop-after text s (h .own); inside = h .own .inside }
-
-  pub sites-stop : s .start ≤ s .stop
-  sites-stop = stop-after text s (h .own)
-
-  pub sites-stop′ : t .start ≤ t .stop
-  sites-stop′ = stop-after text t (h .other)
-
-  module _ (v : Word) (x : Bool) (e : x ≡ isPrefix (part text (s .start) (s .stop)) v) where
-    pub whole-own : x ≡ true → s .stop - s .start ≡ wholeCut text s t v
-    unfolding wholeCut
-    whole-own q = rw (← e, q)
-
-    pub whole-other : x ≡ false → t .stop - t .start ≡ wholeCut text s t v
-    unfolding wholeCut
-    whole-other q = rw (← e, q)
-
-pub ruleset wholes = (sites-whole, sites-stop, sites-stop′, whole-own, whole-other, needs)
 
 -- row 5
 module _ (text : List ℕ) (s : Site) (p : Word) (x : Bool) (e : x ≡ isPrefix p (part text (s .start) (s .middle))) (c : Change) where

@@ -3,9 +3,8 @@ use Prim.Native.Nat.{ℕ, _+_, _-_, _≤_, _<_}
 use mathlib.Core.List.{List}
 use mathlib.Core.Path.{_≡_}
 use lib.ListN.{length, getD}
-use Rattle.layout.specs.Layout.{Checked}
 use Rattle.sites.specs.declared.Site.{Site}
-use Rattle.sites.specs.Sites.{SiteInText, SitesInText}
+use Rattle.sites.specs.Sites.{SiteInText}
 
 -- `room` letters lie before x and before y
 pub record BackRoom (text : List ℕ) (x y room : ℕ) : Type 0 where
@@ -19,11 +18,6 @@ pub record AgreeBack (text : List ℕ) (x y room l : ℕ) : Type 0 where
   pub within : l ≤ room
   pub at : (k : ℕ) → k < l → getD text (x - 1 - k) 0 ≡ getD text (y - 1 - k) 0
   pub apart : l < room → getD text (x - 1 - l) 0 ≡ getD text (y - 1 - l) 0 → ⊥
-
--- the two words of a relation of a checked presentation
-pub record CheckedSites (text table : List ℕ) (n : ℕ) (s t : Site) : Type 0 where
-  pub checked : Checked text table n
-  pub sites : SitesInText text s t
 
 -- the positions of two sites go up
 pub record SitesUpwards (s t : Site) : Type 0 where

@@ -1,10 +1,9 @@
--- What plans are made of, by the sites of the clean relation prefix of u and of the other word of its relation: changes, plans by positions alone, and the choices of tails and cuts.
+-- What plans are made of, by the sites of the clean relation prefix of u and of the member of its family that v begins with: changes, plans by positions alone, and the rests of tails.
 use Prim.Native.Nat.{ℕ, _-_}
 use mathlib.Core.Bool.{Bool, cond}
 use mathlib.Core.List.{List}
 use lib.ListN.{length, drop}
 use Rattle.words.specs.Words.{Word, isPrefix, commonSuffix, part}
-use Rattle.congruence.specs.Rows.{hasRelationPrefixBetween}
 use Rattle.sites.specs.declared.Site.{Site}
 use Rattle.changes.specs.declared.Change.{Change}
 use Rattle.changes.specs.declared.Plan.{Plan}
@@ -17,14 +16,6 @@ cutBy n = record { from = 0; to = 0; cut = n }
 -- a change that puts the Z of the relation word at s in the place of n letters
 unfoldable pub tailBy : Site → ℕ → Change
 tailBy s n = record { from = s .tail; to = s .stop; cut = n }
-
--- row 4's tail: the one at s where the rest of u is active for it, else the one at t
-unfoldable pub keptTail : List Word → Site → Site → Word → Site
-keptTail B s t u = cond (hasRelationPrefixBetween B u (s .tail - s .start) (s .stop - s .start)) s t
-
--- the letters that row 4 cuts from v
-unfoldable pub wholeCut : List ℕ → Site → Site → Word → ℕ
-wholeCut text s t v = cond (isPrefix (part text (s .start) (s .stop)) v) (s .stop - s .start) (t .stop - t .start)
 
 -- the tail at z takes the place of m letters of u and of l letters of v, and the mark loses k letters
 unfoldable pub putBoth : ℕ → Site → ℕ → ℕ → Plan

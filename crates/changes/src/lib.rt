@@ -1,12 +1,11 @@
-// What plans are made of: the changes of one word, the plans that two sites give by their positions alone, and what is read to choose tails and cuts.
+// What plans are made of: the changes of one word, the plans that two sites give by their positions alone, and what is read to cut equal ends.
 // A word is two slices, a head part and what follows it.
 
 ghost use mathlib.Core.Path.{_≡_};
 ghost use mathlib.Core.List.{_++_};
-ghost use Rattle.layout.specs.Layout.{wordsIn};
 ghost use Rattle.sites.specs.Sites.{SiteInText, SitesInText};
-ghost use Rattle.changes.specs.Asked.{BackRoom, AgreeBack, CheckedSites, SitesUpwards, TailHas, SitesHave};
-ghost use Rattle.changes.specs.Changes.{cutBy, tailBy, keptTail, wholeCut, putBoth, markAfter, plan6, plan7, sharedSuffix, restAt, plan8};
+ghost use Rattle.changes.specs.Asked.{BackRoom, AgreeBack, SitesUpwards, TailHas, SitesHave};
+ghost use Rattle.changes.specs.Changes.{cutBy, tailBy, putBoth, markAfter, plan6, plan7, sharedSuffix, restAt, plan8};
 use numbers::smaller;
 use sites::Site;
 
@@ -43,36 +42,6 @@ fn put_tail(s: Site, n: usize) -> Change
         to: s.stop,
         cut: n,
     }
-}
-
-// The tail that row 4 puts back: of the relation word at s where the rest of u is active for it, else of the one at t.
-pub fn kept_tail(
-    text: &[u16],
-    table: &[u16],
-    n: usize,
-    s: Site,
-    t: Site,
-    a: &[u16],
-    b: &[u16],
-) -> Site
-    requires { ⌜ CheckedSites (now text) (now table) n s t ⌝ }
-    ensures { λ r. ⌜ r ≡ keptTail (wordsIn (now (text .entry)) (now (table .entry)) n) s t (now (a .entry) ++ now (b .entry)) ⌝ }
-{
-    if sites::has_prefix_between(text, table, n, a, b, s.tail - s.start, s.stop - s.start) {
-        return s;
-    }
-    t
-}
-
-// The letters that row 4 cuts from v.
-pub fn whole_cut(text: &[u16], s: Site, t: Site, a: &[u16], b: &[u16]) -> usize
-    requires { ⌜ SitesInText (now text) s t ⌝ }
-    ensures { λ r. ⌜ r ≡ wholeCut (now (text .entry)) s t (now (a .entry) ++ now (b .entry)) ⌝ }
-{
-    if joined::begins(text, s.start, s.stop, a, b, 0) {
-        return s.stop - s.start;
-    }
-    t.stop - t.start
 }
 
 // The tail at z takes the place of m letters of u and of l letters of v.

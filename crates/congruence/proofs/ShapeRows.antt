@@ -106,7 +106,7 @@ module _ (B : List Word) (c : Facts B) where
         (tail-drop B (zOf B i) (length e) (tail-of-z B i hi)) (inr (refl, refl)))) (λ h. ends)
 
   -- the member whose tail row 4 goes on with is one of the relation words
-  tail-member-there : (family : ℕ → ℕ) (i : ℕ) (s : Word) → i < length B → tailMember B family i s < length B
+  pub tail-member-there : (family : ℕ → ℕ) (i : ℕ) (s : Word) → i < length B → tailMember B family i s < length B
   unfolding tailMember
   tail-member-there family i s h =
       by-choose (λ m. m < length B) (active B (zOf B i) s) _ _ (λ e. h) (λ e.

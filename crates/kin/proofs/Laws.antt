@@ -18,7 +18,7 @@ use Rattle.overlap.specs.Cuts.{xOf, zOf}
 use Rattle.congruence.specs.Rows.{hasRelationPrefixBetween, active, marked, markedByAny}
 use Rattle.layout.specs.Places.{endCell, familyCell, nextCell}
 use Rattle.layout.specs.Layout.{wordsIn, Checked}
-use Rattle.layout.specs.Families.{familyAt, familyBy, nextOf, Linked, Grouped, GroupedWord}
+use Rattle.layout.specs.Families.{familyAt, familyBy, nextOf, GroupedWord}
 use Rattle.layout.proofs.Placed.{words-length, start-bound}
 use Rattle.layout.proofs.Links.{kinTest, Along, along-start, along-next, along-some, along-none}
 use Rattle.sites.specs.declared.Site.{Site}

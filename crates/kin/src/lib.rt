@@ -2,12 +2,13 @@
 // Members are met in rising order, by the links of the table.
 ghost use mathlib.Core.Path.{_≡_};
 ghost use lib.ListN.{drop};
+ghost use Rattle.words.specs.Search.{least};
 ghost use Rattle.words.specs.Words.{isPrefix};
 ghost use Rattle.overlap.specs.Cuts.{xOf, zOf};
-ghost use Rattle.congruence.specs.Rows.{active, markedByAny, firstOther, firstActive, tailMember};
+ghost use Rattle.congruence.specs.Rows.{active, markedByAny, isOther, firstActive, tailMember};
 ghost use Rattle.layout.specs.Layout.{wordsIn};
 ghost use Rattle.layout.specs.Families.{familyBy, GroupedWord};
-ghost use Rattle.kin.specs.Asked.{RestAsked};
+ghost use Rattle.kin.specs.Asked.{LinkedWord, RestAsked, twoAtMost, activeOther};
 
 // Whether p is a prefix of the X of relation word j.
 fn mark_in_word(text: &[u16], table: &[u16], n: usize, j: usize, p: &[u16]) -> bool
@@ -52,4 +53,81 @@ pub fn active_behind(text: &[u16], table: &[u16], n: usize, given: &[u16], j: us
         0,
         to - from,
     )
+}
+
+// The first other member of relation word i's family, or n: the lowest member, which is the family's number, or the next one where i is the lowest itself.
+fn first_other(table: &[u16], n: usize, i: usize) -> usize
+    requires { ⌜ LinkedWord (now table) n i ⌝ }
+    ensures { λ r. ⌜ r ≡ least n (isOther (familyBy (now (table .entry)) n) i) ⌝ }
+{
+    let low = layout::family_of(table, i);
+    if low != i {
+        return low;
+    }
+    let next = layout::next_of(table, i);
+    if next < n {
+        return next;
+    }
+    n
+}
+
+// Whether relation word i's family has two members or i alone.
+fn two_at_most(table: &[u16], n: usize, i: usize) -> bool
+    requires { ⌜ LinkedWord (now table) n i ⌝ }
+    ensures { λ r. ⌜ r ≡ twoAtMost (now (table .entry)) n i ⌝ }
+{
+    let second = layout::next_of(table, layout::family_of(table, i));
+    if n <= second {
+        return true;
+    }
+    n <= layout::next_of(table, second)
+}
+
+// Whether relation word j is not i and the given word from place k on is active for its Z.
+fn active_other(text: &[u16], table: &[u16], n: usize, given: &[u16], i: usize, j: usize, k: usize) -> bool
+    requires { ⌜ RestAsked (now text) (now table) n (now given) j k ⌝ }
+    ensures { λ r. ⌜ r ≡ activeOther (wordsIn (now (text .entry)) (now (table .entry)) n) i (drop k (now (given .entry))) j ⌝ }
+{
+    if j == i {
+        return false;
+    }
+    active_behind(text, table, n, given, j, k)
+}
+
+// The first other member of relation word i's family for whose Z the given word from place k on is active, or n.
+fn first_active(text: &[u16], table: &[u16], n: usize, given: &[u16], i: usize, k: usize) -> usize
+    requires { ⌜ RestAsked (now text) (now table) n (now given) i k ⌝ }
+    ensures { λ r. ⌜ r ≡ firstActive (wordsIn (now (text .entry)) (now (table .entry)) n) (familyBy (now (table .entry)) n) i (drop k (now (given .entry))) ⌝ }
+{
+    let mut j = layout::family_of(table, i);
+    while j < n {
+        if active_other(text, table, n, given, i, j, k) {
+            return j;
+        }
+        j = layout::next_of(table, j);
+    }
+    n
+}
+
+// The member of relation word i's family whose Z row 4 goes on with, where the given word from place k on is the rest of u. Where only one other member is there,
+// it is that one, whether the rest is active for it or not.
+pub fn tail_member(text: &[u16], table: &[u16], n: usize, given: &[u16], i: usize, k: usize) -> usize
+    requires { ⌜ RestAsked (now text) (now table) n (now given) i k ⌝ }
+    ensures { λ r. ⌜ r ≡ tailMember (wordsIn (now (text .entry)) (now (table .entry)) n) (familyBy (now (table .entry)) n) i (drop k (now (given .entry))) ⌝ }
+{
+    if active_behind(text, table, n, given, i, k) {
+        return i;
+    }
+    let other = first_other(table, n, i);
+    if n <= other {
+        return i;
+    }
+    if two_at_most(table, n, i) {
+        return other;
+    }
+    let first = first_active(text, table, n, given, i, k);
+    if first < n {
+        return first;
+    }
+    other
 }

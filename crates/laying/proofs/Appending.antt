@@ -80,6 +80,11 @@ module _ (i end : ℕ) (table : List ℕ) (h : startCell (i + 1) < length table)
   tabled-next =
       getD-set-same (set table (endCell i) end) (startCell (i + 1)) (end + 1) 0 (simp length-set (omega arith))
 
+  pub tabled-beyond : (q : ℕ) → startCell (i + 1) < q → getD (tabled i end table) q 0 ≡ getD table q 0
+  tabled-beyond q l =
+      getD-set-other (set table (endCell i) end) (startCell (i + 1)) q (end + 1) 0 (λ e. omega arith)
+      ∙ getD-set-other table (endCell i) q end 0 (λ e. omega arith)
+
   pub tabled-length : length (tabled i end table) ≡ length table
   tabled-length = simp length-set
 
@@ -170,6 +175,7 @@ module _ (word text table : List ℕ) (i : ℕ) (r : WordRoom word text table i)
       record {
         laid = laid-appended;
         words = words-appended;
+        beyond = λ k h. tabled-beyond i end table inside k (omega (arith, r .more));
         textLong = written-length start (fenced word (fenceOf i)) text (fenced-room word (fenceOf i) start text fits);
         tableLong = tabled-length i end table inside;
       }

@@ -1,2 +1,4 @@
 pub mod Appending
+pub mod Finding
+pub mod Sides
 pub mod Relations

@@ -7,26 +7,25 @@ use native.Mathlib.Nat.{mul-le-mul}
 use borrow.Author.Needs.{needs}
 use lib.ListN.{length, length-append}
 use Rattle.words.specs.Words.{Word}
-use Rattle.words.proofs.Relations.{Even, relations-of}
-use Rattle.overlap.specs.Pieces.{empty, C4}
 use Rattle.overlap.specs.Cuts.{len}
 use Rattle.overlap.proofs.Facts.{rigid-of-c4}
-use Rattle.congruence.specs.Congruence.{Congruent}
-use Rattle.congruence.specs.Congruence.Congruent.{done}
+use Rattle.congruence.proofs.Chains.{Chain}
+use Rattle.congruence.proofs.Chains.Chain.{stop}
 use Rattle.congruence.proofs.ShapeNoPrefix.{no-prefix-nil}
 use Rattle.writing.specs.Writing.{written}
 use Rattle.writing.proofs.Writing.{written-zero, written-behind}
 use Rattle.limits.specs.Limits.{sideMost, leastMost}
 use Rattle.layout.specs.Layout.{wordsIn}
+use Rattle.layout.specs.Families.{familyBy}
 use Rattle.layout.proofs.Placed.{words-length, word-length}
 use Rattle.least.specs.Order.{houseRank}
-use Rattle.least.specs.Possible.{relationOf}
 use Rattle.least.specs.Writing.{writePart, Found, found, absent, behind, Parts, wordOf, leastBehind}
 use Rattle.least.specs.Writing.Part.{end, none, part as writes}
 use Rattle.least.specs.Writing.Parts.{ended, failed, goes}
 use Rattle.least.specs.Theorem.{longestOf, longestWord, Written}
 use Rattle.least.proofs.Order.{house-injective}
-use Rattle.least.proofs.Theorem.{rounds-write-least}
+use Rattle.least.proofs.Marks.{marking-nothing}
+use Rattle.least.proofs.Theorem.{families-write-least}
 use Rattle.moves.specs.State.{placedWord, placedMark}
 use Rattle.parts.specs.declared.LeastState.{LeastState}
 use Rattle.parts.specs.declared.Hint.the-variants as Hints
@@ -37,21 +36,21 @@ use Rattle.parts.specs.State.{sourceWord, LeastFits, LeastReady, weight, StageS
 use Rattle.leastword.specs.Writing.{leastFor, Asked, Puttable, Put, PutWhole}
 
 -- what is left of the rounds after one of them
-module _ (B : List Word) where
+module _ (B : List Word) (fam : ℕ → ℕ) where
   abbrev pub Left : Word → Word → ℕ → Found → Type 0
-  Left = Parts B relationOf houseRank
+  Left = Parts B fam houseRank
 
-  made-end : {p u : Word} {n : ℕ} {r : Found} → Left p u n r → writePart B relationOf houseRank p u ≡ end → r ≡ found []
+  made-end : {p u : Word} {n : ℕ} {r : Found} → Left p u n r → writePart B fam houseRank p u ≡ end → r ≡ found []
   made-end (ended e) f = refl
   made-end (failed e) f = let g : none ≡ end = sym e ∙ f in let z : _≡_ {A = ℕ} 0 1 = cc in absurd (omega arith)
   made-end (goes {c = c} {p′ = p} {u′ = u} e m) f = let g : writes c p u ≡ end = sym e ∙ f in let z : _≡_ {A = ℕ} 0 1 = cc in absurd (omega arith)
 
-  made-none : {p u : Word} {n : ℕ} {r : Found} → Left p u n r → writePart B relationOf houseRank p u ≡ none → r ≡ absent
+  made-none : {p u : Word} {n : ℕ} {r : Found} → Left p u n r → writePart B fam houseRank p u ≡ none → r ≡ absent
   made-none (ended e) f = let g : end ≡ none = sym e ∙ f in let z : _≡_ {A = ℕ} 0 1 = cc in absurd (omega arith)
   made-none (failed e) f = refl
   made-none (goes {c = c} {p′ = p} {u′ = u} e m) f = let g : writes c p u ≡ none = sym e ∙ f in let z : _≡_ {A = ℕ} 0 1 = cc in absurd (omega arith)
 
-  made-part : {p u : Word} {n : ℕ} {r : Found} → Left p u n r → (c p′ u′ : Word) → writePart B relationOf houseRank p u ≡ writes c p′ u′
+  made-part : {p u : Word} {n : ℕ} {r : Found} → Left p u n r → (c p′ u′ : Word) → writePart B fam houseRank p u ≡ writes c p′ u′
       → (m : ℕ) × (s : Found) × Left p′ u′ m s × (r ≡ behind c s)
   made-part (ended e) c p′ u′ f = let g : end ≡ writes c p′ u′ = sym e ∙ f in let z : _≡_ {A = ℕ} 0 1 = cc in absurd (omega arith)
   made-part (failed e) c p′ u′ f = let g : none ≡ writes c p′ u′ = sym e ∙ f in let z : _≡_ {A = ℕ} 0 1 = cc in absurd (omega arith)
@@ -79,34 +78,28 @@ longest-bound B most zero h = omega arith
 longest-bound B most (suc n) h = omega (arith, longest-bound B most n (λ i l. h i (omega arith)), h n (omega arith))
 
 -- what the rounds give for u from the empty mark
-abbrev Told : List Word → Word → Type 0
-Told B u = Written B relationOf houseRank (Congruent B) [] u
-
--- the theorem on the rounds, of relation words that come in twos
-told-of : (B : List Word) → Even B → C4 B → (u : Word) → Told B u
-told-of B e c u =
-    let r = relations-of B e in
-    subst (λ (C : List Word). Told C u) (r .1) (rounds-write-least (r .0) (subst C4 (sym (r .1)) c) houseRank house-injective [] u (empty refl))
+abbrev Told : List Word → (ℕ → ℕ) → Word → Type 0
+Told B fam u = Written B fam houseRank (Chain B fam) [] u
 
 -- the rounds from the empty mark end with the least word: there is one, since a word is congruent to itself
-rounds-found : (B : List Word) (u : Word) (w : Told B u) → w .result ≡ found (leastFor B u)
+rounds-found : (B : List Word) (fam : ℕ → ℕ) (u : Word) (w : Told B fam u) → w .result ≡ found (leastFor B fam u)
 unfolding leastFor
-rounds-found B u w = go (w .result) refl
+rounds-found B fam u w = go (w .result) refl
   where
-    go : (r : Found) → w .result ≡ r → w .result ≡ found (leastFor B u)
-    go (found x) e = let f : wordOf (leastBehind B relationOf houseRank [] u) ≡ x = rw (w .computed ∙ e) in e ∙ ap found (sym f)
-    go absent e = absurd (w .missing .0 e u done)
+    go : (r : Found) → w .result ≡ r → w .result ≡ found (leastFor B fam u)
+    go (found x) e = let f : wordOf (leastBehind B fam houseRank [] u) ≡ x = rw (w .computed ∙ e) in e ∙ ap found (sym f)
+    go absent e = absurd (w .missing .0 e u stop)
 
 -- so many letters are written of the least word, which the rounds from s go on with
 pub record Going (text table : List ℕ) (n : ℕ) (given : Word) (d : List ℕ) (s : LeastState) (b : List ℕ) (at : ℕ) : Type 0 where
   pub asked : Asked text table n given
-  pub standing : LeastFits text (wordsIn text table n) given s
+  pub standing : LeastFits text (wordsIn text table n) (familyBy table n) given s
   pub word : Word
   pub left : ℕ
   pub rest : Found
-  pub parts : Left (wordsIn text table n) (placedMark text (s .mark)) (placedWord text given (s .word)) left rest
-  pub whole : behind word rest ≡ found (leastFor (wordsIn text table n) given)
-  pub few : length (leastFor (wordsIn text table n) given) ≤ leastMost
+  pub parts : Left (wordsIn text table n) (familyBy table n) (placedMark text (s .mark)) (placedWord text given (s .word)) left rest
+  pub whole : behind word rest ≡ found (leastFor (wordsIn text table n) (familyBy table n) given)
+  pub few : length (leastFor (wordsIn text table n) (familyBy table n) given) ≤ leastMost
   pub counted : at ≡ length word
   pub long : length b ≡ length d
   pub same : length word ≤ length d → b ≡ written 0 word d
@@ -116,25 +109,25 @@ abbrev startState : LeastState
 startState = record { word = record { at = 0; to = 0; from = 0 }; mark = record { at = 0; to = 0 }; hint = Hints.Unknown }
 
 module _ (text table : List ℕ) (n : ℕ) (given : Word) (a : Asked text table n given) where
-  told : Told (wordsIn text table n) given
+  told : Told (wordsIn text table n) (familyBy table n) given
   told =
-      let p = a .ready .paired in
-      told-of (wordsIn text table n) (rw (words-length text table n) (p .even)) (p .checked .accepted) given
+      let R = rigid-of-c4 (wordsIn text table n) (a .ready .grouped .checked .accepted) in
+      families-write-least R (familyBy table n) houseRank house-injective [] given (marking-nothing R)
 
-  least-short : length (leastFor (wordsIn text table n) given) ≤ leastMost
+  least-short : length (leastFor (wordsIn text table n) (familyBy table n) given) ≤ leastMost
   least-short =
       let B = wordsIn text table n in
-      let l = a .ready .paired .checked .laid in
+      let l = a .ready .grouped .checked .laid in
       let m = words-length text table n in
       let s = longest-bound B sideMost (length B) (λ i h. omega (arith, word-length text table n l i (omega arith), l .short i (omega arith))) in
       let k : longestWord B ≤ sideMost = omega arith in
-      omega (arith, told .short (leastFor B given) (rounds-found B given told), mul-le-mul k (a .short))
+      omega (arith, told .short (leastFor B (familyBy table n) given) (rounds-found B (familyBy table n) given told), mul-le-mul k (a .short))
 
   pub going-start : (d : List ℕ) → Going text table n given d startState d 0
   going-start d =
       let B = wordsIn text table n in
-      let f = rounds-found B given told in
-      let q = no-prefix-nil B (rigid-of-c4 B (a .ready .paired .checked .accepted)) in
+      let f = rounds-found B (familyBy table n) given told in
+      let q = no-prefix-nil B (rigid-of-c4 B (a .ready .grouped .checked .accepted)) in
       record {
         asked = a;
         standing = record {
@@ -145,8 +138,8 @@ module _ (text table : List ℕ) (n : ℕ) (given : Word) (a : Asked text table 
         };
         word = [];
         left = told .rounds;
-        rest = found (leastFor B given);
-        parts = subst (λ (r : Found). Left B [] given (told .rounds) r) f (told .made);
+        rest = found (leastFor B (familyBy table n) given);
+        parts = subst (λ (r : Found). Left B (familyBy table n) [] given (told .rounds) r) f (told .made);
         whole = refl;
         few = least-short;
         counted = refl;
@@ -159,34 +152,34 @@ module _ (text table : List ℕ) (n : ℕ) (given : Word) (d : List ℕ) (s : Le
   going-ready = record { ready = g .asked .ready; short = omega (arith, g .asked .short); standing = g .standing }
 
   module _ (r : Stage) (f : PartMade text table n given s r) where
-    pub going-end : r ≡ Stages.End → PutWhole (leastFor (wordsIn text table n) given) d b at
+    pub going-end : r ≡ Stages.End → PutWhole (leastFor (wordsIn text table n) (familyBy table n) given) d b at
     going-end e =
-        let q = made-end (wordsIn text table n) (g .parts) (sym (rw e at (f .same))) in
-        let w : found (g .word ++ []) ≡ found (leastFor (wordsIn text table n) given) = rw q at (g .whole) in
-        let v : g .word ++ [] ≡ leastFor (wordsIn text table n) given = cc in
-        let x : g .word ≡ leastFor (wordsIn text table n) given = sym (append-nil (g .word)) ∙ v in
+        let q = made-end (wordsIn text table n) (familyBy table n) (g .parts) (sym (rw e at (f .same))) in
+        let w : found (g .word ++ []) ≡ found (leastFor (wordsIn text table n) (familyBy table n) given) = rw q at (g .whole) in
+        let v : g .word ++ [] ≡ leastFor (wordsIn text table n) (familyBy table n) given = cc in
+        let x : g .word ≡ leastFor (wordsIn text table n) (familyBy table n) given = sym (append-nil (g .word)) ∙ v in
         record { counted = g .counted ∙ ap length x; long = g .long; same = λ h. rw (← x) (g .same (omega (arith, ap length x)) ∙ written-zero (g .word) d) }
 
-    pub going-none : r ≡ Stages.None → PutWhole (leastFor (wordsIn text table n) given) d b at
+    pub going-none : r ≡ Stages.None → PutWhole (leastFor (wordsIn text table n) (familyBy table n) given) d b at
     going-none e =
-        let q = made-none (wordsIn text table n) (g .parts) (sym (rw e at (f .same))) in
-        let w : absent ≡ found (leastFor (wordsIn text table n) given) = rw q at (g .whole) in
+        let q = made-none (wordsIn text table n) (familyBy table n) (g .parts) (sym (rw e at (f .same))) in
+        let w : absent ≡ found (leastFor (wordsIn text table n) (familyBy table n) given) = rw q at (g .whole) in
         let z : _≡_ {A = ℕ} 0 1 = cc in
         absurd (omega arith)
 
     module _ (c : Source) (t : LeastState) (e : r ≡ Stages.Go c t) where
-      goes-on : Goes text (wordsIn text table n) given s c t
-      goes-on = subst (StageStands text (wordsIn text table n) given s) e (f .stands)
+      goes-on : Goes text (wordsIn text table n) (familyBy table n) given s c t
+      goes-on = subst (StageStands text (wordsIn text table n) (familyBy table n) given s) e (f .stands)
 
-      next : (m : ℕ) × (x : Found) × Left (wordsIn text table n) (placedMark text (t .mark)) (placedWord text given (t .word)) m x × (g .rest ≡ behind (sourceWord text given c) x)
-      next = made-part (wordsIn text table n) (g .parts) (sourceWord text given c) (placedMark text (t .mark)) (placedWord text given (t .word)) (sym (rw e at (f .same)))
+      next : (m : ℕ) × (x : Found) × Left (wordsIn text table n) (familyBy table n) (placedMark text (t .mark)) (placedWord text given (t .word)) m x × (g .rest ≡ behind (sourceWord text given c) x)
+      next = made-part (wordsIn text table n) (familyBy table n) (g .parts) (sourceWord text given c) (placedMark text (t .mark)) (placedWord text given (t .word)) (sym (rw e at (f .same)))
 
-      next-whole : behind (g .word ++ sourceWord text given c) (next .1) ≡ found (leastFor (wordsIn text table n) given)
+      next-whole : behind (g .word ++ sourceWord text given c) (next .1) ≡ found (leastFor (wordsIn text table n) (familyBy table n) given)
       next-whole = sym (behind-both (g .word) (sourceWord text given c) (next .1)) ∙ ap (behind (g .word)) (sym (next .3)) ∙ g .whole
 
       pub going-puttable : Puttable text given c at
       going-puttable =
-          let l = behind-short (g .word) (g .rest) (leastFor (wordsIn text table n) given) (g .whole) in
+          let l = behind-short (g .word) (g .rest) (leastFor (wordsIn text table n) (familyBy table n) given) (g .whole) in
           record { fits = goes-on .source; low = g .asked .low; few = omega (arith, g .few, g .counted) }
 
       pub going-lighter : weight given (t .word) < weight given (s .word)

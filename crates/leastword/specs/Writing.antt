@@ -7,15 +7,14 @@ use Rattle.words.specs.Words.{Word}
 use Rattle.writing.specs.Writing.{written, over, Bytes}
 use Rattle.limits.specs.Limits.{sideMost, comparedMost, leastMost}
 use Rattle.least.specs.Order.{houseRank}
-use Rattle.least.specs.Possible.{relationOf}
 use Rattle.least.specs.Writing.{wordOf, leastBehind}
 use Rattle.moves.specs.State.{Ready}
 use Rattle.parts.specs.declared.Source.{Source}
 use Rattle.parts.specs.State.{LettersLow, SourceFits}
 
--- the least congruent word of u under relation words B, letters by the house table: what the rounds write from the empty mark
-unfoldable pub leastFor : List Word → Word → Word
-leastFor B u = wordOf (leastBehind B relationOf houseRank [] u)
+-- the least congruent word of u under relation words B in families, letters by the house table: what the rounds write from the empty mark
+unfoldable pub leastFor : List Word → (ℕ → ℕ) → Word → Word
+leastFor B family u = wordOf (leastBehind B family houseRank [] u)
 
 -- a word of which the least word can be asked: within the limit, of letters that a head can have, under a checked presentation
 pub record Asked (text table : List ℕ) (n : ℕ) (given : Word) : Type 0 where

@@ -2,6 +2,7 @@
 ghost use mathlib.Core.Path.{_≡_};
 ghost use lib.ListN.{length};
 ghost use Rattle.layout.specs.Layout.{wordsIn};
+ghost use Rattle.layout.specs.Families.{familyBy};
 ghost use Rattle.parts.specs.State.{sourceWord};
 ghost use Rattle.leastword.specs.Writing.{leastFor, Asked, Puttable, Put, LettersPuttable, PutWhole};
 use moves::Mark;
@@ -41,7 +42,7 @@ fn put_part(text: &[u16], given: &[u16], source: Source, out: &mut [u8], at: usi
 // congruent to itself, so that the rounds never find that there is none.
 pub fn write_least(text: &[u16], table: &[u16], n: usize, given: &[u16], out: &mut [u8]) -> usize
     requires { ⌜ Asked (now text) (now table) n (now given) ⌝ }
-    ensures { λ r. ⌜ PutWhole (leastFor (wordsIn (now (text .entry)) (now (table .entry)) n) (now (given .entry))) (now (out .entry)) (now (out .exit)) r ⌝ }
+    ensures { λ r. ⌜ PutWhole (leastFor (wordsIn (now (text .entry)) (now (table .entry)) n) (familyBy (now (table .entry)) n) (now (given .entry))) (now (out .entry)) (now (out .exit)) r ⌝ }
 {
     let mut s = LeastState {
         word: PlacedWord {
@@ -69,7 +70,7 @@ pub fn write_least(text: &[u16], table: &[u16], n: usize, given: &[u16], out: &m
 // How many letters the least word has: the counting pass, which has no room to write.
 pub fn count_least(text: &[u16], table: &[u16], n: usize, given: &[u16]) -> usize
     requires { ⌜ Asked (now text) (now table) n (now given) ⌝ }
-    ensures { λ r. ⌜ r ≡ length (leastFor (wordsIn (now (text .entry)) (now (table .entry)) n) (now (given .entry))) ⌝ }
+    ensures { λ r. ⌜ r ≡ length (leastFor (wordsIn (now (text .entry)) (now (table .entry)) n) (familyBy (now (table .entry)) n) (now (given .entry))) ⌝ }
 {
     let mut none = [0u8; 0];
     write_least(text, table, n, given, &mut none)

@@ -1,51 +1,46 @@
 -- A law for each way that looking for the clean relation prefix, the carrier and the chosen member can go.
-use Prim.Native.Nat.{ℕ, _+_, _-_, _*_, _%_, _≤_, _<_}
-use mathlib.Core.Bool.{Bool, true, false}
-use mathlib.Core.Logic.{by-cases, ⊎-elim}
+use Prim.Native.Nat.{ℕ, _+_, _-_, _≤_, _<_}
+use mathlib.Core.Bool.{Bool, true, false, and-eq-true-iff}
+use mathlib.Core.Logic.{by-cases}
 use mathlib.Core.List.{List, _++_}
 use mathlib.Core.Path.{_≡_, refl, sym, ap, _∙_, subst}
 use native.Mathlib.Omega.{arith}
 use native.Mathlib.Decide.{decLt}
 use borrow.Author.Needs.{needs}
-use borrow.Author.Tests.{lt-ltb, le-ltb, eq-eqb, ne-eqb}
+use borrow.Author.Tests.{lt-ltb, le-ltb, ltb-true, eq-eqb, ne-eqb}
 use mir.Syntax.{w64}
 use mir.Val.{Fits}
 use lib.Dec.{eqb, ltb}
 use lib.ListN.{length, getD, take, drop, length-drop}
 use lib.Seq.{drop-drop}
 use Rattle.words.specs.Words.{Word, isPrefix, part}
-use Rattle.words.specs.Relations.{other}
+use Rattle.words.proofs.Picks.{and-right}
 use Rattle.words.proofs.Parts.{part-length}
 use Rattle.words.proofs.Prefixes.{prefix-length}
 use Rattle.words.proofs.Searching.{any-of, any-none}
 use Rattle.overlap.specs.Cuts.{zOf}
 use Rattle.overlap.proofs.Facts.{rigid-of-c4}
-use Rattle.congruence.specs.Rows.{cleanRelationPrefix, hasRelationPrefixBetween, active}
+use Rattle.congruence.specs.Rows.{cleanRelationPrefix, active, markedByAny}
 use Rattle.congruence.proofs.Drops.{no-clean-prefix}
-use Rattle.least.specs.Possible.{relationOf}
 use Rattle.least.specs.Writing.{carrier, cleanBefore}
-use Rattle.layout.specs.Places.{tableRoom}
+use Rattle.layout.specs.Places.{tableRoom, familyCell, nextCell}
 use Rattle.layout.specs.Layout.{Span, wordsIn, Checked}
-use Rattle.layout.proofs.Placed.{words-length, start-bound}
-use Rattle.sites.specs.declared.Site.{Site}
-use Rattle.sites.specs.Sites.{siteOf}
-use Rattle.sites.specs.Prefixes.{markInEitherX}
+use Rattle.layout.specs.Families.{familyAt, familyBy, nextOf}
+use Rattle.layout.proofs.Placed.{words-length}
+use Rattle.layout.proofs.Links.{Along, along-start, along-next, along-first, along-no-first}
 use Rattle.sites.specs.FirstLetters.{emptyList}
-use Rattle.sites.proofs.Sites.{Lies}
 use Rattle.sites.proofs.FirstLetters.{begins-none}
+use Rattle.kin.specs.Asked.{RestAsked}
+use Rattle.kin.proofs.Laws.{grouped-family-room, grouped-next-room, grouped-other, rest-lent}
 use Rattle.moves.specs.declared.PlacedWord.{PlacedWord}
 use Rattle.moves.specs.declared.Mark.{Mark}
 use Rattle.moves.specs.State.{placedWord, placedMark}
 use Rattle.moves.specs.Drops.{HasLetter}
-use Rattle.moves.proofs.Laws.{rest-lent}
 use Rattle.walks.specs.Walks.{PlacesAsked, FirstClean}
-use Rattle.rows.specs.Pairs.{PairedWord}
-use Rattle.rows.proofs.Laws.{paired-few, paired-room, other-room, sites-read}
-use Rattle.walks.proofs.Pairs.{pair-even, pair-own, pair-marked}
-use Rattle.members.specs.Members.{quiet, applies}
-use Rattle.members.specs.Asked.{WordAsked, MarkAsked, RestAsked, IdleAsked, QuietAsked}
+use Rattle.members.specs.Members.{applies, activeApart, otherCarrier, carriesFirst, quiet}
+use Rattle.members.specs.Asked.{WordAsked, MarkAsked, IdleAsked, QuietAsked}
+use Rattle.members.proofs.Members.{carrier-own, carrier-alone, carrier-other}
 use Rattle.members.proofs.Laws.{mark-word, mark-up, mark-inside}
-use Rattle.members.proofs.Members.{carrier-own, carrier-other}
 
 -- the clean relation prefix of a held word
 module _ (text table : List ℕ) (n : ℕ) (given : Word) (h : PlacedWord) (a : WordAsked text table n given h) where
@@ -79,87 +74,113 @@ word-clean text table n given h r e = rw (rest-lent given (h .from)) at e
 
 pub ruleset wordsClean = (word-letter, word-table, word-checked, word-up, word-inside, word-within, word-none, word-clean, needs)
 
--- a rest that is active
-module _ (text table : List ℕ) (n : ℕ) (given : Word) (j k : ℕ) (a : RestAsked text table n given j k) where
-  pub rest-word : PairedWord text table n j
-  rest-word = a .word
+-- a word apart from i and j that is active
+module _ (text table : List ℕ) (n : ℕ) (given : Word) (i j c k : ℕ) where
+  pub apart-own : c ≡ i → false ≡ activeApart (wordsIn text table n) i j (drop k given) c
+  unfolding activeApart
+  apart-own e = rw (eq-eqb c i e)
 
-  pub rest-checked : Checked text table n
-  rest-checked = a .word .paired .checked
+  module _ (d : c ≡ i → ⊥) where
+    pub apart-idle : c ≡ j → false ≡ activeApart (wordsIn text table n) i j (drop k given) c
+    unfolding activeApart
+    apart-idle e = rw (ne-eqb c i d, eq-eqb c j e)
 
-  pub rest-within : k ≤ length given
-  rest-within = a .within
+    pub apart-told : (c ≡ j → ⊥) → (x : Bool) → x ≡ active (wordsIn text table n) (zOf (wordsIn text table n) c) (drop k given) → x ≡ activeApart (wordsIn text table n) i j (drop k given) c
+    unfolding activeApart
+    apart-told g x e = rw (ne-eqb c i d, ne-eqb c j g) e
 
-  module _ (s : Site) (e : s ≡ siteOf table j) where
-    rest-lies : Lies text (wordsIn text table n) j s
-    rest-lies = pair-own text table n j (a .word) s e
+pub ruleset aparts = (apart-own, apart-idle, apart-told, needs)
 
-    pub rest-up : s .tail ≤ s .stop
-    rest-up = rest-lies .third
+-- what the loop along the members of i's family knows at c: no member before it, other than i and j, is active
+abbrev pub Idle : List ℕ → List ℕ → ℕ → Word → ℕ → ℕ → ℕ → ℕ → Type 0
+Idle text table n given i j k c = Along table n i (activeApart (wordsIn text table n) i j (drop k given)) c
 
-    pub rest-inside : s .stop ≤ length text
-    rest-inside = rest-lies .inside
+module _ (text table : List ℕ) (n : ℕ) (given : Word) (i j k : ℕ) (a : RestAsked text table n given i k) where
+  test : ℕ → Bool
+  test = activeApart (wordsIn text table n) i j (drop k given)
 
-    pub rest-fits : Fits w64 (s .tail * 2)
-    unfolding siteOf
-    rest-fits =
-        let l = a .word .paired .checked .laid in
-        let b = start-bound text table n l j (let t = a .word .there in omega (arith, t)) in
-        let f = l .few in
-        let r = rest-lies in
-        let d = ap (λ (t : Site). t .start) e in
-        let t = a .word .there in
-        omega (arith, b, f, t, d, r .third, r .short)
+  pub rest-family-room : familyCell i < length table
+  rest-family-room = grouped-family-room text table n i (a .word)
 
-    pub rest-active : (r : Bool) → r ≡ hasRelationPrefixBetween (wordsIn text table n) (part text (s .tail) (s .stop) ++ take (length given - k) (drop k given)) 0 (s .stop - s .tail)
-        → r ≡ active (wordsIn text table n) (zOf (wordsIn text table n) j) (drop k given)
-    unfolding active
-    rest-active r f =
-        let l = part-length text (s .tail) (s .stop) rest-inside in
-        rw (rest-lies .z, l) (rw (rest-lent given k) at f)
+  pub rest-other : (c : ℕ) → c < n → RestAsked text table n given c k
+  rest-other c l = record { word = grouped-other text table n i (a .word) c l; within = a .within }
 
-pub ruleset actives = (rest-word, paired-room, rest-checked, rest-within, rest-up, rest-inside, rest-fits, rest-active, needs)
+  pub rest-next-room : (c : ℕ) → c < n → nextCell c < length table
+  rest-next-room c l = grouped-next-room text table n c (grouped-other text table n i (a .word) c l)
+
+  pub idle-start : (f : ℕ) → f ≡ familyAt table i → Idle text table n given i j k f
+  unfolding test
+  idle-start f e = subst (Idle text table n given i j k) (sym e) (along-start table n (a .word .grouped .linked) i (a .word .there) test)
+
+  module _ (c : ℕ) (u : Idle text table n given i j k c) where
+    module _ (l : c < n) (x : Bool) (e : x ≡ activeApart (wordsIn text table n) i j (drop k given) c) where
+      pub idle-found : x ≡ true → c ≡ otherCarrier (wordsIn text table n) (familyBy table n) i j (drop k given)
+      unfolding otherCarrier test
+      idle-found t = sym (rw (words-length text table n) (along-first table n (a .word .grouped .linked) i (a .word .there) test c l u (sym e ∙ t)))
+
+      pub idle-next : x ≡ false → (m : ℕ) → m ≡ nextOf table c → Idle text table n given i j k m
+      unfolding test
+      idle-next t m f = subst (Idle text table n given i j k) (sym f) (along-next table n (a .word .grouped .linked) i (a .word .there) test c l u (sym e ∙ t))
+
+    pub idle-none : n ≤ c → n ≡ otherCarrier (wordsIn text table n) (familyBy table n) i j (drop k given)
+    unfolding otherCarrier test
+    idle-none l = sym (rw (words-length text table n) (along-no-first table n (a .word .grouped .linked) i (a .word .there) test c l u))
+
+    pub idle-later : c < n → (m : ℕ) → m ≡ nextOf table c → n - m < n - c
+    idle-later l m e = let b = a .word .grouped .linked .later c l in omega (arith, b, e, l)
+
+pub ruleset otherCarriers = (rest-family-room, rest-other, rest-next-room, idle-start, idle-found, idle-next, idle-none, idle-later, needs)
+
+-- whether i carries before c
+module _ (text table : List ℕ) (n : ℕ) (given : Word) (i j k : ℕ) (a : IdleAsked text table n given i j k) where
+  pub idle-rest : RestAsked text table n given i k
+  idle-rest = a .rest
+
+  pub carries-behind : (c : ℕ) → c ≤ i → false ≡ carriesFirst (wordsIn text table n) i (drop k given) c
+  unfolding carriesFirst
+  carries-behind c l = rw (le-ltb i c l)
+
+  module _ (c : ℕ) (l : i < c) where
+    pub carries-idle : j ≡ i → false ≡ carriesFirst (wordsIn text table n) i (drop k given) c
+    unfolding carriesFirst
+    carries-idle e =
+        sym (and-right (ltb i c) (active (wordsIn text table n) (zOf (wordsIn text table n) i) (drop k given))
+        (subst (λ (m : ℕ). active (wordsIn text table n) (zOf (wordsIn text table n) m) (drop k given) ≡ false) e (a .idle _ refl)))
+
+    pub carries-told : (x : Bool) → x ≡ active (wordsIn text table n) (zOf (wordsIn text table n) i) (drop k given) → x ≡ carriesFirst (wordsIn text table n) i (drop k given) c
+    unfolding carriesFirst
+    carries-told x e = rw (lt-ltb i c l) e
+
+pub ruleset carriesFirsts = (idle-rest, carries-behind, carries-idle, carries-told, needs)
 
 -- the carrier
-module _ (text table : List ℕ) (n : ℕ) (given : Word) (i j k : ℕ) (a : IdleAsked text table n given i j k) where
-  even : length (wordsIn text table n) % 2 ≡ 0
-  even = pair-even text table n i (a .rest .word)
-
+module _ (text table : List ℕ) (n : ℕ) (given : Word) (i j k : ℕ) (a : IdleAsked text table n given i j k)
+    (c : ℕ) (e : c ≡ otherCarrier (wordsIn text table n) (familyBy table n) i j (drop k given)) where
   there : i < length (wordsIn text table n)
   there = rw (words-length text table n) (a .rest .word .there)
 
-  pub idle-own : j ≡ i → IdleAsked text table n given i i k
-  idle-own d = subst (λ (m : ℕ). IdleAsked text table n given i m k) d a
+  pub carried-alone : n ≤ c → i ≡ carrier (wordsIn text table n) (familyBy table n) i (drop k given)
+  carried-alone l =
+      let b = words-length text table n in
+      sym (carrier-alone (wordsIn text table n) (familyBy table n) i j (drop k given) there (a .idle _ refl) (omega (arith, e, l, b)))
 
-  pub carried-apart : (j ≡ i → ⊥) → i ≡ carrier (wordsIn text table n) relationOf i (drop k given)
-  carried-apart d = ⊎-elim
-      (λ e. absurd (d e))
-      (λ e. sym (carrier-own (wordsIn text table n) i (drop k given) even there (subst (λ (m : ℕ). active (wordsIn text table n) (zOf (wordsIn text table n) m) (drop k given) ≡ false) e (a .idle _ refl))))
-      (a .kin)
+  module _ (x : Bool) (f : x ≡ carriesFirst (wordsIn text table n) i (drop k given) c) where
+    pub carried-own : x ≡ true → i ≡ carrier (wordsIn text table n) (familyBy table n) i (drop k given)
+    unfolding carriesFirst
+    carried-own t =
+        let r = simp and-eq-true-iff at (sym f ∙ t) in
+        let b = ltb-true i c (r .0) in
+        sym (carrier-own (wordsIn text table n) (familyBy table n) i j (drop k given) there (a .idle _ refl) (r .1) (omega (arith, b, e)))
 
-pub ruleset carriers = (idle-own, carried-apart, needs)
+    pub carried-other : c < n → x ≡ false → c ≡ carrier (wordsIn text table n) (familyBy table n) i (drop k given)
+    unfolding carriesFirst
+    carried-other l t =
+        let b = words-length text table n in
+        e ∙ sym (carrier-other (wordsIn text table n) (familyBy table n) i j (drop k given) there (a .idle _ refl) (omega (arith, e, l, b)) (λ z.
+        let q : ltb i c ≡ true = lt-ltb i c (omega (arith, e, z)) in
+        rw q at (sym f ∙ t)))
 
--- the carrier where Z of i is not active
-module _ (text table : List ℕ) (n : ℕ) (given : Word) (i k : ℕ) (a : IdleAsked text table n given i i k) where
-  pub idle-few : i ≤ 64
-  idle-few = let c = a .rest .word .there in let l = a .rest .word .paired .checked .laid .few in omega arith
-
-  pub idle-asked : (o : ℕ) → o ≡ other i → RestAsked text table n given o k
-  idle-asked o e =
-      record { word = record { paired = a .rest .word .paired; there = let c = a .rest .word .there in let p = a .rest .word .paired .even in omega arith }; within = a .rest .within }
-
-  -- what is found of the other word of the relation
-  module _ (x : Bool) (o : ℕ) (f : x ≡ active (wordsIn text table n) (zOf (wordsIn text table n) o) (drop k given)) (e : o ≡ other i) where
-    told : (b : Bool) → x ≡ b → active (wordsIn text table n) (zOf (wordsIn text table n) (other i)) (drop k given) ≡ b
-    told b h = subst (λ (m : ℕ). active (wordsIn text table n) (zOf (wordsIn text table n) m) (drop k given) ≡ b) e (sym f ∙ h)
-
-    pub carried-other : x ≡ true → o ≡ carrier (wordsIn text table n) relationOf i (drop k given)
-    carried-other h = e ∙ sym (carrier-other (wordsIn text table n) i (drop k given) (even text table n given i i k a) (there text table n given i i k a) (a .idle _ refl) (told true h))
-
-    pub carried-own : x ≡ false → i ≡ carrier (wordsIn text table n) relationOf i (drop k given)
-    carried-own h = sym (carrier-own (wordsIn text table n) i (drop k given) (even text table n given i i k a) (there text table n given i i k a) (told false h))
-
-pub ruleset otherCarriers = (idle-few, idle-asked, carried-other, carried-own, needs)
+pub ruleset carriers = (idle-rest, carried-alone, carried-own, carried-other, needs)
 
 -- a part that stands quiet
 module _ (text table : List ℕ) (n : ℕ) (given : Word) (at to k : ℕ) (a : QuietAsked text table n given at to k) where
@@ -224,13 +245,13 @@ module _ (text table : List ℕ) (n : ℕ) (given : Word) (i : ℕ) (q : Mark) (
   applies-span = record { upwards = a .mark .up; inside = a .mark .inside }
 
   module _ (x : Bool) (e : x ≡ isPrefix (part text (q .at) (q .to)) (drop from given)) where
-    pub applies-not : x ≡ true → false ≡ applies (wordsIn text table n) given i (placedMark text q) from
+    pub applies-not : x ≡ true → false ≡ applies (wordsIn text table n) (familyBy table n) given i (placedMark text q) from
     unfolding applies
     applies-not h = rw (← e, h)
 
-    module _ (o : ℕ) (eo : o ≡ other i) (s t : Site) (es : s ≡ siteOf table i) (et : t ≡ siteOf table o) where
-      pub applies-marked : x ≡ false → (y : Bool) → y ≡ markInEitherX text s t (part text (q .at) (q .to)) → y ≡ applies (wordsIn text table n) given i (placedMark text q) from
-      unfolding applies
-      applies-marked h y f = rw (← e, h, pair-marked text table n i (a .word) s es o eo t et (placedMark text q)) f
+    pub applies-marked : x ≡ false → (y : Bool) → y ≡ markedByAny (wordsIn text table n) (familyBy table n) i (part text (q .at) (q .to))
+        → y ≡ applies (wordsIn text table n) (familyBy table n) given i (placedMark text q) from
+    unfolding applies
+    applies-marked h y f = rw (← e, h) f
 
-pub ruleset applications = (mark-word, mark-up, mark-inside, paired-few, paired-room, other-room, sites-read, applies-span, applies-not, applies-marked, needs)
+pub ruleset applications = (mark-word, mark-up, mark-inside, applies-span, applies-not, applies-marked, needs)

@@ -1,68 +1,70 @@
--- A law for each way that choosing a member of a relation can go.
-use Prim.Native.Nat.{ℕ, _%_, _≤_}
+-- A law for each way that choosing a member of a family can go.
+use Prim.Native.Nat.{ℕ, _-_, _≤_, _<_}
 use mathlib.Core.Bool.{Bool, true, false}
-use mathlib.Core.Logic.{inl, inr}
 use mathlib.Core.List.{List}
-use mathlib.Core.Path.{_≡_, refl, sym, _∙_}
+use mathlib.Core.Path.{_≡_, refl, sym}
+use native.Mathlib.Omega.{arith}
 use borrow.Author.Needs.{needs}
+use borrow.Author.Tests.{le-leb, lt-leb}
 use lib.ListN.{length}
 use Rattle.words.specs.Words.{Word, isPrefix, part}
-use Rattle.words.specs.Relations.{other}
-use Rattle.overlap.specs.Cuts.{xOf, xyOf}
 use Rattle.overlap.proofs.Facts.{rigid-of-c4}
-use Rattle.least.specs.Order.{before, houseRank}
-use Rattle.least.specs.Possible.{relationOf}
+use Rattle.least.specs.Order.{houseRank}
 use Rattle.least.specs.Writing.{firstMember}
 use Rattle.layout.specs.Layout.{wordsIn}
+use Rattle.layout.specs.Families.{familyAt, familyBy, nextOf, GroupedWord}
 use Rattle.layout.proofs.Placed.{words-length}
 use Rattle.sites.specs.declared.Site.{Site}
 use Rattle.sites.specs.Sites.{siteOf, SiteInText, SitesInText}
 use Rattle.sites.proofs.Sites.{Lies, site-in-text}
+use Rattle.kin.proofs.Laws.{grouped, grouped-room, grouped-lies, grouped-site, grouped-other}
 use Rattle.moves.specs.declared.Mark.{Mark}
 use Rattle.moves.specs.State.{placedMark}
-use Rattle.rows.specs.Pairs.{PairedWord}
-use Rattle.rows.proofs.Laws.{paired-few, paired-room, other-room, sites-read}
-use Rattle.walks.proofs.Pairs.{pair-even, pair-own, pair-other}
-use Rattle.members.specs.Members.{firstAt, firstOfTwo, settled}
+use Rattle.members.specs.Members.{firstAt, beats, better, settled}
 use Rattle.members.specs.Asked.{MarkAsked}
-use Rattle.members.proofs.Members.{member-own, member-other, member-none, other-first}
+use Rattle.members.proofs.Best.{BestSoFar, none-yet, best-kept, best-new, best-is-first}
 
--- the first of two relation words
-module _ (text : List ℕ) (s t : Site) (p : Word) (i j n : ℕ) where
-  pub two-own-site : SitesInText text s t → SiteInText text s
-  two-own-site h = h .own
+-- the better one of a member and the best so far
+module _ (text table : List ℕ) (n : ℕ) (p : Word) (best j : ℕ) (h : GroupedWord text table n j) (s : Site) (e : s ≡ siteOf table j) where
+  own : Lies text (wordsIn text table n) j s
+  own = grouped-lies text table n j h s e
 
-  pub two-other-site : SitesInText text s t → SiteInText text t
-  two-other-site h = h .other
+  module _ (x : Bool) (ex : x ≡ isPrefix p (part text (s .start) (s .middle))) where
+    pub better-not : x ≡ false → best ≡ better (wordsIn text table n) p best j
+    unfolding better beats
+    better-not hx = rw (own .x, ← ex, hx)
 
-  module _ (a : Bool) (ea : a ≡ isPrefix p (part text (s .start) (s .middle))) (b : Bool) (eb : b ≡ isPrefix p (part text (t .start) (t .middle))) where
-    module _ (ha : a ≡ true) where
-      pub two-both-own : b ≡ true → (c : Bool) → c ≡ firstAt text s t → c ≡ true → i ≡ firstOfTwo text s t p i j n
-      unfolding firstOfTwo
-      two-both-own hb c ec hc = rw (← ea, ← eb, ← ec, ha, hb, hc)
+    module _ (hx : x ≡ true) where
+      pub better-only : n ≤ best → j ≡ better (wordsIn text table n) p best j
+      unfolding better beats
+      better-only l = rw (own .x, ← ex, hx, words-length text table n, le-leb n best l)
 
-      pub two-both-other : b ≡ true → (c : Bool) → c ≡ firstAt text s t → c ≡ false → j ≡ firstOfTwo text s t p i j n
-      unfolding firstOfTwo
-      two-both-other hb c ec hc = rw (← ea, ← eb, ← ec, ha, hb, hc)
+      module _ (l : best < n) (t : Site) (f : t ≡ siteOf table best) where
+        bests : Lies text (wordsIn text table n) best t
+        bests = grouped-lies text table n best (grouped-other text table n j h best l) t f
 
-      pub two-own : b ≡ false → i ≡ firstOfTwo text s t p i j n
-      unfolding firstOfTwo
-      two-own hb = rw (← ea, ← eb, ha, hb)
+        pub better-sites : SitesInText text s t
+        better-sites = record { own = grouped-site text table n j h s e; other = site-in-text text (wordsIn text table n) best t bests }
 
-    module _ (ha : a ≡ false) where
-      pub two-other : b ≡ true → j ≡ firstOfTwo text s t p i j n
-      unfolding firstOfTwo
-      two-other hb = rw (← ea, ← eb, ha, hb)
+        module _ (y : Bool) (ey : y ≡ firstAt text s t) where
+          -- what the test for the better one comes to
+          compared : beats (wordsIn text table n) p best j ≡ y
+          unfolding beats firstAt
+          compared = rw (own .x, ← ex, hx, words-length text table n, lt-leb n best l, own .xy, bests .xy) (sym ey)
 
-      pub two-none : b ≡ false → n ≡ firstOfTwo text s t p i j n
-      unfolding firstOfTwo
-      two-none hb = rw (← ea, ← eb, ha, hb)
+          pub better-new : y ≡ true → j ≡ better (wordsIn text table n) p best j
+          unfolding better
+          better-new hy = rw (compared, hy)
 
-pub ruleset twos = (two-own-site, two-other-site, two-both-own, two-both-other, two-own, two-other, two-none, needs)
+          pub better-old : y ≡ false → best ≡ better (wordsIn text table n) p best j
+          unfolding better
+          better-old hy = rw (compared, hy)
+
+pub ruleset betters = (grouped, better-not, better-only, better-sites, better-new, better-old, needs)
 
 -- the first member
 module _ (text table : List ℕ) (n i : ℕ) (m : Mark) (h : MarkAsked text table n i m) where
-  pub mark-word : PairedWord text table n i
+  pub mark-word : GroupedWord text table n i
   mark-word = h .word
 
   pub mark-up : m .at ≤ m .to
@@ -71,35 +73,35 @@ module _ (text table : List ℕ) (n i : ℕ) (m : Mark) (h : MarkAsked text tabl
   pub mark-inside : m .to ≤ length text
   mark-inside = h .mark .inside
 
-  module _ (o : ℕ) (eo : o ≡ other i) (s t : Site) (es : s ≡ siteOf table i) (et : t ≡ siteOf table o) where
-    own : Lies text (wordsIn text table n) i s
-    own = pair-own text table n i (h .word) s es
+  pub best-start : (f : ℕ) → f ≡ familyAt table i → BestSoFar (wordsIn text table n) table n i (placedMark text m) n f
+  best-start f e = rw e (none-yet (wordsIn text table n) table n (words-length text table n) (h .word .grouped .linked) i (h .word .there) (placedMark text m))
 
-    oth : Lies text (wordsIn text table n) (other i) t
-    oth = pair-other text table n i (h .word) s es o eo t et
+  module _ (best j : ℕ) (u : BestSoFar (wordsIn text table n) table n i (placedMark text m) best j) where
+    module _ (l : j < n) where
+      pub best-word : GroupedWord text table n j
+      best-word = grouped-other text table n i (h .word) j l
 
-    even : length (wordsIn text table n) % 2 ≡ 0
-    even = pair-even text table n i (h .word)
+      pub best-next : (r : ℕ) → r ≡ better (wordsIn text table n) (placedMark text m) best j → (k : ℕ) → k ≡ nextOf table j → BestSoFar (wordsIn text table n) table n i (placedMark text m) r k
+      unfolding better
+      best-next r e k f = go _ refl
+        where
+          go : (b : Bool) → beats (wordsIn text table n) (placedMark text m) best j ≡ b → BestSoFar (wordsIn text table n) table n i (placedMark text m) r k
+          go true a =
+              let g : r ≡ j = rw a at e in
+              rw (g, f) (best-new (wordsIn text table n) table n (words-length text table n) (h .word .grouped .linked) i (h .word .there) (placedMark text m) best j u l a)
+          go false a =
+              let g : r ≡ best = rw a at e in
+              rw (g, f) (best-kept (wordsIn text table n) table n (words-length text table n) (h .word .grouped .linked) i (h .word .there) (placedMark text m) best j u l a)
 
-    two : (a : Bool) → isPrefix (placedMark text m) (xOf (wordsIn text table n) i) ≡ a → (b : Bool) → isPrefix (placedMark text m) (xOf (wordsIn text table n) (other i)) ≡ b
-        → (c : Bool) → before houseRank (xyOf (wordsIn text table n) i) (xyOf (wordsIn text table n) (other i)) ≡ c
-        → firstOfTwo text s t (placedMark text m) i o n ≡ firstMember (wordsIn text table n) relationOf houseRank i (placedMark text m)
-    unfolding firstOfTwo firstAt
-    two true ea true eb true ec =
-        rw (← own .x, ← oth .x, ← own .xy, ← oth .xy, ea, eb, ec) (sym (member-own (wordsIn text table n) i (placedMark text m) even (own .known) ea (inr ec)))
-    two true ea true eb false ec =
-        rw (← own .x, ← oth .x, ← own .xy, ← oth .xy, ea, eb, ec)
-        (eo ∙ sym (member-other (wordsIn text table n) i (placedMark text m) even (own .known) eb
-        (inr (other-first (wordsIn text table n) i (placedMark text m) even (own .known) (rigid-of-c4 (wordsIn text table n) (h .word .paired .checked .accepted)) ec))))
-    two true ea false eb c ec = rw (← own .x, ← oth .x, ea, eb) (sym (member-own (wordsIn text table n) i (placedMark text m) even (own .known) ea (inl eb)))
-    two false ea true eb c ec = rw (← own .x, ← oth .x, ea, eb) (eo ∙ sym (member-other (wordsIn text table n) i (placedMark text m) even (own .known) eb (inl ea)))
-    two false ea false eb c ec =
-        rw (← own .x, ← oth .x, ea, eb) (sym (member-none (wordsIn text table n) i (placedMark text m) even (own .known) ea eb ∙ words-length text table n))
+      pub best-later : (k : ℕ) → k ≡ nextOf table j → n - k < n - j
+      best-later k e = let a = h .word .grouped .linked .later j l in omega (arith, a, e, l)
 
-    pub member-found : (r : ℕ) → r ≡ firstOfTwo text s t (placedMark text m) i o n → r ≡ firstMember (wordsIn text table n) relationOf houseRank i (placedMark text m)
-    member-found r e = e ∙ two _ refl _ refl _ refl
+    pub best-end : n ≤ j → best ≡ firstMember (wordsIn text table n) (familyBy table n) houseRank i (placedMark text m)
+    best-end l =
+        best-is-first (wordsIn text table n) table n (words-length text table n) (h .word .grouped .linked) i (h .word .there) (placedMark text m) best j u
+        (rigid-of-c4 (wordsIn text table n) (h .word .grouped .checked .accepted)) l
 
-pub ruleset firstMembers = (mark-word, mark-up, mark-inside, paired-few, paired-room, other-room, sites-read, member-found, needs)
+pub ruleset firstMembers = (mark-word, mark-up, mark-inside, best-start, best-word, grouped, best-next, best-later, best-end, needs)
 
 -- the member, where the first one is another than i
 module _ (text table : List ℕ) (n i : ℕ) (m : Mark) (t : ℕ) (b : Bool) where
@@ -110,7 +112,7 @@ module _ (text table : List ℕ) (n i : ℕ) (m : Mark) (t : ℕ) (b : Bool) whe
   module _ (a : MarkAsked text table n i m) where
     module _ (s : Site) (e : s ≡ siteOf table i) where
       settle-lies : Lies text (wordsIn text table n) i s
-      settle-lies = pair-own text table n i (a .word) s e
+      settle-lies = grouped-lies text table n i (a .word) s e
 
       pub settle-site : SiteInText text s
       settle-site = site-in-text text (wordsIn text table n) i s settle-lies
@@ -124,4 +126,4 @@ module _ (text table : List ℕ) (n i : ℕ) (m : Mark) (t : ℕ) (b : Bool) whe
         unfolding settled
         settle-none l = rw (h, settle-lies .x, ← g, l)
 
-pub ruleset settles = (mark-word, mark-up, mark-inside, paired-room, settle-first, settle-site, settle-own, settle-none, needs)
+pub ruleset settles = (mark-word, mark-up, mark-inside, grouped-room, settle-first, settle-site, settle-own, settle-none, needs)

@@ -1,4 +1,5 @@
 pub mod Ranks
 pub mod Members
+pub mod Best
 pub mod Laws
 pub mod Choosing

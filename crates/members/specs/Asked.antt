@@ -2,15 +2,14 @@
 use Prim.Native.Nat.{ℕ, _≤_}
 use mathlib.Core.Bool.{Bool, false}
 use mathlib.Core.List.{List}
-use mathlib.Core.Logic.{_⊎_}
 use mathlib.Core.Path.{_≡_}
 use lib.ListN.{length, drop}
 use Rattle.words.specs.Words.{Word}
-use Rattle.words.specs.Relations.{other}
 use Rattle.overlap.specs.Cuts.{zOf}
 use Rattle.congruence.specs.Rows.{active}
 use Rattle.layout.specs.Layout.{wordsIn, Checked, Span}
-use Rattle.rows.specs.Pairs.{PairedWord}
+use Rattle.layout.specs.Families.{familyBy, GroupedWord}
+use Rattle.kin.specs.Asked.{RestAsked}
 use Rattle.moves.specs.declared.PlacedWord.{PlacedWord}
 use Rattle.moves.specs.declared.Mark.{Mark}
 use Rattle.moves.specs.State.{WordFits, MarkFits}
@@ -24,18 +23,13 @@ pub record WordAsked (text table : List ℕ) (n : ℕ) (given : Word) (h : Place
 
 -- a mark in the text, and a relation word
 pub record MarkAsked (text table : List ℕ) (n i : ℕ) (m : Mark) : Type 0 where
-  pub word : PairedWord text table n i
+  pub word : GroupedWord text table n i
   pub mark : MarkFits text m
 
--- a relation word and a place of the given word
-pub record RestAsked (text table : List ℕ) (n : ℕ) (given : Word) (i k : ℕ) : Type 0 where
-  pub word : PairedWord text table n i
-  pub within : k ≤ length given
-
--- relation word i, and a word j of its relation for whose Z the given word from k on is not active
+-- relation word i, and a member j of its family for whose Z the given word from k on is not active
 pub record IdleAsked (text table : List ℕ) (n : ℕ) (given : Word) (i j k : ℕ) : Type 0 where
   pub rest : RestAsked text table n given i k
-  pub kin : (j ≡ i) ⊎ (j ≡ other i)
+  pub kin : familyBy table n i ≡ familyBy table n j
   pub idle : (x : Bool) → x ≡ active (wordsIn text table n) (zOf (wordsIn text table n) j) (drop k given) → x ≡ false
 
 -- text[at..to] and a place of the given word

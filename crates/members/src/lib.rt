@@ -1,17 +1,17 @@
-// What a round of the least word reads: the clean relation prefix of a held word, the first of the two words of a relation in the dictionary, and what the given word
-// from a place on is to a Z.
+// What a round of the least word reads: the clean relation prefix of a held word, the first member of a family in the dictionary, and what the given word from a place
+// on is to a Z.
 ghost use mathlib.Core.Path.{_≡_};
 ghost use lib.ListN.{drop};
-ghost use Rattle.overlap.specs.Cuts.{zOf};
-ghost use Rattle.congruence.specs.Rows.{cleanRelationPrefix, active};
+ghost use Rattle.congruence.specs.Rows.{cleanRelationPrefix};
 ghost use Rattle.least.specs.Order.{houseRank};
-ghost use Rattle.least.specs.Possible.{relationOf};
 ghost use Rattle.least.specs.Writing.{firstMember, carrier};
 ghost use Rattle.layout.specs.Layout.{wordsIn};
+ghost use Rattle.layout.specs.Families.{familyBy, GroupedWord};
 ghost use Rattle.sites.specs.Sites.{SitesInText};
+ghost use Rattle.kin.specs.Asked.{RestAsked};
 ghost use Rattle.moves.specs.State.{placedWord, placedMark};
-ghost use Rattle.members.specs.Members.{firstAt, firstOfTwo, quiet, applies, settled};
-ghost use Rattle.members.specs.Asked.{IdleAsked, WordAsked, MarkAsked, RestAsked, QuietAsked};
+ghost use Rattle.members.specs.Members.{firstAt, better, settled, applies, activeApart, otherCarrier, carriesFirst, quiet};
+ghost use Rattle.members.specs.Asked.{WordAsked, MarkAsked, IdleAsked, QuietAsked};
 use moves::Mark;
 use moves::PlacedWord;
 use sites::Site;
@@ -47,40 +47,42 @@ fn comes_first(text: &[u16], s: Site, t: Site) -> bool
     rank(text[from + m]) < rank(text[at + m])
 }
 
-// Of the relation words i at s and j at t, those with p a prefix of their X, the one whose X and Y come first, or n.
-fn first_of_two(text: &[u16], s: Site, t: Site, p: &[u16], i: usize, j: usize, n: usize) -> usize
-    requires { ⌜ SitesInText (now text) s t ⌝ }
-    ensures { λ r. ⌜ r ≡ firstOfTwo (now (text .entry)) s t (now (p .entry)) i j n ⌝ }
+// Of member j, where p is a prefix of its X, and the best member so far, the one whose X and Y come first. There is no best member yet where that is n.
+fn better_of(text: &[u16], table: &[u16], n: usize, p: &[u16], best: usize, j: usize) -> usize
+    requires { ⌜ GroupedWord (now text) (now table) n j ⌝ }
+    ensures { λ r. ⌜ r ≡ better (wordsIn (now (text .entry)) (now (table .entry)) n) (now (p .entry)) best j ⌝ }
 {
+    let s = sites::read_site(table, j);
     if sites::mark_in_x(text, s, p) {
-        if sites::mark_in_x(text, t, p) {
+        if best < n {
+            let t = sites::read_site(table, best);
             if comes_first(text, s, t) {
-                return i;
+                return j;
             }
-            return j;
+            return best;
         }
-        return i;
-    }
-    if sites::mark_in_x(text, t, p) {
         return j;
     }
-    n
+    best
 }
 
-// Of the two words of i's relation, the first in the dictionary whose X the mark begins, or n.
+// Of the members of i's family, the first in the dictionary whose X the mark begins, or n.
 pub fn first_member(text: &[u16], table: &[u16], n: usize, i: usize, mark: Mark) -> usize
     requires { ⌜ MarkAsked (now text) (now table) n i mark ⌝ }
-    ensures { λ r. ⌜ r ≡ firstMember (wordsIn (now (text .entry)) (now (table .entry)) n) relationOf houseRank i (placedMark (now (text .entry)) mark) ⌝ }
+    ensures { λ r. ⌜ r ≡ firstMember (wordsIn (now (text .entry)) (now (table .entry)) n) (familyBy (now (table .entry)) n) houseRank i (placedMark (now (text .entry)) mark) ⌝ }
 {
-    let o = sites::other_word(i);
-    let own = sites::read_site(table, i);
-    let other = sites::read_site(table, o);
     let at = mark.at;
     let to = mark.to;
-    first_of_two(text, own, other, &text[at..to], i, o, n)
+    let mut best = n;
+    let mut j = layout::family_of(table, i);
+    while j < n {
+        best = better_of(text, table, n, &text[at..to], best, j);
+        j = layout::next_of(table, j);
+    }
+    best
 }
 
-// The chosen member of i's relation, where t is the first that the mark allows, another than i, and b tells whether Z of i is possible behind X and Y.
+// The chosen member of i's family, where t is the first that the mark allows, another than i, and b tells whether Z of i is possible behind X and Y.
 pub fn settle_member(
     text: &[u16],
     table: &[u16],
@@ -105,7 +107,7 @@ pub fn settle_member(
     n
 }
 
-// Whether a mark, which is no prefix of the given word from `from` on, lies in X of relation word i or of the other word of its relation.
+// Whether a mark, which is no prefix of the given word from `from` on, lies in the X of a member of relation word i's family.
 pub fn hint_applies(
     text: &[u16],
     table: &[u16],
@@ -116,16 +118,14 @@ pub fn hint_applies(
     from: usize,
 ) -> bool
     requires { ⌜ MarkAsked (now text) (now table) n i q ⌝ }
-    ensures { λ r. ⌜ r ≡ applies (wordsIn (now (text .entry)) (now (table .entry)) n) (now (given .entry)) i (placedMark (now (text .entry)) q) from ⌝ }
+    ensures { λ r. ⌜ r ≡ applies (wordsIn (now (text .entry)) (now (table .entry)) n) (familyBy (now (table .entry)) n) (now (given .entry)) i (placedMark (now (text .entry)) q) from ⌝ }
 {
     let at = q.at;
     let to = q.to;
     if joined::begins_in(text, at, to, given, from) {
         return false;
     }
-    let own = sites::read_site(table, i);
-    let other = sites::read_site(table, sites::other_word(i));
-    sites::mark_in_either_x(text, own, other, &text[at..to])
+    kin::mark_in_any_x(text, table, n, i, &text[at..to])
 }
 
 // The relation word whose X and Y are a clean relation prefix of a held word that has a letter, or n. None is looked for where no relation word begins with its first letter.
@@ -143,38 +143,77 @@ pub fn clean_of(text: &[u16], table: &[u16], n: usize, given: &[u16], h: PlacedW
     sites::clean_prefix(text, table, n, &text[at..to], &given[from..])
 }
 
-// Whether the given word from k on is active for Z of relation word j.
-pub fn active_behind(
+// Whether relation word c is another than i and j, and the given word from k on is active for its Z.
+fn active_apart(
     text: &[u16],
     table: &[u16],
     n: usize,
     given: &[u16],
+    i: usize,
     j: usize,
+    c: usize,
     k: usize,
 ) -> bool
-    requires { ⌜ RestAsked (now text) (now table) n (now given) j k ⌝ }
-    ensures { λ r. ⌜ r ≡ active (wordsIn (now (text .entry)) (now (table .entry)) n) (zOf (wordsIn (now (text .entry)) (now (table .entry)) n) j) (drop k (now (given .entry))) ⌝ }
+    requires { ⌜ RestAsked (now text) (now table) n (now given) c k ⌝ }
+    ensures { λ r. ⌜ r ≡ activeApart (wordsIn (now (text .entry)) (now (table .entry)) n) i j (drop k (now (given .entry))) c ⌝ }
 {
-    let s = sites::read_site(table, j);
-    let at = s.tail;
-    let to = s.stop;
-    sites::has_prefix_between(text, table, n, &text[at..to], &given[k..], 0, to - at)
-}
-
-// The other word of i's relation where the given word from k on is active for its Z, or i; it is not active for Z of i.
-fn other_carrier(text: &[u16], table: &[u16], n: usize, given: &[u16], i: usize, k: usize) -> usize
-    requires { ⌜ IdleAsked (now text) (now table) n (now given) i i k ⌝ }
-    ensures { λ r. ⌜ r ≡ carrier (wordsIn (now (text .entry)) (now (table .entry)) n) relationOf i (drop k (now (given .entry))) ⌝ }
-{
-    let o = sites::other_word(i);
-    if active_behind(text, table, n, given, o, k) {
-        return o;
+    if c == i {
+        return false;
     }
-    i
+    if c == j {
+        return false;
+    }
+    kin::active_behind(text, table, n, given, c, k)
 }
 
-// The first word of i's relation for whose Z the given word from k on is active, or i; it is not active for Z of j, a word of the relation. Where that is the other
-// one, this is i, whether active or not.
+// The first member of i's family, other than i and j, for whose Z the given word from k on is active, or n.
+fn other_carrier(
+    text: &[u16],
+    table: &[u16],
+    n: usize,
+    given: &[u16],
+    i: usize,
+    j: usize,
+    k: usize,
+) -> usize
+    requires { ⌜ RestAsked (now text) (now table) n (now given) i k ⌝ }
+    ensures { λ r. ⌜ r ≡ otherCarrier (wordsIn (now (text .entry)) (now (table .entry)) n) (familyBy (now (table .entry)) n) i j (drop k (now (given .entry))) ⌝ }
+{
+    let mut c = layout::family_of(table, i);
+    while c < n {
+        if active_apart(text, table, n, given, i, j, c, k) {
+            return c;
+        }
+        c = layout::next_of(table, c);
+    }
+    n
+}
+
+// Whether i comes before c, and the given word from k on is active for its Z; it is not active for Z of j.
+fn carries_first(
+    text: &[u16],
+    table: &[u16],
+    n: usize,
+    given: &[u16],
+    i: usize,
+    j: usize,
+    c: usize,
+    k: usize,
+) -> bool
+    requires { ⌜ IdleAsked (now text) (now table) n (now given) i j k ⌝ }
+    ensures { λ r. ⌜ r ≡ carriesFirst (wordsIn (now (text .entry)) (now (table .entry)) n) i (drop k (now (given .entry))) c ⌝ }
+{
+    if c <= i {
+        return false;
+    }
+    if j == i {
+        return false;
+    }
+    kin::active_behind(text, table, n, given, i, k)
+}
+
+// The first member of i's family for whose Z the given word from k on is active, or i; it is not active for Z of the member j. Where it is active for no other member,
+// this is i, whether active or not.
 pub fn find_carrier(
     text: &[u16],
     table: &[u16],
@@ -185,12 +224,16 @@ pub fn find_carrier(
     k: usize,
 ) -> usize
     requires { ⌜ IdleAsked (now text) (now table) n (now given) i j k ⌝ }
-    ensures { λ r. ⌜ r ≡ carrier (wordsIn (now (text .entry)) (now (table .entry)) n) relationOf i (drop k (now (given .entry))) ⌝ }
+    ensures { λ r. ⌜ r ≡ carrier (wordsIn (now (text .entry)) (now (table .entry)) n) (familyBy (now (table .entry)) n) i (drop k (now (given .entry))) ⌝ }
 {
-    if j == i {
-        return other_carrier(text, table, n, given, i, k);
+    let c = other_carrier(text, table, n, given, i, j, k);
+    if n <= c {
+        return i;
     }
-    i
+    if carries_first(text, table, n, given, i, j, c, k) {
+        return i;
+    }
+    c
 }
 
 // Whether text[at..to] stands in the given word at place k, and no clean relation prefix begins in it there.

@@ -99,7 +99,7 @@ module _ (text table : List ℕ) (n : ℕ) (first second : Word) (s : State) (p 
   drops-not = record { plan = λ e. absurd (true≢false (sym e)) }
 
   pub table-long : length table ≡ tableRoom
-  table-long = p .fitting .ready .paired .checked .indexed .room
+  table-long = p .fitting .ready .grouped .checked .indexed .room
 
   pub mark-held : MarkFits text (s .mark)
   mark-held = p .standing .mark
@@ -134,9 +134,9 @@ module _ (text table : List ℕ) (n : ℕ) (first second : Word) (s : State) (p 
         drops-so r er =
             record {
               plan = λ h.
-                  drop-plan text table n (p .fitting .ready .paired .checked) (placedWord text first (s .u)) (placedWord text second (s .v)) (placedMark text (s .mark))
+                  drop-plan text table n (p .fitting .ready .grouped .checked) (placedWord text first (s .u)) (placedWord text second (s .v)) (placedMark text (s .mark))
                   (held-some first (s .u) (p .standing .u) (sym fu ∙ hu)) (held-some second (s .v) (p .standing .v) (sym fv ∙ hv)) (sym ex ∙ e ∙ ey) (rw ex at (sym em ∙ hm))
-                  (rw ex at (begins-none text table n (p .fitting .ready .paired .checked) x (sym er ∙ h))) (markLetters (s .mark)) mark-letters;
+                  (rw ex at (begins-none text table n (p .fitting .ready .grouped .checked) x (sym er ∙ h))) (markLetters (s .mark)) mark-letters;
             }
 
 pub ruleset dropsAtOnce = (drops-not, table-long, mark-held, has-u, has-v, drops-so, needs)

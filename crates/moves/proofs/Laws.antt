@@ -7,19 +7,20 @@ use native.Mathlib.Omega.{arith}
 use borrow.Author.Needs.{needs}
 use borrow.Author.Tests.{lt-ltb, le-ltb}
 use lib.ListN.{length, take, drop, length-append, length-drop}
-use lib.Seq.{take-all}
 use Rattle.words.specs.Words.{Word, part}
 use Rattle.words.proofs.Parts.{part-length}
 use Rattle.overlap.proofs.Facts.{rigid-of-c4}
 use Rattle.congruence.specs.Rows.{round}
 use Rattle.congruence.proofs.Heads.{Facts}
 use Rattle.layout.specs.Layout.{wordsIn}
-use Rattle.rows.specs.Pairs.{Paired}
+use Rattle.layout.specs.Families.{familyBy}
+use Rattle.kin.proofs.Laws.{rest-lent}
 use Rattle.changes.specs.declared.Change.{Change}
 use Rattle.changes.specs.declared.Plan.{Plan}
 use Rattle.changes.specs.declared.Plan.the-variants as Plans
 use Rattle.plans.specs.Plans.{planned, Fit, MarkFit, PlanFit, PlansRound}
 use Rattle.plans.specs.Plans.PlanFit.{goes}
+use Rattle.plans.specs.Asked.{HeadClear}
 use Rattle.moves.specs.declared.PlacedWord.{PlacedWord}
 use Rattle.moves.specs.declared.Mark.{Mark}
 use Rattle.moves.specs.declared.State.{State}
@@ -46,9 +47,6 @@ advance-shortened h c l k = rw (le-ltb _ _ l, lt-ltb _ _ k)
 pub ruleset advances = (advance-replaced, advance-emptied, advance-shortened, needs)
 
 -- the round of a state: the rest of a given word is lent as the part up to its end
-pub rest-lent : (source : Word) (from : ℕ) → take (length source - from) (drop from source) ≡ drop from source
-rest-lent source from = take-all (length source - from) (drop from source) (omega (arith, length-drop from source))
-
 pub plan-held : (text table : List ℕ) (n : ℕ) (first second : Word) (s : State) (r : Plan)
     → PlansRound text table n
     (part text (s .u .at) (s .u .to) ++ take (length first - s .u .from) (drop (s .u .from) first))
@@ -59,8 +57,8 @@ plan-held text table n first second s r d = rw (rest-lent first (s .u .from), re
 
 -- the lent parts lie in what they are parts of
 module _ (text table : List ℕ) (n : ℕ) (first second : Word) (s : State) (p : StateReady text table n first second s) where
-  pub poised-paired : Paired text table n
-  poised-paired = p .fitting .ready .paired
+  pub poised-clear : HeadClear text table n (part text (s .u .at) (s .u .to))
+  poised-clear = record { grouped = p .fitting .ready .grouped; clear = p .standing .u .noPrefix }
 
   pub u-up : s .u .at ≤ s .u .to
   u-up = p .standing .u .up
@@ -86,7 +84,7 @@ module _ (text table : List ℕ) (n : ℕ) (first second : Word) (s : State) (p 
   pub mark-inside : s .mark .to ≤ length text
   mark-inside = p .standing .mark .inside
 
-pub ruleset plans = (plan-held, poised-paired, u-up, u-inside, u-within, v-up, v-inside, v-within, mark-up, mark-inside, needs)
+pub ruleset plans = (plan-held, poised-clear, u-up, u-inside, u-within, v-up, v-inside, v-within, mark-up, mark-inside, needs)
 
 -- carrying a plan out
 module _ (s : State) (plan : Plan) (a : Applicable s plan) where
@@ -119,7 +117,7 @@ module _ (text table : List ℕ) (n : ℕ) (first second : Word) (s : State) (p 
 
   cuts : Facts words
   unfolding words
-  cuts = rigid-of-c4 (wordsIn text table n) (p .fitting .ready .paired .checked .accepted)
+  cuts = rigid-of-c4 (wordsIn text table n) (p .fitting .ready .grouped .checked .accepted)
 
   movable-of-fit : (source : Word) → length source ≤ 65536 → (h : PlacedWord) → WordFits text words source h → (c : Change) → Fit text words (placedWord text source h) c → Movable h c
   movable-of-fit source k h f c g =
@@ -148,7 +146,7 @@ module _ (text table : List ℕ) (n : ℕ) (first second : Word) (s : State) (p 
   )
 
   round-made : (plan : Plan) → PlanFit text words (placedWord text first (s .u)) (placedWord text second (s .v)) (placedMark text (s .mark)) plan
-      → planned text (placedWord text first (s .u)) (placedWord text second (s .v)) (placedMark text (s .mark)) plan ≡ round words (placedWord text first (s .u)) (placedWord text second (s .v)) (placedMark text (s .mark))
+      → planned text (placedWord text first (s .u)) (placedWord text second (s .v)) (placedMark text (s .mark)) plan ≡ round words (familyBy table n) (placedWord text first (s .u)) (placedWord text second (s .v)) (placedMark text (s .mark))
       → RoundMade text table n first second s (moveOf s plan)
   unfolding words planned
   round-made (Plans.End b) f e = record { same = e; stands = tt }

@@ -10,10 +10,10 @@ use Rattle.congruence.specs.Rows.{Next, round}
 use Rattle.congruence.specs.Rows.Next.{end, go}
 use Rattle.congruence.specs.NoRelationPrefix.{NoRelationPrefix}
 use Rattle.layout.specs.Layout.{wordsIn}
+use Rattle.layout.specs.Families.{familyBy, Grouped}
 use Rattle.changes.specs.declared.Change.{Change}
 use Rattle.changes.specs.declared.Plan.{Plan}
 use Rattle.changes.specs.declared.Plan.the-variants as Plans
-use Rattle.rows.specs.Pairs.{Paired}
 use Rattle.limits.specs.Limits.{comparedMost}
 use Rattle.moves.specs.declared.PlacedWord.{PlacedWord}
 use Rattle.moves.specs.declared.Mark.{Mark}
@@ -87,9 +87,9 @@ abbrev pub Applicable : State → Plan → Type 0
 Applicable s (Plans.End b) = Unit {0}
 Applicable s (Plans.Go cu cv cp) = Movable (s .u) cu × Movable (s .v) cv × MarkMovable (s .mark) cp
 
--- a checked presentation in arrays: words in pairs, in a text whose places are small
+-- a checked presentation with families in arrays, in a text whose places are small
 pub record Ready (text table : List ℕ) (n : ℕ) : Type 0 where
-  pub paired : Paired text table n
+  pub grouped : Grouped text table n
   pub text-short : length text ≤ 65536
 
 -- two words within the limit of a comparison, under a checked presentation
@@ -115,5 +115,5 @@ MoveFits text B first second (Moves.Next s) = StateFits text B first second s
 
 -- one step of a state is one round of the rows from the words that it stands for
 pub record RoundMade (text table : List ℕ) (n : ℕ) (first second : Word) (s : State) (step : Move) : Type 0 where
-  pub same : moveNext text first second step ≡ round (wordsIn text table n) (placedWord text first (s .u)) (placedWord text second (s .v)) (placedMark text (s .mark))
+  pub same : moveNext text first second step ≡ round (wordsIn text table n) (familyBy table n) (placedWord text first (s .u)) (placedWord text second (s .v)) (placedMark text (s .mark))
   pub stands : MoveFits text (wordsIn text table n) first second step

@@ -20,10 +20,11 @@ use Rattle.words.proofs.Commons.{common-most}
 use Rattle.congruence.specs.NoRelationPrefix.{NoRelationPrefix}
 use Rattle.congruence.specs.Rows.{cleanRelationPrefix}
 use Rattle.congruence.proofs.ShapeNoPrefix.{no-prefix-drop}
-use Rattle.least.specs.Possible.{relationOf, possible}
+use Rattle.least.specs.Possible.{possible}
 use Rattle.least.specs.Writing.{letterPart}
 use Rattle.least.proofs.Possible.{possible-front}
 use Rattle.layout.specs.Layout.{wordsIn}
+use Rattle.layout.specs.Families.{familyBy}
 use Rattle.moves.specs.declared.PlacedWord.{PlacedWord}
 use Rattle.moves.specs.declared.Mark.{Mark}
 use Rattle.moves.specs.State.{placedWord, placedMark, WordFits}
@@ -158,9 +159,9 @@ module _ (text : List ℕ) (B : List Word) (given : Word) (h : PlacedWord) (f : 
       low-take n u y = record { at = λ k b. let m = length-take n u in rw (getD-take n u k 0 (omega (arith, b, m))) (y .at k (omega (arith, b, m))) }
 
 -- what is known stays known
-module _ (text : List ℕ) (B : List Word) (given : Word) (h : PlacedWord) (f : WordFits text B given h) (l : HasLetter text given h)
+module _ (text : List ℕ) (B : List Word) (fam : ℕ → ℕ) (given : Word) (h : PlacedWord) (f : WordFits text B given h) (l : HasLetter text given h)
     (none : length B ≤ cleanRelationPrefix B (placedWord text given h)) (x : ℕ) (e : x ≡ getD (placedWord text given h) 0 0) where
-  module _ (q : Mark) (b : Bool) (t : HintTold text B given h q b) (g : q .at < q .to) (d : getD text (q .at) 0 ≡ x) where
+  module _ (q : Mark) (b : Bool) (t : HintTold text B fam given h q b) (g : q .at < q .to) (d : getD text (q .at) 0 ≡ x) where
     word-is : placedWord text given h ≡ drop (h .from) given
     word-is = bare-word text B given h f l (t .bare)
 
@@ -185,15 +186,15 @@ module _ (text : List ℕ) (B : List Word) (given : Word) (h : PlacedWord) (f : 
     same-rest : drop 1 (drop (h .from) given) ≡ drop (h .from + 1) given
     same-rest = drop-drop 1 (h .from) given
 
-    still : possible B relationOf (part text (q .at + 1) (q .to)) (drop (h .from + 1) given) ≡ b
+    still : possible B fam (part text (q .at + 1) (q .to)) (drop (h .from + 1) given) ≡ b
     still = rw (← same-mark, ← same-rest) (⊎-elim
-        (λ p. possible-front B relationOf (drop 1 (placedMark text q)) (drop 1 (drop (h .from) given)) (prefix-rest (placedMark text q) (drop (h .from) given) 1 share ∙ p)
-        ∙ sym (possible-front B relationOf (placedMark text q) (drop (h .from) given) p) ∙ t .told)
-        (λ p. sym (passed B relationOf (placedMark text q) (drop (h .from) given) 1 p share (λ k o.
+        (λ p. possible-front B fam (drop 1 (placedMark text q)) (drop 1 (drop (h .from) given)) (prefix-rest (placedMark text q) (drop (h .from) given) 1 share ∙ p)
+        ∙ sym (possible-front B fam (placedMark text q) (drop (h .from) given) p) ∙ t .told)
+        (λ p. sym (passed B fam (placedMark text q) (drop (h .from) given) 1 p share (λ k o.
         subst (λ (m : ℕ). length B ≤ cleanRelationPrefix B (drop m (drop (h .from) given))) {x = 0} {y = k} (omega (arith, o)) (rw word-is at none))) ∙ t .told)
         (true-or-false (isPrefix (placedMark text q) (drop (h .from) given))))
 
-    known-next : HintTold text B given (withoutLetter h) (record { at = q .at + 1; to = q .to }) b
+    known-next : HintTold text B fam given (withoutLetter h) (record { at = q .at + 1; to = q .to }) b
     unfolding withoutLetter
     known-next =
         let c = t .bare in
@@ -203,20 +204,20 @@ module _ (text : List ℕ) (B : List Word) (given : Word) (h : PlacedWord) (f : 
           told = still;
         })
 
-  next-hint : (o : Hint) → HintRight text B given h o → HintRight text B given (withoutLetter h) (hintBehind text o x)
+  next-hint : (o : Hint) → HintRight text B fam given h o → HintRight text B fam given (withoutLetter h) (hintBehind text o x)
   unfolding hintBehind
   next-hint Hints.Unknown r = tt
   next-hint (Hints.Known q b) r = by-cases (decLt (q .at) (q .to))
       (λ g. go g (eqb (getD text (q .at) 0) x) refl)
       (λ g. let g′ : q .to ≤ q .at = omega (arith, g) in rw (le-ltb _ _ g′) tt)
     where
-      go : q .at < q .to → (y : Bool) → eqb (getD text (q .at) 0) x ≡ y → HintRight text B given (withoutLetter h) (hintBehind text (Hints.Known q b) x)
+      go : q .at < q .to → (y : Bool) → eqb (getD text (q .at) 0) x ≡ y → HintRight text B fam given (withoutLetter h) (hintBehind text (Hints.Known q b) x)
       go g true d = rw (lt-ltb _ _ g, d) (known-next q b r g (eqb-true _ _ d))
       go g false d = rw (lt-ltb _ _ g, d) tt
 
-lies-of : (text : List ℕ) (B : List Word) (given : Word) (h : PlacedWord) (o : Hint) → HintRight text B given h o → HintLies text o
-lies-of text B given h Hints.Unknown r = tt
-lies-of text B given h (Hints.Known q b) r = r .mark
+lies-of : (text : List ℕ) (B : List Word) (fam : ℕ → ℕ) (given : Word) (h : PlacedWord) (o : Hint) → HintRight text B fam given h o → HintLies text o
+lies-of text B fam given h Hints.Unknown r = tt
+lies-of text B fam given h (Hints.Known q b) r = r .mark
 
 -- the round
 module _ (text table : List ℕ) (n : ℕ) (given : Word) (s : LeastState) (a : LetterAsked text table n given s) where
@@ -231,7 +232,7 @@ module _ (text table : List ℕ) (n : ℕ) (given : Word) (s : LeastState) (a : 
       record { to = omega (arith, w .inside, t); from = omega (arith, w .within, g) }
 
   pub letter-hint : HintLies text (s .hint)
-  letter-hint = lies-of text (wordsIn text table n) given (s .word) (s .hint) (a .ready .standing .hint)
+  letter-hint = lies-of text (wordsIn text table n) (familyBy table n) given (s .word) (s .hint) (a .ready .standing .hint)
 
   pub letter-place : s .mark .at < s .mark .to → s .mark .at < length text
   letter-place h = let i = a .ready .standing .mark .inside in omega (arith, h, i)
@@ -244,12 +245,12 @@ module _ (text table : List ℕ) (n : ℕ) (given : Word) (s : LeastState) (a : 
     standing = a .ready .standing .word
 
     pub letter-writes : s .mark .to ≤ s .mark .at → (c : Source) → c ≡ firstSource (s .word)
-        → Makes text (wordsIn text table n) given s (letterPart (placedMark text (s .mark)) (placedWord text given (s .word))) (Stages.Go c (record { word = next; mark = s .mark; hint = o }))
+        → Makes text (wordsIn text table n) (familyBy table n) given s (letterPart (placedMark text (s .mark)) (placedWord text given (s .word))) (Stages.Go c (record { word = next; mark = s .mark; hint = o }))
     unfolding letterPart
     letter-writes h c ec =
         let m = part-none text (s .mark .at) (s .mark .to) h in
         rw (m, en, eo, ec)
-        (go-makes text (wordsIn text table n) given s (firstSource (s .word)) (record { word = withoutLetter (s .word); mark = s .mark; hint = hintBehind text (s .hint) x }) _ _ _
+        (go-makes text (wordsIn text table n) (familyBy table n) given s (firstSource (s .word)) (record { word = withoutLetter (s .word); mark = s .mark; hint = hintBehind text (s .hint) x }) _ _ _
         (first-written text (wordsIn text table n) given (s .word) standing letter-has)
         m
         (next-word text (wordsIn text table n) given (s .word) standing letter-has)
@@ -259,7 +260,7 @@ module _ (text table : List ℕ) (n : ℕ) (given : Word) (s : LeastState) (a : 
             word = next-fits text (wordsIn text table n) given (s .word) standing letter-has;
             low = next-low text (wordsIn text table n) given (s .word) standing letter-has (a .ready .standing .low);
             mark = a .ready .standing .mark;
-            hint = next-hint text (wordsIn text table n) given (s .word) standing letter-has (a .none) x e (s .hint) (a .ready .standing .hint);
+            hint = next-hint text (wordsIn text table n) (familyBy table n) given (s .word) standing letter-has (a .none) x e (s .hint) (a .ready .standing .hint);
           };
           lighter = next-lighter text (wordsIn text table n) given (s .word) standing letter-has;
         }))
@@ -272,13 +273,13 @@ module _ (text table : List ℕ) (n : ℕ) (given : Word) (s : LeastState) (a : 
       mark-first = part-at text (s .mark .at) (s .mark .to) 0 (omega (arith, h)) ∙ ap (λ m. getD text m 0) {x = s .mark .at + 0} {y = s .mark .at} (omega arith)
 
       pub letter-same : getD text (s .mark .at) 0 ≡ x
-          → Makes text (wordsIn text table n) given s (letterPart (placedMark text (s .mark)) (placedWord text given (s .word)))
+          → Makes text (wordsIn text table n) (familyBy table n) given s (letterPart (placedMark text (s .mark)) (placedWord text given (s .word)))
           (Stages.Go (record { given = true; from = 0; to = 0 }) (record { word = next; mark = record { at = s .mark .at + 1; to = s .mark .to }; hint = o }))
       unfolding letterPart sourceWord
       letter-same d =
           let k = a .ready .standing .mark in
           rw (some-mark, eq-eqb (getD (placedMark text (s .mark)) 0 0) (getD (placedWord text given (s .word)) 0 0) (mark-first ∙ d ∙ e), en, eo)
-          (go-makes text (wordsIn text table n) given s (record { given = true; from = 0; to = 0 })
+          (go-makes text (wordsIn text table n) (familyBy table n) given s (record { given = true; from = 0; to = 0 })
           (record { word = withoutLetter (s .word); mark = record { at = s .mark .at + 1; to = s .mark .to }; hint = hintBehind text (s .hint) x }) _ _ _
           refl
           (sym (part-drop text (s .mark .at) (s .mark .to) 1))
@@ -289,13 +290,13 @@ module _ (text table : List ℕ) (n : ℕ) (given : Word) (s : LeastState) (a : 
               word = next-fits text (wordsIn text table n) given (s .word) standing letter-has;
               low = next-low text (wordsIn text table n) given (s .word) standing letter-has (a .ready .standing .low);
               mark = record { up = omega (arith, h); inside = k .inside; short = omega (arith, k .short) };
-              hint = next-hint text (wordsIn text table n) given (s .word) standing letter-has (a .none) x e (s .hint) (a .ready .standing .hint);
+              hint = next-hint text (wordsIn text table n) (familyBy table n) given (s .word) standing letter-has (a .none) x e (s .hint) (a .ready .standing .hint);
             };
             lighter = next-lighter text (wordsIn text table n) given (s .word) standing letter-has;
           }))
 
       pub letter-none : (getD text (s .mark .at) 0 ≡ x → ⊥)
-          → Makes text (wordsIn text table n) given s (letterPart (placedMark text (s .mark)) (placedWord text given (s .word))) Stages.None
+          → Makes text (wordsIn text table n) (familyBy table n) given s (letterPart (placedMark text (s .mark)) (placedWord text given (s .word))) Stages.None
       unfolding letterPart
       letter-none d =
           rw (some-mark, ne-eqb (getD (placedMark text (s .mark)) 0 0) (getD (placedWord text given (s .word)) 0 0) (λ q. d (sym mark-first ∙ q ∙ sym e)))

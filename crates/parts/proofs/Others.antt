@@ -20,10 +20,11 @@ use Rattle.words.proofs.Searching.{none-of}
 use Rattle.overlap.specs.Pieces.{word}
 use Rattle.overlap.specs.Cuts.{len, zOf}
 use Rattle.congruence.specs.Rows.{cleanRelationPrefix}
-use Rattle.least.specs.Possible.{relationOf, possible}
+use Rattle.least.specs.Possible.{possible}
 use Rattle.least.specs.Writing.{cleanBefore, otherPart}
 use Rattle.layout.specs.Places.{endCell}
 use Rattle.layout.specs.Layout.{wordsIn, Checked}
+use Rattle.layout.specs.Families.{familyBy}
 use Rattle.layout.proofs.Placed.{row-inside}
 use Rattle.sites.specs.declared.Site.{Site}
 use Rattle.sites.specs.Sites.{siteOf, SitesInText}
@@ -148,12 +149,12 @@ module _ (text table : List ℕ) (n : ℕ) (given : Word) (s : LeastState) (i j 
               (λ z. ltb (cleanRelationPrefix (wordsIn text table n) (drop z (drop k given))) (length (wordsIn text table n))) (stands .1) m (omega (arith, b, g)))
 
           -- z is possible behind e
-          possible-behind : possible (wordsIn text table n) relationOf (part text (own .stop - l) (own .stop)) (drop (k + (own .stop - l - own .tail)) given) ≡ true
+          possible-behind : possible (wordsIn text table n) (familyBy table n) (part text (own .stop - l) (own .stop)) (drop (k + (own .stop - l - own .tail)) given) ≡ true
           possible-behind =
               let y = own-lies in
               let u = other-up in
               let a = found-fits text table n given s i k j (f .chosen) .reached (f .differs) in
-              let p = passed (wordsIn text table n) relationOf (zOf (wordsIn text table n) i) (drop k given) (own .stop - l - own .tail) (f .apart) shared quiet-places in
+              let p = passed (wordsIn text table n) (familyBy table n) (zOf (wordsIn text table n) i) (drop k given) (own .stop - l - own .tail) (f .apart) shared quiet-places in
               let d : own .tail + (own .stop - l - own .tail) ≡ own .stop - l = omega (arith, u) in
               let g : drop (own .stop - l - own .tail) (zOf (wordsIn text table n) i) ≡ part text (own .stop - l) (own .stop) =
               ap (drop (own .stop - l - own .tail)) (y .z) ∙ part-drop text (own .tail) (own .stop) (own .stop - l - own .tail) ∙ ap (λ b. part text b (own .stop)) d in
@@ -161,14 +162,14 @@ module _ (text table : List ℕ) (n : ℕ) (given : Word) (s : LeastState) (i j 
 
           other-quiet : (c : Source) → c ≡ sourceBehind z (s .mark) (z .stop - l)
               → (t : LeastState) → t ≡ restState (k + (own .stop - l - own .tail)) (record { at = 0; to = 0 }) (Hints.Known (record { at = own .stop - l; to = own .stop }) true)
-              → Makes text (wordsIn text table n) given s (otherPart (wordsIn text table n) i j (placedMark text (s .mark)) (drop k given)) (Stages.Go c t)
+              → Makes text (wordsIn text table n) (familyBy table n) given s (otherPart (wordsIn text table n) i j (placedMark text (s .mark)) (drop k given)) (Stages.Go c t)
           unfolding otherPart restState
           other-quiet c ec t et =
               let y = own-lies in
               let v = z-lies in
               let w = within in
               rw (common, e-part, stands .0, stands .1, ec, et)
-              (go-makes text (wordsIn text table n) given s (sourceBehind z (s .mark) (z .stop - l))
+              (go-makes text (wordsIn text table n) (familyBy table n) given s (sourceBehind z (s .mark) (z .stop - l))
               (record {
                 word = record { at = 0; to = 0; from = k + (own .stop - l - own .tail) };
                 mark = record { at = 0; to = 0 };
@@ -195,14 +196,14 @@ module _ (text table : List ℕ) (n : ℕ) (given : Word) (s : LeastState) (i j 
 
         other-put : x ≡ false → (c : Source) → c ≡ sourceBehind z (s .mark) (z .stop)
             → (t : LeastState) → t ≡ restState k (record { at = own .tail; to = own .stop }) (Hints.Known (record { at = own .tail; to = own .stop }) true)
-            → Makes text (wordsIn text table n) given s (otherPart (wordsIn text table n) i j (placedMark text (s .mark)) (drop k given)) (Stages.Go c t)
+            → Makes text (wordsIn text table n) (familyBy table n) given s (otherPart (wordsIn text table n) i j (placedMark text (s .mark)) (drop k given)) (Stages.Go c t)
         unfolding otherPart quiet restState
         other-put h c ec t et =
             let y = own-lies in
             let v = z-lies in
             let r = sym q ∙ h in
             rw (common, e-part, r, ec, et)
-            (go-makes text (wordsIn text table n) given s (sourceBehind z (s .mark) (z .stop))
+            (go-makes text (wordsIn text table n) (familyBy table n) given s (sourceBehind z (s .mark) (z .stop))
             (record {
               word = record { at = 0; to = 0; from = k };
               mark = record { at = own .tail; to = own .stop };
@@ -227,7 +228,7 @@ module _ (text table : List ℕ) (n : ℕ) (given : Word) (s : LeastState) (i j 
             }))
 
         pub other-made : (r : Stage) → r ≡ otherStage own z (s .mark) l k x
-            → Makes text (wordsIn text table n) given s (otherPart (wordsIn text table n) i j (placedMark text (s .mark)) (drop k given)) r
+            → Makes text (wordsIn text table n) (familyBy table n) given s (otherPart (wordsIn text table n) i j (placedMark text (s .mark)) (drop k given)) r
         unfolding otherStage
         other-made r e = rw e (⊎-elim
             (λ h. subst Made (sym (ap (otherStage own z (s .mark) l k) h)) (other-quiet h _ refl _ refl))
@@ -235,6 +236,6 @@ module _ (text table : List ℕ) (n : ℕ) (given : Word) (s : LeastState) (i j 
             (true-or-false x))
           where
             Made : Stage → Type 0
-            Made r = Makes text (wordsIn text table n) given s (otherPart (wordsIn text table n) i j (placedMark text (s .mark)) (drop k given)) r
+            Made r = Makes text (wordsIn text table n) (familyBy table n) given s (otherPart (wordsIn text table n) i j (placedMark text (s .mark)) (drop k given)) r
 
 pub ruleset others = (other-room-own, other-room, other-sites, other-cut, other-asked, other-ends, other-made, needs)

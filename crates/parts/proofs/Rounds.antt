@@ -20,10 +20,10 @@ use Rattle.overlap.specs.Cuts.{len, zlen, xylen, xyOf, zOf}
 use Rattle.overlap.proofs.Facts.{length-xy, z-bound}
 use Rattle.congruence.specs.Rows.{cleanRelationPrefix}
 use Rattle.congruence.proofs.ShapeNoPrefix.{prefix-past-tail}
-use Rattle.least.specs.Possible.{relationOf}
 use Rattle.least.specs.Writing.{letterPart, wholePart, otherPart, memberPart, writePart}
 use Rattle.layout.specs.Places.{endCell}
 use Rattle.layout.specs.Layout.{Span, wordsIn, Checked}
+use Rattle.layout.specs.Families.{familyBy}
 use Rattle.layout.proofs.Placed.{words-length, row-inside}
 use Rattle.sites.specs.declared.Site.{Site}
 use Rattle.sites.specs.Sites.{siteOf}
@@ -57,7 +57,7 @@ pub ruleset owns = (own-made, needs)
 -- what follows X and Y
 module _ (text table : List ℕ) (n : ℕ) (given : Word) (s : LeastState) (i : ℕ) (a : CleanAsked text table n given s i) where
   checked : Checked text table n
-  checked = a .ready .ready .paired .checked
+  checked = a .ready .ready .grouped .checked
 
   standing : WordFits text (wordsIn text table n) given (s .word)
   standing = a .ready .standing .word
@@ -126,26 +126,26 @@ module _ (text table : List ℕ) (n : ℕ) (given : Word) (s : LeastState) (i : 
 pub ruleset behinds = (behind-room, behind-up, behind-tail, behind-past, behind-fits, behind-found, needs)
 
 -- what is told of Z of i is known of the word behind X and Y
-hint-of-told : (text : List ℕ) (B : List Word) (given : Word) (i k : ℕ) (own : Site) → Lies text B i own → (t : Told) → ToldRight B given i k t
-    → HintRight text B given (record { at = 0; to = 0; from = k }) (hintOf own t)
+hint-of-told : (text : List ℕ) (B : List Word) (fam : ℕ → ℕ) (given : Word) (i k : ℕ) (own : Site) → Lies text B i own → (t : Told) → ToldRight B fam given i k t
+    → HintRight text B fam given (record { at = 0; to = 0; from = k }) (hintOf own t)
 unfolding hintOf
-hint-of-told text B given i k own y Tolds.Nothing r = tt
-hint-of-told text B given i k own y (Tolds.That b) r =
+hint-of-told text B fam given i k own y Tolds.Nothing r = tt
+hint-of-told text B fam given i k own y (Tolds.That b) r =
     record { bare = omega arith; mark = record { up = y .third; inside = y .inside; short = omega (arith, y .first, y .second, y .short) }; told = rw (← y .z) r }
 
 -- the part by the chosen member
 module _ (text table : List ℕ) (n : ℕ) (given : Word) (s : LeastState) (i k : ℕ) (c : Choice) (f : ChoiceFound text table n given s i k c) where
   pub member-room : endCell i < length table
-  member-room = row-inside text table n (f .found .asked .ready .ready .paired .checked .laid) i (f .found .asked .there)
+  member-room = row-inside text table n (f .found .asked .ready .ready .grouped .checked .laid) i (f .found .asked .there)
 
   pub member-none : n ≤ c .member
-      → Makes text (wordsIn text table n) given s (memberPart (wordsIn text table n) relationOf i (c .member) (placedMark text (s .mark)) (placedWord text given (s .word))) Stages.None
+      → Makes text (wordsIn text table n) (familyBy table n) given s (memberPart (wordsIn text table n) (familyBy table n) i (c .member) (placedMark text (s .mark)) (placedWord text given (s .word))) Stages.None
   unfolding memberPart
   member-none h = rw (le-leb (length (wordsIn text table n)) (c .member) (rw (words-length text table n) h)) (record { same = refl; stands = tt })
 
   module _ (own : Site) (e : own ≡ siteOf table i) where
     i-lies : Lies text (wordsIn text table n) i own
-    i-lies = site-lies text table n (f .found .asked .ready .ready .paired .checked) i (f .found .asked .there) own e
+    i-lies = site-lies text table n (f .found .asked .ready .ready .grouped .checked) i (f .found .asked .there) own e
 
     pub member-span : Span text (own .tail) (own .stop)
     member-span = record { upwards = i-lies .third; inside = i-lies .inside }
@@ -187,8 +187,8 @@ module _ (text table : List ℕ) (n : ℕ) (given : Word) (s : LeastState) (i k 
               ∙ sym (drop-drop (zlen (wordsIn text table n) i) (xylen (wordsIn text table n) i) (placedWord text given (s .word)))
               ∙ ap (drop (zlen (wordsIn text table n) i)) (f .found .rest) ∙ drop-drop (zlen (wordsIn text table n) i) k given ∙ rw z-long
 
-          pub member-wholed : (r : Stage) → Makes text (wordsIn text table n) given s (wholePart (wordsIn text table n) relationOf i (c .member) (placedMark text (s .mark)) (drop (k + (own .stop - own .tail)) given)) r
-              → Makes text (wordsIn text table n) given s (memberPart (wordsIn text table n) relationOf i (c .member) (placedMark text (s .mark)) (placedWord text given (s .word))) r
+          pub member-wholed : (r : Stage) → Makes text (wordsIn text table n) (familyBy table n) given s (wholePart (wordsIn text table n) (familyBy table n) i (c .member) (placedMark text (s .mark)) (drop (k + (own .stop - own .tail)) given)) r
+              → Makes text (wordsIn text table n) (familyBy table n) given s (memberPart (wordsIn text table n) (familyBy table n) i (c .member) (placedMark text (s .mark)) (placedWord text given (s .word))) r
           unfolding memberPart
           member-wholed r m = rw (lt-leb (length (wordsIn text table n)) (c .member) member-known, f .found .rest, starts, t, behind-word) m
 
@@ -206,7 +206,7 @@ module _ (text table : List ℕ) (n : ℕ) (given : Word) (s : LeastState) (i k 
   chosen = record { found = f .choice .found; member = f .choice .made .member; known = f .known }
 
   pub apart-room : endCell i < length table
-  apart-room = row-inside text table n (f .choice .found .asked .ready .ready .paired .checked .laid) i (f .choice .found .asked .there)
+  apart-room = row-inside text table n (f .choice .found .asked .ready .ready .grouped .checked .laid) i (f .choice .found .asked .there)
 
   module _ (q : c .member ≡ i) (own : Site) (e : own ≡ siteOf table i) where
     own-is : own ≡ siteOf table (c .member)
@@ -216,13 +216,13 @@ module _ (text table : List ℕ) (n : ℕ) (given : Word) (s : LeastState) (i k 
     apart-small = found-small text table n given s i k (c .member) chosen own own-is
 
     pub apart-own : (r : Stage) → r ≡ ownStage own (s .mark) k (c .told)
-        → Makes text (wordsIn text table n) given s (memberPart (wordsIn text table n) relationOf i (c .member) (placedMark text (s .mark)) (placedWord text given (s .word))) r
+        → Makes text (wordsIn text table n) (familyBy table n) given s (memberPart (wordsIn text table n) (familyBy table n) i (c .member) (placedMark text (s .mark)) (placedWord text given (s .word))) r
     unfolding memberPart ownStage restState
     apart-own r er =
-        let ch = f .choice .found .asked .ready .ready .paired .checked in
+        let ch = f .choice .found .asked .ready .ready .grouped .checked in
         let y = site-lies text table n ch i (f .choice .found .asked .there) own e in
         rw (lt-leb (length (wordsIn text table n)) (c .member) apart-known, f .choice .found .rest, f .apart, eq-eqb (c .member) i q, er)
-        (go-makes text (wordsIn text table n) given s (sourceBehind own (s .mark) (own .tail))
+        (go-makes text (wordsIn text table n) (familyBy table n) given s (sourceBehind own (s .mark) (own .tail))
         (record { word = record { at = 0; to = 0; from = k }; mark = record { at = 0; to = 0 }; hint = hintOf own (c .told) }) _ _ _
         (sym (found-written text table n given s i k (c .member) chosen own own-is (xyOf (wordsIn text table n) i) (own .tail) (y .xy)))
         refl
@@ -233,7 +233,7 @@ module _ (text table : List ℕ) (n : ℕ) (given : Word) (s : LeastState) (i k 
             word = bare-stands text table n ch given k (f .choice .found .within);
             low = empty-letters;
             mark = empty-mark text;
-            hint = hint-of-told text (wordsIn text table n) given i k own y (c .told) (f .choice .made .told);
+            hint = hint-of-told text (wordsIn text table n) (familyBy table n) given i k own y (c .told) (f .choice .made .told);
           };
           lighter = found-lighter text table n given s i k (c .member) chosen k (omega arith) (f .choice .found .within) (record { at = 0; to = 0; from = k }) refl (omega arith);
         }))
@@ -242,8 +242,8 @@ module _ (text table : List ℕ) (n : ℕ) (given : Word) (s : LeastState) (i k 
     pub apart-other : OtherFound text table n given s i (c .member) k
     apart-other = record { chosen = chosen; apart = f .apart; differs = q }
 
-    pub apart-othered : (r : Stage) → Makes text (wordsIn text table n) given s (otherPart (wordsIn text table n) i (c .member) (placedMark text (s .mark)) (drop k given)) r
-        → Makes text (wordsIn text table n) given s (memberPart (wordsIn text table n) relationOf i (c .member) (placedMark text (s .mark)) (placedWord text given (s .word))) r
+    pub apart-othered : (r : Stage) → Makes text (wordsIn text table n) (familyBy table n) given s (otherPart (wordsIn text table n) i (c .member) (placedMark text (s .mark)) (drop k given)) r
+        → Makes text (wordsIn text table n) (familyBy table n) given s (memberPart (wordsIn text table n) (familyBy table n) i (c .member) (placedMark text (s .mark)) (placedWord text given (s .word))) r
     unfolding memberPart
     apart-othered r m = rw (lt-leb (length (wordsIn text table n)) (c .member) apart-known, f .choice .found .rest, f .apart, ne-eqb (c .member) i q) m
 
@@ -256,12 +256,12 @@ module _ (text table : List ℕ) (n : ℕ) (given : Word) (s : LeastState) (i k 
 
   relation-some : isEmpty (placedWord text given (s .word)) ≡ false
   relation-some =
-      let y = site-lies text table n (f .asked .ready .ready .paired .checked) i (f .asked .there) (siteOf table i) refl in
+      let y = site-lies text table n (f .asked .ready .ready .grouped .checked) i (f .asked .there) (siteOf table i) refl in
       let p = prefix-length (xyOf (wordsIn text table n) i) (placedWord text given (s .word)) (clean-prefix (wordsIn text table n) (placedWord text given (s .word)) i (f .asked .clean) (y .known)) in
       let x = length-xy (wordsIn text table n) i in
       some-of (placedWord text given (s .word)) (omega (arith, p, x, y .longXY, y .first, y .second))
 
-  pub relation-made : (r : Stage) → Makes text (wordsIn text table n) given s (memberPart (wordsIn text table n) relationOf i (c .member) (placedMark text (s .mark)) (placedWord text given (s .word))) r
+  pub relation-made : (r : Stage) → Makes text (wordsIn text table n) (familyBy table n) given s (memberPart (wordsIn text table n) (familyBy table n) i (c .member) (placedMark text (s .mark)) (placedWord text given (s .word))) r
       → PartMade text table n given s r
   unfolding writePart
   relation-made r h =
@@ -298,7 +298,7 @@ module _ (text table : List ℕ) (n : ℕ) (given : Word) (s : LeastState) (a : 
 
   module _ (h : x ≡ false) where
     pub round-word : WordAsked text table n given (s .word)
-    round-word = record { checked = a .ready .paired .checked; fits = a .standing .word; some = sym e ∙ h }
+    round-word = record { checked = a .ready .grouped .checked; fits = a .standing .word; some = sym e ∙ h }
 
     word-some : isEmpty (placedWord text given (s .word)) ≡ false
     unfolding heldEmpty
@@ -319,7 +319,7 @@ module _ (text table : List ℕ) (n : ℕ) (given : Word) (s : LeastState) (a : 
       pub round-clean : i < n → CleanAsked text table n given s i
       round-clean g = record { ready = a; there = g; clean = f }
 
-      pub round-lettered : n ≤ i → (r : Stage) → Makes text (wordsIn text table n) given s (letterPart (placedMark text (s .mark)) (placedWord text given (s .word))) r → PartMade text table n given s r
+      pub round-lettered : n ≤ i → (r : Stage) → Makes text (wordsIn text table n) (familyBy table n) given s (letterPart (placedMark text (s .mark)) (placedWord text given (s .word))) r → PartMade text table n given s r
       unfolding writePart
       round-lettered g r m =
           let b = words-length text table n in

@@ -16,6 +16,7 @@ use Rattle.congruence.proofs.Heads.{Facts}
 use Rattle.congruence.proofs.ShapeNoPrefix.{no-prefix-nil, no-prefix-z}
 use Rattle.least.specs.Writing.Part.{part as writes}
 use Rattle.layout.specs.Layout.{wordsIn, Checked}
+use Rattle.layout.specs.Families.{familyBy}
 use Rattle.layout.proofs.Placed.{words-length}
 use Rattle.sites.specs.declared.Site.{Site}
 use Rattle.sites.specs.Sites.{siteOf}
@@ -89,17 +90,17 @@ pub empty-mark : (text : List ℕ) → MarkFits text (record { at = 0; to = 0 })
 empty-mark text = record { up = omega arith; inside = omega arith; short = omega arith }
 
 -- a round that goes on, by what it writes and goes on with
-pub go-makes : (text : List ℕ) (B : List Word) (given : Word) (s : LeastState) (c : Source) (t : LeastState) (w p u : Word)
-    → sourceWord text given c ≡ w → placedMark text (t .mark) ≡ p → placedWord text given (t .word) ≡ u → Goes text B given s c t → Makes text B given s (writes w p u) (Stages.Go c t)
-go-makes text B given s c t w p u e f g h = record { same = rw (e, f, g); stands = h }
+pub go-makes : (text : List ℕ) (B : List Word) (fam : ℕ → ℕ) (given : Word) (s : LeastState) (c : Source) (t : LeastState) (w p u : Word)
+    → sourceWord text given c ≡ w → placedMark text (t .mark) ≡ p → placedWord text given (t .word) ≡ u → Goes text B fam given s c t → Makes text B fam given s (writes w p u) (Stages.Go c t)
+go-makes text B fam given s c t w p u e f g h = record { same = rw (e, f, g); stands = h }
 
 -- the chosen member j, at the site z
 module _ (text table : List ℕ) (n : ℕ) (given : Word) (s : LeastState) (i k j : ℕ) (f : MemberFound text table n given s i k j) where
   pub found-checked : Checked text table n
-  found-checked = f .found .asked .ready .ready .paired .checked
+  found-checked = f .found .asked .ready .ready .grouped .checked
 
-  pub found-fits : ChosenFits (wordsIn text table n) i (placedMark text (s .mark)) (drop k given) j
-  found-fits = chosen-fits (wordsIn text table n) i (placedMark text (s .mark)) (drop k given) j (f .member) (rw (words-length text table n) (f .known))
+  pub found-fits : ChosenFits (wordsIn text table n) (familyBy table n) i (placedMark text (s .mark)) (drop k given) j
+  found-fits = chosen-fits (wordsIn text table n) (familyBy table n) i (placedMark text (s .mark)) (drop k given) j (f .member) (rw (words-length text table n) (f .known))
 
   pub mark-length : length (placedMark text (s .mark)) ≡ s .mark .to - s .mark .at
   mark-length = part-length text (s .mark .at) (s .mark .to) (f .found .asked .ready .standing .mark .inside)

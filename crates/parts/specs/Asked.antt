@@ -8,9 +8,9 @@ use Rattle.words.specs.Words.{Word, isPrefix}
 use Rattle.overlap.specs.Cuts.{xylen, zlen, zOf}
 use Rattle.congruence.specs.Rows.{cleanRelationPrefix}
 use Rattle.least.specs.Order.{houseRank}
-use Rattle.least.specs.Possible.{relationOf}
 use Rattle.least.specs.Writing.{chosenMember}
 use Rattle.layout.specs.Layout.{wordsIn}
+use Rattle.layout.specs.Families.{familyBy}
 use Rattle.sites.specs.declared.Site.{Site}
 use Rattle.moves.specs.declared.Mark.{Mark}
 use Rattle.moves.specs.State.{placedWord, placedMark}
@@ -57,7 +57,7 @@ pub record RestFound (text table : List ℕ) (n : ℕ) (given : Word) (s : Least
 -- the same, and what is told of Z of i behind X and Y is right
 pub record ToldFound (text table : List ℕ) (n : ℕ) (given : Word) (s : LeastState) (i k : ℕ) (t : Told) : Type 0 where
   pub found : RestFound text table n given s i k
-  pub told : ToldRight (wordsIn text table n) given i k t
+  pub told : ToldRight (wordsIn text table n) (familyBy table n) given i k t
 
 -- the same, and the member that the least word begins with is chosen
 pub record ChoiceFound (text table : List ℕ) (n : ℕ) (given : Word) (s : LeastState) (i k : ℕ) (c : Choice) : Type 0 where
@@ -73,7 +73,7 @@ pub record ApartFound (text table : List ℕ) (n : ℕ) (given : Word) (s : Leas
 -- the same as what is found with a clean relation prefix, and the chosen member is j
 pub record MemberFound (text table : List ℕ) (n : ℕ) (given : Word) (s : LeastState) (i k j : ℕ) : Type 0 where
   pub found : RestFound text table n given s i k
-  pub member : j ≡ chosenMember (wordsIn text table n) relationOf houseRank i (placedMark text (s .mark)) (drop k given)
+  pub member : j ≡ chosenMember (wordsIn text table n) (familyBy table n) houseRank i (placedMark text (s .mark)) (drop k given)
   pub known : j < n
 
 -- the same, and Z of i follows X and Y; it ends at place k of the given word

@@ -7,9 +7,10 @@ use lib.ListN.{drop}
 use Rattle.words.specs.Words.{Word}
 use Rattle.overlap.specs.Cuts.{zOf}
 use Rattle.least.specs.Order.{houseRank}
-use Rattle.least.specs.Possible.{relationOf, possible}
+use Rattle.least.specs.Possible.{possible}
 use Rattle.least.specs.Writing.{chosenMember}
 use Rattle.layout.specs.Layout.{wordsIn}
+use Rattle.layout.specs.Families.{familyBy}
 use Rattle.sites.specs.declared.Site.{Site}
 use Rattle.moves.specs.declared.Mark.{Mark}
 use Rattle.moves.specs.State.{placedMark}
@@ -24,19 +25,19 @@ use Rattle.parts.specs.declared.Told.the-variants as Tolds
 use Rattle.parts.specs.declared.Choice.{Choice}
 
 -- what is told of Z of relation word i and the given word from k on is what the walk gives
-abbrev pub ToldRight : List Word → Word → ℕ → ℕ → Told → Type 0
-ToldRight B given i k Tolds.Nothing = Unit {0}
-ToldRight B given i k (Tolds.That b) = possible B relationOf (zOf B i) (drop k given) ≡ b
+abbrev pub ToldRight : List Word → (ℕ → ℕ) → Word → ℕ → ℕ → Told → Type 0
+ToldRight B family given i k Tolds.Nothing = Unit {0}
+ToldRight B family given i k (Tolds.That b) = possible B family (zOf B i) (drop k given) ≡ b
 
 -- it is told that Z is not possible
 unfoldable pub deniedBy : Told → Bool
 deniedBy Tolds.Nothing = false
 deniedBy (Tolds.That b) = not b
 
--- the member of the relation of i that the least word begins with, where the given word from k on follows X and Y of i
+-- the member of i's family that the least word begins with, where the given word from k on follows X and Y of i
 pub record ChoiceMade (text table : List ℕ) (n : ℕ) (given : Word) (mark : Mark) (i k : ℕ) (c : Choice) : Type 0 where
-  pub member : c .member ≡ chosenMember (wordsIn text table n) relationOf houseRank i (placedMark text mark) (drop k given)
-  pub told : ToldRight (wordsIn text table n) given i k (c .told)
+  pub member : c .member ≡ chosenMember (wordsIn text table n) (familyBy table n) houseRank i (placedMark text mark) (drop k given)
+  pub told : ToldRight (wordsIn text table n) (familyBy table n) given i k (c .told)
 
 -- what is known of the given word from k on where something is told of the Z at s
 unfoldable pub hintOf : Site → Told → Hint

@@ -3,9 +3,10 @@
 ghost use mathlib.Core.Path.{_≡_};
 ghost use lib.ListN.{drop};
 ghost use Rattle.overlap.specs.Cuts.{zOf};
-ghost use Rattle.least.specs.Possible.{relationOf, possible};
+ghost use Rattle.least.specs.Possible.{possible};
 ghost use Rattle.least.specs.Writing.{letterPart, wholePart, otherPart, memberPart};
 ghost use Rattle.layout.specs.Layout.{wordsIn};
+ghost use Rattle.layout.specs.Families.{familyBy};
 ghost use Rattle.moves.specs.State.{placedWord, placedMark};
 ghost use Rattle.parts.specs.State.{LeastReady, Makes, PartMade};
 ghost use Rattle.parts.specs.Letters.{WordSmall, withoutLetter, firstSource, HintLies, hintBehind};
@@ -185,7 +186,7 @@ fn carry_hint(
     k: usize,
 ) -> Told
     requires { ⌜ RestFound (now text) (now table) n (now given) s i k ⌝ }
-    ensures { λ r. ⌜ ToldRight (wordsIn (now (text .entry)) (now (table .entry)) n) (now (given .entry)) i k r ⌝ }
+    ensures { λ r. ⌜ ToldRight (wordsIn (now (text .entry)) (now (table .entry)) n) (familyBy (now (table .entry)) n) (now (given .entry)) i k r ⌝ }
 {
     let hint = s.hint;
     let Hint::Known(q, b) = hint else {
@@ -209,7 +210,7 @@ fn ask_possible(
     told: Told,
 ) -> bool
     requires { ⌜ ToldFound (now text) (now table) n (now given) s i k told ⌝ }
-    ensures { λ r. ⌜ r ≡ possible (wordsIn (now (text .entry)) (now (table .entry)) n) relationOf (zOf (wordsIn (now (text .entry)) (now (table .entry)) n) i) (drop k (now (given .entry))) ⌝ }
+    ensures { λ r. ⌜ r ≡ possible (wordsIn (now (text .entry)) (now (table .entry)) n) (familyBy (now (table .entry)) n) (zOf (wordsIn (now (text .entry)) (now (table .entry)) n) i) (drop k (now (given .entry))) ⌝ }
 {
     let Told::That(b) = told else {
         let z = sites::read_site(table, i);
@@ -231,7 +232,7 @@ fn denied(told: Told) -> bool
     true
 }
 
-// The member of i's relation whose X and Y the least word begins with, where nothing is told of Z of i, or that it is possible: it is asked only where another member comes first.
+// The member of i's family whose X and Y the least word begins with, where nothing is told of Z of i, or that it is possible: it is asked only where another member comes first.
 fn choose_first(
     text: &[u16],
     table: &[u16],
@@ -256,7 +257,7 @@ fn choose_first(
     }
 }
 
-// The member of i's relation whose X and Y the least word begins with, and what is told of Z of i on the way. Where it is told that Z is not possible, no other is looked at.
+// The member of i's family whose X and Y the least word begins with, and what is told of Z of i on the way. Where it is told that Z is not possible, no other is looked at.
 fn choose_member(
     text: &[u16],
     table: &[u16],
@@ -291,10 +292,10 @@ fn write_whole(
     k: usize,
 ) -> Stage
     requires { ⌜ WholeFound (now text) (now table) n (now given) s i j k ⌝ }
-    ensures { λ r. ⌜ Makes (now (text .entry)) (wordsIn (now (text .entry)) (now (table .entry)) n) (now (given .entry)) s (wholePart (wordsIn (now (text .entry)) (now (table .entry)) n) relationOf i j (placedMark (now (text .entry)) (s .mark)) (drop k (now (given .entry)))) r ⌝ }
+    ensures { λ r. ⌜ Makes (now (text .entry)) (wordsIn (now (text .entry)) (now (table .entry)) n) (familyBy (now (table .entry)) n) (now (given .entry)) s (wholePart (wordsIn (now (text .entry)) (now (table .entry)) n) (familyBy (now (table .entry)) n) i j (placedMark (now (text .entry)) (s .mark)) (drop k (now (given .entry)))) r ⌝ }
 {
     let own = sites::read_site(table, j);
-    if members::active_behind(text, table, n, given, j, k) {
+    if kin::active_behind(text, table, n, given, j, k) {
         let source = source_behind(own, s.mark, own.tail);
         return Stage::Go(source, tail_state(own, k, Mark { at: 0, to: 0 }));
     }
@@ -347,7 +348,7 @@ fn write_other(
     k: usize,
 ) -> Stage
     requires { ⌜ OtherFound (now text) (now table) n (now given) s i j k ⌝ }
-    ensures { λ r. ⌜ Makes (now (text .entry)) (wordsIn (now (text .entry)) (now (table .entry)) n) (now (given .entry)) s (otherPart (wordsIn (now (text .entry)) (now (table .entry)) n) i j (placedMark (now (text .entry)) (s .mark)) (drop k (now (given .entry)))) r ⌝ }
+    ensures { λ r. ⌜ Makes (now (text .entry)) (wordsIn (now (text .entry)) (now (table .entry)) n) (familyBy (now (table .entry)) n) (now (given .entry)) s (otherPart (wordsIn (now (text .entry)) (now (table .entry)) n) i j (placedMark (now (text .entry)) (s .mark)) (drop k (now (given .entry)))) r ⌝ }
 {
     let own = sites::read_site(table, i);
     let z = sites::read_site(table, j);
@@ -378,7 +379,7 @@ fn write_apart(
     c: Choice,
 ) -> Stage
     requires { ⌜ ApartFound (now text) (now table) n (now given) s i k c ⌝ }
-    ensures { λ r. ⌜ Makes (now (text .entry)) (wordsIn (now (text .entry)) (now (table .entry)) n) (now (given .entry)) s (memberPart (wordsIn (now (text .entry)) (now (table .entry)) n) relationOf i (c .member) (placedMark (now (text .entry)) (s .mark)) (placedWord (now (text .entry)) (now (given .entry)) (s .word))) r ⌝ }
+    ensures { λ r. ⌜ Makes (now (text .entry)) (wordsIn (now (text .entry)) (now (table .entry)) n) (familyBy (now (table .entry)) n) (now (given .entry)) s (memberPart (wordsIn (now (text .entry)) (now (table .entry)) n) (familyBy (now (table .entry)) n) i (c .member) (placedMark (now (text .entry)) (s .mark)) (placedWord (now (text .entry)) (now (given .entry)) (s .word))) r ⌝ }
 {
     let j = c.member;
     let told = c.told;
@@ -401,7 +402,7 @@ fn write_member(
     c: Choice,
 ) -> Stage
     requires { ⌜ ChoiceFound (now text) (now table) n (now given) s i k c ⌝ }
-    ensures { λ r. ⌜ Makes (now (text .entry)) (wordsIn (now (text .entry)) (now (table .entry)) n) (now (given .entry)) s (memberPart (wordsIn (now (text .entry)) (now (table .entry)) n) relationOf i (c .member) (placedMark (now (text .entry)) (s .mark)) (placedWord (now (text .entry)) (now (given .entry)) (s .word))) r ⌝ }
+    ensures { λ r. ⌜ Makes (now (text .entry)) (wordsIn (now (text .entry)) (now (table .entry)) n) (familyBy (now (table .entry)) n) (now (given .entry)) s (memberPart (wordsIn (now (text .entry)) (now (table .entry)) n) (familyBy (now (table .entry)) n) i (c .member) (placedMark (now (text .entry)) (s .mark)) (placedWord (now (text .entry)) (now (given .entry)) (s .word))) r ⌝ }
 {
     let j = c.member;
     if n <= j {
@@ -451,7 +452,7 @@ fn write_relation(
 // The part where u has a letter and no clean relation prefix: its first letter stays.
 fn write_letter(text: &[u16], table: &[u16], n: usize, given: &[u16], s: LeastState) -> Stage
     requires { ⌜ LetterAsked (now text) (now table) n (now given) s ⌝ }
-    ensures { λ r. ⌜ Makes (now (text .entry)) (wordsIn (now (text .entry)) (now (table .entry)) n) (now (given .entry)) s (letterPart (placedMark (now (text .entry)) (s .mark)) (placedWord (now (text .entry)) (now (given .entry)) (s .word))) r ⌝ }
+    ensures { λ r. ⌜ Makes (now (text .entry)) (wordsIn (now (text .entry)) (now (table .entry)) n) (familyBy (now (table .entry)) n) (now (given .entry)) s (letterPart (placedMark (now (text .entry)) (s .mark)) (placedWord (now (text .entry)) (now (given .entry)) (s .word))) r ⌝ }
 {
     let x = moves::first_letter(text, given, s.word);
     let next = without_letter(s.word);

@@ -1,17 +1,18 @@
--- The verdict on the relation words of a text: refusal 7, refusal 8, or the cuts.
+-- The verdict on the relation words of a text: refusal 8, or the cuts.
 use Prim.Native.Nat.{ℕ, _<_, _≤_}
 use mathlib.Core.List.{List}
+use mathlib.Core.Logic.{by-cases}
 use mathlib.Core.Path.{_≡_, refl, sym, ap, _∙_, subst}
 use native.Mathlib.Omega.{arith}
+use native.Mathlib.Decide.{decLt}
 use borrow.Author.Needs.{needs}
 use borrow.Author.Tests.{lt-ltb, le-ltb}
 use lib.ListN.{length, take, replicate, length-replicate}
 use lib.Seq.{length-take-le}
+use Rattle.words.specs.Words.{Word}
 use Rattle.overlap.specs.Pieces.{C4}
 use Rattle.overlap.specs.Cuts.{firstLoose}
-use Rattle.overlap.specs.Verdict.{judge, firstRepeated}
-use Rattle.overlap.specs.Verdict.Verdict.{repeated, loose}
-use Rattle.overlap.proofs.Verdicts.{judge-accepts-iff-c4}
+use Rattle.overlap.proofs.Agree.{firstLoose-bound, firstLoose-iff-c4}
 use Rattle.layout.specs.Places.{textRoom}
 use Rattle.layout.specs.Layout.{Laid, wordsIn, startOf}
 use Rattle.layout.proofs.Placed.{words-length, start-bound}
@@ -23,22 +24,20 @@ use Rattle.loose.proofs.Lowest.{all-in-tables}
 use Rattle.cuts.specs.Cutting.{CutBy}
 use Rattle.cuts.proofs.Cutting.{cut-true, words-kept, laid-kept}
 use Rattle.pieces.specs.declared.Judged.{Judged}
-use Rattle.pieces.specs.declared.Judged.the-variants.{Accepted, Repeated, Loose}
-use Rattle.pieces.specs.Judging.{Recut, Judging, verdictOf, looseVerdict}
+use Rattle.pieces.specs.declared.Judged.the-variants.{Accepted, Loose}
+use Rattle.pieces.specs.Judging.{Recut, Judging, judgedOf}
 
 -- the answers have different names
 said : Judged → ℕ
 said Accepted = 0
-said (Repeated i) = 1
-said (Loose i) = 2
-
-accepted-not-repeated : {A : Type 0} {i : ℕ} → Accepted ≡ Repeated i → A
-unfolding said
-accepted-not-repeated e = let d = ap said e in absurd (omega (arith, d))
+said (Loose i) = 1
 
 accepted-not-loose : {A : Type 0} {i : ℕ} → Accepted ≡ Loose i → A
 unfolding said
 accepted-not-loose e = let d = ap said e in absurd (omega (arith, d))
+
+loose-number : (i k : ℕ) → Loose i ≡ Loose k → i ≡ k
+loose-number i k e = cc
 
 -- a text that ends with its last fence
 module _ (text table : List ℕ) (n : ℕ) (f : Fenced text table n) where
@@ -49,29 +48,27 @@ module _ (text table : List ℕ) (n : ℕ) (f : Fenced text table n) where
     pub whole-tables : AllInTables longest table n
     whole-tables = all-in-tables text table longest n f (m .tabled)
 
-    pub whole-loose : r < n → Judging (looseVerdict (wordsIn text table n)) text table n table (Loose r)
-    unfolding looseVerdict verdictOf
+    pub whole-loose : r < n → Judging text table n table (Loose r)
+    unfolding judgedOf
     whole-loose h =
         let e = m .lowest in
         let l = words-length text table n in
         let t = lt-ltb (firstLoose (wordsIn text table n)) (length (wordsIn text table n)) (omega (arith, e, l, h)) in
         record {
-          verdict = rw t (ap loose e);
+          verdict = rw t (ap Loose e);
           cuts = λ d. accepted-not-loose (sym d);
-          repeats = λ i d. refl;
           looses = λ i d. refl;
         }
 
-    pub whole-cut : n ≤ r → (after : List ℕ) → CutBy longest table n after → Judging (looseVerdict (wordsIn text table n)) text table n after Accepted
-    unfolding looseVerdict verdictOf
+    pub whole-cut : n ≤ r → (after : List ℕ) → CutBy longest table n after → Judging text table n after Accepted
+    unfolding judgedOf
     whole-cut h after c =
         let e = m .lowest in
         let l = words-length text table n in
         let t = le-ltb (firstLoose (wordsIn text table n)) (length (wordsIn text table n)) (omega (arith, e, l, h)) in
         record {
-          verdict = rw t refl;
+          verdict = rw t;
           cuts = λ d. record { kept = c .kept; cut = cut-true text table longest after n f (m .tabled) c };
-          repeats = λ i d. accepted-not-repeated d;
           looses = λ i d. accepted-not-loose d;
         }
 
@@ -114,45 +111,34 @@ module _ (text table : List ℕ) (n : ℕ) (f : Laid text table n) (t : ℕ) (e 
         let c = r .cut in
         record { kept = k; cut = record { xEnd = λ i h. rw w at (c .xEnd i h); zStart = λ i h. rw w at (c .zStart i h); pieces = λ i h. rw w at (c .pieces i h) } }
 
-    pub copied-judged : (after : List ℕ) (r : Judged) → Judging (looseVerdict (wordsIn (take t b) table n)) (take t b) table n after r
-        → Judging (looseVerdict (wordsIn text table n)) text table n after r
+    pub copied-judged : (after : List ℕ) (r : Judged) → Judging (take t b) table n after r
+        → Judging text table n after r
     copied-judged after r j₀ =
-        let j : Judging (looseVerdict (wordsIn (take t text) table n)) (take t text) table n after r = rw copied at j₀ in
+        let j : Judging (take t text) table n after r = rw copied at j₀ in
         record {
           verdict = rw (← whole-words text table n f t e) (j .verdict);
           cuts = λ d. whole-recut after (j .cuts d);
-          repeats = j .repeats;
           looses = j .looses;
         }
 
 pub ruleset copies = (copy-inside, copy-long, copy-narrowing, copied-inside, copied-long, copied-fenced, copied-judged, needs)
 
--- refusal 7 comes first
-module _ (text table : List ℕ) (n r : ℕ) (e : r ≡ firstRepeated (wordsIn text table n)) where
-  pub judge-repeated : r < n → Judging (judge (wordsIn text table n)) text table n table (Repeated r)
-  unfolding judge verdictOf
-  judge-repeated h =
-      let l = words-length text table n in
-      let t = lt-ltb (firstRepeated (wordsIn text table n)) (length (wordsIn text table n)) (omega (arith, e, l, h)) in
-      record {
-        verdict = rw t (ap repeated e);
-        cuts = λ d. accepted-not-repeated (sym d);
-        repeats = λ i d. refl;
-        looses = λ i d. refl;
-      }
+-- where the words are accepted, none is loose
+pub none-loose : (B : List Word) → judgedOf B ≡ Accepted → firstLoose B ≡ length B
+unfolding judgedOf
+none-loose B e =
+    let b = firstLoose-bound B in
+    by-cases (decLt (firstLoose B) (length B)) (λ h. accepted-not-loose {i = firstLoose B} (sym e ∙ rw (lt-ltb (firstLoose B) (length B) h))) (λ h. omega (arith, b, h))
 
-  pub judge-distinct : n ≤ r → (after : List ℕ) (a : Judged) → Judging (looseVerdict (wordsIn text table n)) text table n after a
-      → Judging (judge (wordsIn text table n)) text table n after a
-  unfolding judge looseVerdict
-  judge-distinct h after a j =
-      let l = words-length text table n in
-      let t = le-ltb (firstRepeated (wordsIn text table n)) (length (wordsIn text table n)) (omega (arith, e, l, h)) in
-      record { verdict = rw t (j .verdict); cuts = j .cuts; repeats = j .repeats; looses = j .looses }
-
-pub ruleset judging = (judge-repeated, judge-distinct, needs)
+-- where one is, it is the lowest
+pub lowest-loose : (B : List Word) (i : ℕ) → judgedOf B ≡ Loose i → (i < length B) × (firstLoose B ≡ i)
+unfolding judgedOf
+lowest-loose B i e = by-cases (decLt (firstLoose B) (length B))
+    (λ h. let f : firstLoose B ≡ i = loose-number (firstLoose B) i (sym (rw (lt-ltb (firstLoose B) (length B) h)) ∙ e) in (omega (arith, f, h), f))
+    (λ h. accepted-not-loose {i = i} (sym (rw (le-ltb (firstLoose B) (length B) (omega (arith, h)))) ∙ e))
 
 -- accepted words: the table that is left has them at the same places, and they meet C(4)
-module _ (text table : List ℕ) (n : ℕ) (after : List ℕ) (r : Judged) (j : Judging (judge (wordsIn text table n)) text table n after r) (e : r ≡ Accepted) (f : Laid text table n) where
+module _ (text table : List ℕ) (n : ℕ) (after : List ℕ) (r : Judged) (j : Judging text table n after r) (e : r ≡ Accepted) (f : Laid text table n) where
   pub accepted-laid : Laid text after n
   accepted-laid = laid-kept text table after n (j .cuts e .kept) f
 
@@ -160,5 +146,4 @@ module _ (text table : List ℕ) (n : ℕ) (after : List ℕ) (r : Judged) (j : 
   accepted-words = words-kept text table after n (j .cuts e .kept) (f .few)
 
   pub accepted-c4 : C4 (wordsIn text after n)
-  unfolding verdictOf
-  accepted-c4 = subst C4 (sym accepted-words) (judge-accepts-iff-c4 (wordsIn text table n) .0 (sym (j .verdict) ∙ ap verdictOf e))
+  accepted-c4 = subst C4 (sym accepted-words) (firstLoose-iff-c4 (wordsIn text table n) .0 (none-loose (wordsIn text table n) (sym (j .verdict) ∙ e)))

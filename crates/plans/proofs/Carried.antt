@@ -5,14 +5,14 @@ use mathlib.Core.List.{List, [], _∷_, _++_, append-nil}
 use mathlib.Core.Path.{_≡_, refl, sym, ap, _∙_}
 use native.Mathlib.Omega.{arith}
 use lib.ListN.{length, take, drop, length-drop}
-use lib.Seq.{length-take-le, drop-length, drop-drop, drop-append-le}
+use lib.Seq.{length-take-le, drop-length, drop-drop}
 use Rattle.words.specs.Words.{Word, isEmpty, isPrefix, commonSuffix, part}
-use Rattle.words.proofs.Prefixes.{prefix-length, prefix-split}
+use Rattle.words.proofs.Prefixes.{prefix-length}
 use Rattle.words.proofs.Tests.{cond-both}
 use Rattle.words.proofs.Parts.{part-length, part-take, part-drop}
 use Rattle.overlap.specs.Pieces.{word}
 use Rattle.overlap.specs.Cuts.{len, xylen, xOf, xyOf, zOf}
-use Rattle.congruence.specs.Rows.{choose, alike, hasRelationPrefixBetween, active, row2, row4, row5, row6, row7, row8}
+use Rattle.congruence.specs.Rows.{choose, alike, tailMember, row2, row4, row5, row6, row7, row8}
 use Rattle.congruence.specs.Rows.Next.{end, go}
 use Rattle.overlap.proofs.Facts.{length-xy}
 use Rattle.words.proofs.CommonSuffixes.{suffix-within}
@@ -23,10 +23,9 @@ use Rattle.changes.specs.declared.Plan.the-variants.{End}
 use Rattle.sites.specs.declared.Site.{Site}
 use Rattle.plans.specs.Plans.{applied, planned, Fit, MarkFit, Carries}
 use Rattle.plans.specs.Plans.PlanFit.{ends, goes}
-use Rattle.changes.specs.Changes.{cutBy, tailBy, keptTail, wholeCut, putBoth, markAfter, plan6, plan7, plan8, restAt, sharedSuffix}
+use Rattle.changes.specs.Changes.{cutBy, tailBy, putBoth, markAfter, plan6, plan7, plan8, restAt, sharedSuffix}
 use Rattle.plans.specs.RowPlans.{dropOne, markDrop, plan2, plan4, plan5, plan8Of}
 use Rattle.sites.proofs.Sites.{Lies}
-use Rattle.sites.proofs.CleanPrefixes.{between-drop}
 
 -- changes that fit
 pub cut-fits : (text : List ℕ) (B : List Word) (w : Word) (m : ℕ) → m ≤ length w → Fit text B w (cutBy m)
@@ -50,16 +49,8 @@ module _ (text : List ℕ) (B : List Word) (i : ℕ) (s : Site) (l : Lies text B
   xy-within : (w : Word) → isPrefix (xyOf B i) w ≡ true → s .tail - s .start ≤ length w
   xy-within w e = let f = prefix-length (xyOf B i) w e in let g = length-xy B i in let d = l .longXY in omega arith
 
-  whole-within : (w : Word) → isPrefix (word B i) w ≡ true → s .stop - s .start ≤ length w
+  pub whole-within : (w : Word) → isPrefix (word B i) w ≡ true → s .stop - s .start ≤ length w
   whole-within w e = let f = prefix-length (word B i) w e in let d = l .long in omega arith
-
-  -- behind X and Y stand Z and the rest
-  rest-of-whole : (w : Word) → isPrefix (word B i) w ≡ true → zOf B i ++ drop (len B i) w ≡ drop (xylen B i) w
-  rest-of-whole w e =
-      let b = l .long in
-      let d = l .longXY in
-      let t = l .third in
-      sym (drop-append-le (xylen B i) (word B i) (drop (len B i) w) (omega arith)) ∙ ap (drop (xylen B i)) (prefix-split (word B i) w e)
 
   tail-mark : (p : Word) → MarkFit text B p (tailBy s (length p))
   unfolding tailBy
@@ -102,11 +93,11 @@ module _ (text : List ℕ) (B : List Word) (i j : ℕ) (s t : Site) (li : Lies t
   tail-whole : (w : Word) → applied text (tailBy s (t .stop - t .start)) w ≡ zOf B i ++ drop (len B j) w
   tail-whole w = tail-applied text B i s li _ w ∙ ap (λ m. zOf B i ++ drop m w) (sym (lj .long))
 
-module _ (text : List ℕ) (B : List Word) (i j : ℕ) (s t : Site) (li : Lies text B i s) (lj : Lies text B j t) (u v p : Word) where
+module _ (text : List ℕ) (B : List Word) (i j : ℕ) (s t : Site) (li : Lies text B i s) (lj : Lies text B j t) (family : ℕ → ℕ) (u v p : Word) where
   -- row 5
-  pub carried5 : Fits B i j u v p 5 → Carries text B u v p (plan5 text s p) (row5 B i j u v p)
+  pub carried5 : Fits B family i j u v p 5 → Carries text B u v p (plan5 text s p) (row5 B i j u v p)
   unfolding plan5 markAfter planned row5
-  carried5 (fits5 c k f w) = mark (isPrefix p (part text (s .start) (s .middle))) refl
+  carried5 (fits5 c k o f w) = mark (isPrefix p (part text (s .start) (s .middle))) refl
     where
       e : isPrefix (xyOf B i) u ≡ true
       e = prefix-of-clean B u i (c .clean)
@@ -127,9 +118,9 @@ module _ (text : List ℕ) (B : List Word) (i j : ℕ) (s t : Site) (li : Lies t
           })
 
   -- row 6
-  pub carried6 : Fits B i j u v p 6 → Carries text B u v p (plan6 s t (length p)) (row6 B i j u v p)
+  pub carried6 : Fits B family i j u v p 6 → Carries text B u v p (plan6 s t (length p)) (row6 B i j u v p)
   unfolding plan6 planned row6
-  carried6 (fits6 c m a z f) =
+  carried6 (fits6 c m o a z f) =
       let e = prefix-of-clean B u i (c .clean) in
       record {
         same = go-same (cut-xy text B i j s t li lj u v p u) (tail-whole text B i j s t li lj u v p v) (cut-mark-all text B i j s t li lj u v p);
@@ -140,71 +131,32 @@ module _ (text : List ℕ) (B : List Word) (i j : ℕ) (s t : Site) (li : Lies t
       }
 
   -- row 7
-  pub carried7 : Fits B i j u v p 7 → Carries text B u v p (plan7 s t (length p)) (row7 B i j u v p)
+  pub carried7 : Fits B family i j u v p 7 → Carries text B u v p (plan7 s t (length p)) (row7 B i j u v p)
   unfolding plan7 planned row7
-  carried7 (fits7 c m a e f z) =
+  carried7 (fits7 c m o a e z) =
       record {
         same = go-same (tail-whole text B j i t s lj li u v p u) (cut-xy text B j i t s lj li u v p v) (cut-mark-all text B i j s t li lj u v p);
         fits =
             goes
             (tail-fits text B j t lj i s li u _ (xy-of-whole B i u e) (let a = li .third in omega arith) (whole-within text B i s li u e))
-            (cut-fits text B v _ (xy-within text B j t lj v f))
+            (cut-fits text B v _ (xy-within text B j t lj v (o .begins)))
             (cut-mark text B p (length p) (omega arith));
       }
 
-  -- row 4, by the tail that is kept and by how v begins
-  abbrev tailWord : Bool → Word
-  tailWord a = choose a (λ _. zOf B i) (λ _. zOf B j)
-
-  tail-serves : (a : Bool) (k : ℕ) (r : Site) → Lies text B k r → (w : Word) → isPrefix (word B k) w ≡ true
-      → (applied text (tailBy (cond a s t) (r .stop - r .start)) w ≡ tailWord a ++ drop (len B k) w) × Fit text B w (tailBy (cond a s t) (r .stop - r .start))
-  tail-serves true k r lk w e = (
-    tail-whole text B i k s r li lk u v p w,
-    tail-fits text B i s li k r lk w _ (xy-of-whole B k w e) (let a = lk .third in omega arith) (whole-within text B k r lk w e),
-  )
-  tail-serves false k r lk w e = (
-    tail-whole text B j k t r lj lk u v p w,
-    tail-fits text B j t lj k r lk w _ (xy-of-whole B k w e) (let a = lk .third in omega arith) (whole-within text B k r lk w e),
-  )
-
-  -- the remainder of u is active for the Z of i where an X and Y stand in u behind X and Y and before the end of the relation word
-  pub active-between : isPrefix (word B i) u ≡ true → active B (zOf B i) (drop (len B i) u) ≡ hasRelationPrefixBetween B u (s .tail - s .start) (s .stop - s .start)
-  unfolding active
-  active-between e =
-      let a = li .first in
-      let b = li .second in
-      let c = li .third in
-      let d = li .longXY in
-      let z = z-length text B i s li in
-      let m : xylen B i + length (zOf B i) ≡ s .stop - s .start = omega arith in
-      ap (λ w. hasRelationPrefixBetween B w 0 (length (zOf B i))) (rest-of-whole text B i s li u e) ∙ between-drop B u (xylen B i) (length (zOf B i)) ∙ ap (λ k. hasRelationPrefixBetween B u k (xylen B i + length (zOf B i))) d ∙ ap (hasRelationPrefixBetween B u (s .tail - s .start)) m
-
-  pub carried4 : Fits B i j u v p 4 → Carries text B u v p (plan4 s (keptTail B s t u) (wholeCut text s t v) (length p)) (row4 B i j u v p)
-  unfolding plan4 putBoth planned keptTail wholeCut row4
-  carried4 (fits4 c m e f) = rw (active-between e) (by-v (hasRelationPrefixBetween B u (s .tail - s .start) (s .stop - s .start)) (isPrefix (word B i) v) refl)
-    where
-      by-v : (a q : Bool) → isPrefix (word B i) v ≡ q → Carries text B u v p
-          (plan4 s (cond a s t) (wholeCut text s t v) (length p))
-          (go (tailWord a ++ drop (len B i) u) (tailWord a ++ choose (isPrefix (word B i) v) (λ _. drop (len B i) v) (λ _. drop (len B j) v)) [])
-      by-v a true q =
-          let x = tail-serves a i s li u e in
-          let y = tail-serves a i s li v q in
-          let w : isPrefix (part text (s .start) (s .stop)) v ≡ true = ap (λ k. isPrefix k v) (sym (li .whole)) ∙ q in
-          rw (w, q)
-          (record {
-            same = go-same (x .0) (y .0) (cut-mark-all text B i j s t li lj u v p);
-            fits = goes (x .1) (y .1) (cut-mark text B p (length p) (omega arith));
-          })
-      by-v a false q =
-          let f′ : isPrefix (word B j) v ≡ true = rw q at f in
-          let x = tail-serves a i s li u e in
-          let y = tail-serves a j t lj v f′ in
-          let w : isPrefix (part text (s .start) (s .stop)) v ≡ false = ap (λ k. isPrefix k v) (sym (li .whole)) ∙ q in
-          rw (w, q)
-          (record {
-            same = go-same (x .0) (y .0) (cut-mark-all text B i j s t li lj u v p);
-            fits = goes (x .1) (y .1) (cut-mark text B p (length p) (omega arith));
-          })
+  -- row 4, with the Z of relation word k, which lies at z
+  pub carried4 : (k : ℕ) (z : Site) → Lies text B k z → k ≡ tailMember B family i (drop (len B i) u) → Fits B family i j u v p 4
+      → Carries text B u v p (plan4 s t z (length p)) (row4 B family i j u v)
+  unfolding plan4 putBoth planned row4
+  carried4 k z lk q (fits4 c m o e f) =
+      rw (← q)
+      (record {
+        same = go-same (tail-whole text B k i z s lk li u v p u) (tail-whole text B k j z t lk lj u v p v) (cut-mark-all text B i j s t li lj u v p);
+        fits =
+            goes
+            (tail-fits text B k z lk i s li u _ (xy-of-whole B i u e) (let a = li .third in omega arith) (whole-within text B i s li u e))
+            (tail-fits text B k z lk j t lj v _ (xy-of-whole B j v f) (let a = lj .third in omega arith) (whole-within text B j t lj v f))
+            (cut-mark text B p (length p) (omega arith));
+      })
 
 sum-within : (a b c w : ℕ) → a ≤ w → b ≤ w - a → c ≡ a + b → c ≤ w
 sum-within a b c w h k e = omega arith
@@ -267,8 +219,8 @@ module _ (text : List ℕ) (B : List Word) (i : ℕ) (s : Site) (li : Lies text 
       let d = li .short in
       record { up = omega arith; inside = li .inside; short = omega arith; within = omega arith; whole = λ _. refl }
 
-module _ (text : List ℕ) (B : List Word) (i j : ℕ) (s t : Site) (li : Lies text B i s) (lj : Lies text B j t) (u v p : Word) where
-  pub shared-end : sharedSuffix text s t ≡ commonSuffix (zOf B i) (zOf B j)
+module _ (text : List ℕ) (B : List Word) (i j : ℕ) (s t : Site) (li : Lies text B i s) (lj : Lies text B j t) (family : ℕ → ℕ) (u v p : Word) where
+  shared-end : sharedSuffix text s t ≡ commonSuffix (zOf B i) (zOf B j)
   unfolding sharedSuffix
   shared-end = rw (li .z, lj .z)
 
@@ -277,9 +229,9 @@ module _ (text : List ℕ) (B : List Word) (i j : ℕ) (s t : Site) (li : Lies t
       isPrefix (head text B i s li (commonSuffix (zOf B i) (zOf B j)) (suffix-within (zOf B i) (zOf B j) .0)) (drop (xylen B i) u)
       && isPrefix (head text B j t lj (commonSuffix (zOf B i) (zOf B j)) (suffix-within (zOf B i) (zOf B j) .1)) (drop (xylen B j) v)
 
-  pub carried8 : Fits B i j u v p 8 → Carries text B u v p (plan8Of text s t (sharedSuffix text s t) u v p) (row8 B i j u v p)
+  pub carried8 : Fits B family i j u v p 8 → Carries text B u v p (plan8Of text s t (sharedSuffix text s t) u v p) (row8 B i j u v p)
   unfolding plan8Of plan8 planned row8
-  carried8 (fits8 c m a z f y) =
+  carried8 (fits8 c m o a z y) =
       rw (shared-end, head-test text B i s li l hi u, head-test text B j t lj l hj v) (by-test both8 refl)
     where
       e : isPrefix (xyOf B i) u ≡ true
@@ -305,7 +257,7 @@ module _ (text : List ℕ) (B : List Word) (i j : ℕ) (s t : Site) (li : Lies t
                 go-same (head-cut text B i s li (commonSuffix (zOf B i) (zOf B j)) hi u) (head-cut text B j t lj (commonSuffix (zOf B i) (zOf B j)) hj v)
                 (ap (part text (s .stop - commonSuffix (zOf B i) (zOf B j)) (s .stop) ++_) (drop-length p) ∙ append-nil _ ∙ sym (head-rest text B i s li (commonSuffix (zOf B i) (zOf B j)) hi));
             fits =
-                goes (head-fits text B i s li (commonSuffix (zOf B i) (zOf B j)) hi u e (r .0)) (head-fits text B j t lj (commonSuffix (zOf B i) (zOf B j)) hj v f (r .1))
+                goes (head-fits text B i s li (commonSuffix (zOf B i) (zOf B j)) hi u e (r .0)) (head-fits text B j t lj (commonSuffix (zOf B i) (zOf B j)) hj v (o .begins) (r .1))
                 (head-mark text B i s li (commonSuffix (zOf B i) (zOf B j)) hi p);
           }
       by-test false q = record { same = refl; fits = ends }
@@ -316,9 +268,9 @@ mark-drop [] = refl
 mark-drop (x ∷ p) = let e : min 1 (suc (length p)) ≡ 1 = omega arith in ap (λ k. drop k (x ∷ p)) e
 
 -- row 2
-pub carried2 : (text : List ℕ) (B : List Word) (i j : ℕ) (u v p : Word) → Fits B i j u v p 2 → Carries text B u v p (plan2 u v p) (row2 u v p)
+pub carried2 : (text : List ℕ) (B : List Word) (family : ℕ → ℕ) (i j : ℕ) (u v p : Word) → Fits B family i j u v p 2 → Carries text B u v p (plan2 u v p) (row2 u v p)
 unfolding plan2 markDrop dropOne row2 planned
-carried2 text B i j u v p (fits2 a b l) =
+carried2 text B family i j u v p (fits2 a b l) =
     rw (cond-both (alike u v) (isEmpty p || alike p u) (dropOne (min 1 (length p))) (End false)) (by-test (alike u v && (isEmpty p || alike p u)))
   where
     by-test : (q : Bool) → Carries text B u v p (cond q (dropOne (min 1 (length p))) (End false)) (choose q (λ _. go (drop 1 u) (drop 1 v) (drop 1 p)) (λ _. end false))

@@ -1,37 +1,40 @@
 -- Laws of the decision: the plan that is made for the row that is found gives the round.
 use Prim.Native.Nat.{ℕ, _-_, _<_}
-use mathlib.Core.List.{List}
+use mathlib.Core.List.{List, _++_}
 use mathlib.Core.Path.{_≡_, refl, sym, ap, _∙_, subst}
 use native.Mathlib.Omega.{arith}
 use borrow.Author.Needs.{needs}
 use mathlib.Core.Bool.{false}
-use lib.ListN.{length}
+use lib.ListN.{length, drop, length-append}
 use Rattle.words.specs.Words.{Word, part}
-use Rattle.words.specs.Relations.{other}
 use Rattle.words.proofs.Parts.{part-length}
-use Rattle.congruence.specs.Rows.{cleanRelationPrefix, otherWord, makes, row1, round}
 use Rattle.words.proofs.CommonSuffixes.{suffix-within}
-use Rattle.congruence.proofs.FirstRow.{Fits, fits, prefix-of-fits, row-eight}
-use Rattle.congruence.proofs.FirstRow.Fits.{fits2}
+use Rattle.overlap.specs.Cuts.{len}
+use Rattle.overlap.proofs.Facts.{rigid-of-c4}
+use Rattle.congruence.specs.Rows.{cleanRelationPrefix, primedWord, tailMember, makes, row1, round}
+use Rattle.congruence.proofs.FirstRow.{Fits, Member, fits, prefix-of-fits, row-eight, xy-of-whole}
+use Rattle.congruence.proofs.FirstRow.Fits.{fits1, fits2, fits3, fits4, fits5, fits6, fits7, fits8}
+use Rattle.congruence.proofs.ShapeNoPrefix.{prefix-past-tail}
+use Rattle.congruence.proofs.ShapeRows.{tail-member-there}
 use Rattle.layout.specs.Layout.{wordsIn}
+use Rattle.layout.specs.Families.{familyBy, Grouped, GroupedWord}
 use Rattle.layout.proofs.Placed.{words-length}
-use Rattle.rows.specs.declared.Found.{Found}
 use Rattle.sites.specs.declared.Site.{Site}
-use Rattle.sites.specs.Sites.{SiteInText, SitesInText}
-use Rattle.rows.specs.Pairs.{Paired, PairedWord}
-use Rattle.rows.specs.Shapes.{FoundRow}
-use Rattle.sites.proofs.Sites.{Lies}
+use Rattle.sites.specs.Sites.{siteOf, SiteInText, SitesInText}
+use Rattle.sites.proofs.Sites.{Lies, lies, site-in-text}
 use Rattle.sites.proofs.Laws.{tail-after, stop-after}
-use Rattle.rows.proofs.Laws.{own-lies, other-lies, sites-in-text}
+use Rattle.kin.proofs.Laws.{grouped-lies}
+use Rattle.rows.specs.declared.Found.{Found}
+use Rattle.rows.specs.Shapes.{FoundRow}
 use Rattle.changes.specs.declared.Plan.{Plan}
 use Rattle.changes.specs.declared.Plan.the-variants.{End}
+use Rattle.changes.specs.Asked.{SitesUpwards}
+use Rattle.changes.specs.Changes.{plan6, plan7, sharedSuffix}
 use Rattle.plans.specs.Plans.{planned, Carries, PlansRound}
 use Rattle.plans.specs.Plans.PlanFit.{ends}
-use Rattle.changes.specs.Asked.{CheckedSites, SitesUpwards}
-use Rattle.plans.specs.Asked.{BothNonEmpty, TailsHave}
-use Rattle.changes.specs.Changes.{keptTail, wholeCut, plan6, plan7, sharedSuffix}
+use Rattle.plans.specs.Asked.{HeadClear, BothNonEmpty, WholeWords, TailsHave}
 use Rattle.plans.specs.RowPlans.{plan1, plan2, plan4, plan5, plan8Of}
-use Rattle.plans.proofs.Carried.{carried2, carried4, carried5, carried6, carried7, carried8}
+use Rattle.plans.proofs.Carried.{whole-within, carried2, carried4, carried5, carried6, carried7, carried8}
 
 -- row 8
 module _ (text : List ℕ) (s t : Site) (h : SitesInText text s t) (l : ℕ) (e : l ≡ sharedSuffix text s t) where
@@ -48,27 +51,38 @@ module _ (text : List ℕ) (s t : Site) (h : SitesInText text s t) (l : ℕ) (e 
 
 pub ruleset sharings = (shared-lies, shared-made, needs)
 
+-- from row 4 on v begins with a member
+member-of-fits : {B : List Word} {family : ℕ → ℕ} {i j : ℕ} {u v p : Word} {row : ℕ} → Fits B family i j u v p row → 3 < row → Member B family v i j
+member-of-fits (fits1 e) h = absurd (omega arith)
+member-of-fits (fits2 a b l) h = absurd (omega arith)
+member-of-fits (fits3 c q) h = absurd (omega arith)
+member-of-fits (fits4 c m o q r) h = o
+member-of-fits (fits5 c m o q w) h = o
+member-of-fits (fits6 c m o a z w) h = o
+member-of-fits (fits7 c m o a w z) h = o
+member-of-fits (fits8 c m o a w z) h = o
+
 -- the arms of the decision
 module _ (text table : List ℕ) (n : ℕ) (u v p : Word) (f : Found) (h : FoundRow text table n u v p f) where
   -- what holds where the row that is found has this number
-  fits-found : (k : ℕ) → f .row ≡ k → Fits (wordsIn text table n) (cleanRelationPrefix (wordsIn text table n) u) (otherWord (wordsIn text table n) u) u v p k
+  fits-found : (k : ℕ) → f .row ≡ k → Fits (wordsIn text table n) (familyBy table n) (cleanRelationPrefix (wordsIn text table n) u) (primedWord (wordsIn text table n) (familyBy table n) u v) u v p k
   fits-found k e =
-      subst (Fits (wordsIn text table n) (cleanRelationPrefix (wordsIn text table n) u) (otherWord (wordsIn text table n) u) u v p) (sym (h .number) ∙ e) (fits (wordsIn text table n) u v p)
+      subst (Fits (wordsIn text table n) (familyBy table n) (cleanRelationPrefix (wordsIn text table n) u) (primedWord (wordsIn text table n) (familyBy table n) u v) u v p) (sym (h .number) ∙ e) (fits (wordsIn text table n) (familyBy table n) u v p)
 
   pub found-some : f .row ≡ 2 → BothNonEmpty u v
   found-some e = some (fits-found 2 e)
     where
-      some : Fits (wordsIn text table n) (cleanRelationPrefix (wordsIn text table n) u) (otherWord (wordsIn text table n) u) u v p 2 → BothNonEmpty u v
+      some : Fits (wordsIn text table n) (familyBy table n) (cleanRelationPrefix (wordsIn text table n) u) (primedWord (wordsIn text table n) (familyBy table n) u v) u v p 2 → BothNonEmpty u v
       some (fits2 a b l) = record { someU = a; someV = b }
 
   -- a plan that carries what the row makes gives the round
   by-row : (k : ℕ) → f .row ≡ k → (r : Plan)
-      → Carries text (wordsIn text table n) u v p r (makes (wordsIn text table n) (cleanRelationPrefix (wordsIn text table n) u) (otherWord (wordsIn text table n) u) u v p k)
+      → Carries text (wordsIn text table n) u v p r (makes (wordsIn text table n) (familyBy table n) (cleanRelationPrefix (wordsIn text table n) u) (primedWord (wordsIn text table n) (familyBy table n) u v) u v p k)
       → PlansRound text table n u v p r
   unfolding round
   by-row k e r q =
       record {
-        same = q .same ∙ ap (makes (wordsIn text table n) (cleanRelationPrefix (wordsIn text table n) u) (otherWord (wordsIn text table n) u) u v p) (sym e ∙ h .number);
+        same = q .same ∙ ap (makes (wordsIn text table n) (familyBy table n) (cleanRelationPrefix (wordsIn text table n) u) (primedWord (wordsIn text table n) (familyBy table n) u v) u v p) (sym e ∙ h .number);
         fits = q .fits;
       }
 
@@ -79,78 +93,122 @@ module _ (text table : List ℕ) (n : ℕ) (u v p : Word) (f : Found) (h : Found
   pub by2 : (r : Plan) → f .row ≡ 2 → r ≡ plan2 u v p → PlansRound text table n u v p r
   unfolding makes
   by2 r e g =
-      by-row 2 e r (rw g (carried2 text (wordsIn text table n) (cleanRelationPrefix (wordsIn text table n) u) (otherWord (wordsIn text table n) u) u v p (fits-found 2 e)))
+      by-row 2 e r (rw g (carried2 text (wordsIn text table n) (familyBy table n) (cleanRelationPrefix (wordsIn text table n) u) (primedWord (wordsIn text table n) (familyBy table n) u v) u v p (fits-found 2 e)))
 
   pub by3 : f .row ≡ 3 → PlansRound text table n u v p (End false)
   unfolding makes planned
   by3 e = by-row 3 e (End false) (record { same = refl; fits = ends })
 
-  module _ (c : Paired text table n) where
-    -- from row 3 on both relation words lie in the text
-    prefix-there : (k : ℕ) → f .row ≡ k → 2 < k → PairedWord text table n (cleanRelationPrefix (wordsIn text table n) u)
-    prefix-there k e l =
-        let a = prefix-of-fits (fits-found k e) l in
-        let t = a .there in
+  module _ (c : Grouped text table n) where
+    -- from row 4 on both relation words lie in the text
+    own-word : (k : ℕ) → f .row ≡ k → 3 < k → GroupedWord text table n (cleanRelationPrefix (wordsIn text table n) u)
+    own-word k e l =
+        let t = prefix-of-fits (fits-found k e) (omega arith) .there in
         let b = words-length text table n in
-        record { paired = c; there = omega arith }
+        record { grouped = c; there = omega (arith, t, b) }
 
-    found-sites : (k : ℕ) → f .row ≡ k → 2 < k → SitesInText text (f .own) (f .other)
-    found-sites k e l = rw (h .own (omega arith), h .other (omega arith)) (sites-in-text text table n (cleanRelationPrefix (wordsIn text table n) u) (prefix-there k e l))
+    member-word : (k : ℕ) → f .row ≡ k → 3 < k → GroupedWord text table n (primedWord (wordsIn text table n) (familyBy table n) u v)
+    member-word k e l =
+        let t = member-of-fits (fits-found k e) l .there in
+        let b = words-length text table n in
+        record { grouped = c; there = omega (arith, t, b) }
 
-    lies-own : (k : ℕ) → f .row ≡ k → 2 < k → Lies text (wordsIn text table n) (cleanRelationPrefix (wordsIn text table n) u) (f .own)
-    lies-own k e l = rw (h .own (omega arith)) (own-lies text table n (cleanRelationPrefix (wordsIn text table n) u) (prefix-there k e l))
+    lies-own : (k : ℕ) → f .row ≡ k → 3 < k → Lies text (wordsIn text table n) (cleanRelationPrefix (wordsIn text table n) u) (f .own)
+    lies-own k e l = grouped-lies text table n (cleanRelationPrefix (wordsIn text table n) u) (own-word k e l) (f .own) (h .own (omega arith))
 
-    lies-other : (k : ℕ) → f .row ≡ k → 2 < k → Lies text (wordsIn text table n) (otherWord (wordsIn text table n) u) (f .other)
-    lies-other k e l = rw (h .other (omega arith)) (other-lies text table n (cleanRelationPrefix (wordsIn text table n) u) (prefix-there k e l))
+    lies-member : (k : ℕ) → f .row ≡ k → 3 < k → Lies text (wordsIn text table n) (primedWord (wordsIn text table n) (familyBy table n) u v) (f .member)
+    lies-member k e l = grouped-lies text table n (primedWord (wordsIn text table n) (familyBy table n) u v) (member-word k e l) (f .member) (h .member (omega arith))
 
-    sites-upwards : SitesInText text (f .own) (f .other) → SitesUpwards (f .own) (f .other)
+    found-sites : (k : ℕ) → f .row ≡ k → 3 < k → SitesInText text (f .own) (f .member)
+    found-sites k e l =
+        record {
+          own = site-in-text text (wordsIn text table n) (cleanRelationPrefix (wordsIn text table n) u) (f .own) (lies-own k e l);
+          other = site-in-text text (wordsIn text table n) (primedWord (wordsIn text table n) (familyBy table n) u v) (f .member) (lies-member k e l);
+        }
+
+    sites-upwards : SitesInText text (f .own) (f .member) → SitesUpwards (f .own) (f .member)
     sites-upwards m =
         record {
           ownXY = tail-after text (f .own) (m .own);
           own = stop-after text (f .own) (m .own);
-          otherXY = tail-after text (f .other) (m .other);
-          other = stop-after text (f .other) (m .other);
+          otherXY = tail-after text (f .member) (m .other);
+          other = stop-after text (f .member) (m .other);
         }
-
-    pub row4-sites : f .row ≡ 4 → CheckedSites text table n (f .own) (f .other)
-    row4-sites e = record { checked = c .checked; sites = found-sites 4 e (omega arith) }
 
     pub row5-site : f .row ≡ 5 → SiteInText text (f .own)
     row5-site e = found-sites 5 e (omega arith) .own
 
-    pub row6-sites : f .row ≡ 6 → SitesUpwards (f .own) (f .other)
+    pub row6-sites : f .row ≡ 6 → SitesUpwards (f .own) (f .member)
     row6-sites e = sites-upwards (found-sites 6 e (omega arith))
 
-    pub row7-sites : f .row ≡ 7 → SitesUpwards (f .own) (f .other)
+    pub row7-sites : f .row ≡ 7 → SitesUpwards (f .own) (f .member)
     row7-sites e = sites-upwards (found-sites 7 e (omega arith))
 
     module _ (r : Plan) where
-      pub by4 : f .row ≡ 4 → r ≡ plan4 (f .own) (keptTail (wordsIn text table n) (f .own) (f .other) u) (wholeCut text (f .own) (f .other) v) (length p) → PlansRound text table n u v p r
+      pub by4 : f .row ≡ 4
+          → r ≡ plan4 (f .own) (f .member) (siteOf table (tailMember (wordsIn text table n) (familyBy table n) (f .word) (drop (f .own .stop - f .own .start) u))) (length p)
+          → PlansRound text table n u v p r
       unfolding makes
-      by4 e g = by-row 4 e r (rw g (carried4 text (wordsIn text table n) _ _ (f .own) (f .other) (lies-own 4 e (omega arith)) (lies-other 4 e (omega arith)) u v p (fits-found 4 e)))
+      by4 e g =
+          let B = wordsIn text table n in
+          let F = familyBy table n in
+          let lo = lies-own 4 e (omega arith) in
+          let w = own-word 4 e (omega arith) .there in
+          let b = words-length text table n in
+          let k = tailMember B F (f .word) (drop (f .own .stop - f .own .start) u) in
+          let q : k ≡ tailMember B F (cleanRelationPrefix B u) (drop (len B (cleanRelationPrefix B u)) u) = rw (h .word (omega arith), lo .long) in
+          let t = tail-member-there B (rigid-of-c4 B (c .checked .accepted)) F (f .word) (drop (f .own .stop - f .own .start) u) (let d = h .word (omega arith) in omega (arith, b, w, d)) in
+          by-row 4 e r (rw g (carried4 text B _ _ (f .own) (f .member) lo (lies-member 4 e (omega arith)) F u v p k (siteOf table k) (lies text table n (c .checked) k (omega (arith, b, t))) q (fits-found 4 e)))
 
       pub by5 : f .row ≡ 5 → r ≡ plan5 text (f .own) p → PlansRound text table n u v p r
       unfolding makes
-      by5 e g = by-row 5 e r (rw g (carried5 text (wordsIn text table n) _ _ (f .own) (f .other) (lies-own 5 e (omega arith)) (lies-other 5 e (omega arith)) u v p (fits-found 5 e)))
+      by5 e g = by-row 5 e r (rw g (carried5 text (wordsIn text table n) _ _ (f .own) (f .member) (lies-own 5 e (omega arith)) (lies-member 5 e (omega arith)) (familyBy table n) u v p (fits-found 5 e)))
 
-      pub by6 : f .row ≡ 6 → r ≡ plan6 (f .own) (f .other) (length p) → PlansRound text table n u v p r
+      pub by6 : f .row ≡ 6 → r ≡ plan6 (f .own) (f .member) (length p) → PlansRound text table n u v p r
       unfolding makes
-      by6 e g = by-row 6 e r (rw g (carried6 text (wordsIn text table n) _ _ (f .own) (f .other) (lies-own 6 e (omega arith)) (lies-other 6 e (omega arith)) u v p (fits-found 6 e)))
+      by6 e g = by-row 6 e r (rw g (carried6 text (wordsIn text table n) _ _ (f .own) (f .member) (lies-own 6 e (omega arith)) (lies-member 6 e (omega arith)) (familyBy table n) u v p (fits-found 6 e)))
 
-      pub by7 : f .row ≡ 7 → r ≡ plan7 (f .own) (f .other) (length p) → PlansRound text table n u v p r
+      pub by7 : f .row ≡ 7 → r ≡ plan7 (f .own) (f .member) (length p) → PlansRound text table n u v p r
       unfolding makes
-      by7 e g = by-row 7 e r (rw g (carried7 text (wordsIn text table n) _ _ (f .own) (f .other) (lies-own 7 e (omega arith)) (lies-other 7 e (omega arith)) u v p (fits-found 7 e)))
+      by7 e g = by-row 7 e r (rw g (carried7 text (wordsIn text table n) _ _ (f .own) (f .member) (lies-own 7 e (omega arith)) (lies-member 7 e (omega arith)) (familyBy table n) u v p (fits-found 7 e)))
 
     -- the last arm: a row that is none of the others
     module _ (h1 : f .row ≡ 1 → ⊥) (h2 : f .row ≡ 2 → ⊥) (h3 : f .row ≡ 3 → ⊥) (h4 : f .row ≡ 4 → ⊥) (h5 : f .row ≡ 5 → ⊥) (h6 : f .row ≡ 6 → ⊥) (h7 : f .row ≡ 7 → ⊥) where
       last : f .row ≡ 8
       last = row-eight (fits-found (f .row) refl) h1 h2 h3 h4 h5 h6 h7
 
-      pub row8-sites : SitesInText text (f .own) (f .other)
+      pub row8-sites : SitesInText text (f .own) (f .member)
       row8-sites = found-sites 8 last (omega arith)
 
-      pub by8 : (r : Plan) → r ≡ plan8Of text (f .own) (f .other) (sharedSuffix text (f .own) (f .other)) u v p → PlansRound text table n u v p r
+      pub by8 : (r : Plan) → r ≡ plan8Of text (f .own) (f .member) (sharedSuffix text (f .own) (f .member)) u v p → PlansRound text table n u v p r
       unfolding makes
-      by8 r g = by-row 8 last r (rw g (carried8 text (wordsIn text table n) _ _ (f .own) (f .other) (lies-own 8 last (omega arith)) (lies-other 8 last (omega arith)) u v p (fits-found 8 last)))
+      by8 r g = by-row 8 last r (rw g (carried8 text (wordsIn text table n) _ _ (f .own) (f .member) (lies-own 8 last (omega arith)) (lies-member 8 last (omega arith)) (familyBy table n) u v p (fits-found 8 last)))
 
-pub ruleset decisions = (by1, by2, by3, by4, by5, by6, by7, by8, found-some, row4-sites, row5-site, row6-sites, row7-sites, row8-sites, needs)
+-- what is asked of the head part
+module _ (text table : List ℕ) (n : ℕ) (ua : Word) (c : HeadClear text table n ua) where
+  pub grouped-of-clear : Grouped text table n
+  grouped-of-clear = c .grouped
+
+  -- row 4: X and Y reach past the head part, so that the rest behind the relation word is in the second slice
+  pub row4-words : (ub v p : Word) (f : Found) → FoundRow text table n (ua ++ ub) v p f → f .row ≡ 4 → WholeWords text table n (f .word) (f .own) (f .member) ua ub
+  row4-words ub v p f h e = words (fits-found text table n (ua ++ ub) v p f h 4 e)
+    where
+      words : Fits (wordsIn text table n) (familyBy table n) (cleanRelationPrefix (wordsIn text table n) (ua ++ ub)) (primedWord (wordsIn text table n) (familyBy table n) (ua ++ ub) v) (ua ++ ub) v p 4
+          → WholeWords text table n (f .word) (f .own) (f .member) ua ub
+      words (fits4 k m o q r) =
+          let i = cleanRelationPrefix (wordsIn text table n) (ua ++ ub) in
+          let lo = lies-own text table n (ua ++ ub) v p f h (c .grouped) 4 e (omega arith) in
+          let lm = lies-member text table n (ua ++ ub) v p f h (c .grouped) 4 e (omega arith) in
+          let w = own-word text table n (ua ++ ub) v p f h (c .grouped) 4 e (omega arith) in
+          let a = prefix-past-tail (wordsIn text table n) (rigid-of-c4 (wordsIn text table n) (c .grouped .checked .accepted)) ua ub i (c .clear) (k .there) (xy-of-whole (wordsIn text table n) i (ua ++ ub) q) in
+          let b = whole-within text (wordsIn text table n) i (f .own) lo (ua ++ ub) q in
+          let d = length-append ua ub in
+          record {
+            word = rw (h .word (omega arith)) w;
+            own = stop-after text (f .own) (site-in-text text (wordsIn text table n) i (f .own) lo);
+            member = stop-after text (f .member) (site-in-text text (wordsIn text table n) _ (f .member) lm);
+            past = omega (arith, a, lo .longXY, lo .third);
+            within = omega (arith, b, d);
+          }
+
+pub ruleset decisions = (by1, by2, by3, by4, by5, by6, by7, by8, found-some, row4-words, grouped-of-clear, row5-site, row6-sites, row7-sites, row8-sites, needs)

@@ -11,6 +11,7 @@ use Rattle.overlap.proofs.Facts.{rigid-of-c4}
 use Rattle.congruence.specs.Rows.{alike}
 use Rattle.congruence.proofs.Drops.{BeginsNone, round-drops}
 use Rattle.layout.specs.Layout.{wordsIn, Checked}
+use Rattle.layout.specs.Families.{familyBy}
 use Rattle.plans.specs.Plans.{planned, PlansRound}
 use Rattle.plans.specs.Plans.PlanFit.{goes}
 use Rattle.plans.specs.RowPlans.{dropOne}
@@ -25,6 +26,6 @@ drop-plan text table n c u v p a b e k none m q =
     record {
       same =
           go-same (cut-applied text 1 u) (cut-applied text 1 v) (cut-applied text m p ∙ ap (λ k. drop k p) q ∙ mark-drop p)
-          ∙ sym (round-drops (wordsIn text table n) (rigid-of-c4 (wordsIn text table n) (c .accepted)) u none v p a b e k);
+          ∙ sym (round-drops (wordsIn text table n) (rigid-of-c4 (wordsIn text table n) (c .accepted)) u none (familyBy table n) v p a b e k);
       fits = goes (cut-fits text (wordsIn text table n) u 1 (omega arith)) (cut-fits text (wordsIn text table n) v 1 (omega arith)) (cut-mark text (wordsIn text table n) p m (omega arith));
     }

@@ -1,5 +1,5 @@
 -- A law for each way that the functions of the rows can go.
-use Prim.Native.Nat.{ℕ, suc, _+_, _-_, _<_, min}
+use Prim.Native.Nat.{ℕ, suc, _+_, _-_, _≤_, _<_, min}
 use mathlib.Core.Bool.{Bool, true, false}
 use mathlib.Core.List.{List, [], _∷_, _++_}
 use mathlib.Core.Path.{_≡_, refl, ap}
@@ -7,19 +7,29 @@ use native.Mathlib.Omega.{arith}
 use borrow.Author.Needs.{needs}
 use borrow.Author.Tests.{eq-eqb, ne-eqb}
 use lib.Dec.{eqb}
-use lib.ListN.{length, getD, length-append}
+use lib.ListN.{length, getD, drop, length-append}
 use Rattle.words.specs.Words.{Word, isEmpty}
+use Rattle.words.proofs.Lists.{drop-past}
+use Rattle.overlap.proofs.Facts.{rigid-of-c4}
+use Rattle.congruence.specs.Rows.{tailMember}
+use Rattle.congruence.proofs.ShapeRows.{tail-member-there}
+use Rattle.layout.specs.Places.{endCell}
+use Rattle.layout.specs.Layout.{wordsIn}
+use Rattle.layout.specs.Families.{familyBy}
+use Rattle.layout.proofs.Placed.{words-length}
 use Rattle.sites.specs.declared.Site.{Site}
+use Rattle.sites.specs.Sites.{siteOf}
+use Rattle.kin.specs.Asked.{RestAsked}
+use Rattle.kin.proofs.Laws.{grouped-room}
 use Rattle.changes.specs.declared.Change.{Change}
 use Rattle.changes.specs.declared.Plan.{Plan}
 use Rattle.changes.specs.declared.Plan.the-variants.{End, Go}
 use Rattle.changes.specs.Asked.{TailHas, SitesHave}
-use Rattle.changes.specs.Changes.{cutBy, keptTail, wholeCut, putBoth, markAfter, restAt, plan8}
-use Rattle.plans.specs.Asked.{BothNonEmpty, TailsHave}
+use Rattle.changes.specs.Changes.{cutBy, putBoth, markAfter, restAt, plan8}
+use Rattle.plans.specs.Asked.{BothNonEmpty, WholeWords, TailsHave}
 use Rattle.plans.specs.RowPlans.{plan1, dropOne, markDrop, plan2, plan4, plan5, plan8Of}
 use Rattle.sites.proofs.Laws.{tail-after}
 use Rattle.rows.proofs.Laws.{empty-right}
-use Rattle.changes.proofs.Laws.{sites-of-checked, stop-of-sites}
 
 -- plans by their changes
 module _ (c d : Change) where
@@ -89,12 +99,35 @@ some-right u a b h = let s = h .someV in let l = length-append a b in omega arit
 pub ruleset letterDrops = (drop-unlike, drop-like, some-left, some-right, needs)
 
 -- row 4
-pub replace-made : (text : List ℕ) (B : List Word) (s t : Site) (u v : Word) (k : ℕ) (z : Site) (m : ℕ) (r : Plan) → z ≡ keptTail B s t u → m ≡ wholeCut text s t v
-    → r ≡ putBoth (s .stop - s .start) z m k → r ≡ plan4 s (keptTail B s t u) (wholeCut text s t v) k
-unfolding plan4
-replace-made text B s t u v k z m r e f g = rw (← e, ← f) g
+module _ (text table : List ℕ) (n i : ℕ) (s t : Site) (ua ub : Word) (h : WholeWords text table n i s t ua ub) where
+  pub whole-rest : RestAsked text table n ub i (s .stop - s .start - length ua)
+  whole-rest = record { word = h .word; within = h .within }
 
-pub ruleset replacements = (sites-of-checked, stop-of-sites, replace-made, needs)
+  pub whole-own : s .start ≤ s .stop
+  whole-own = h .own
+
+  pub whole-member : t .start ≤ t .stop
+  whole-member = h .member
+
+  pub whole-past : length ua ≤ s .stop - s .start
+  whole-past = h .past
+
+  module _ (j : ℕ) (e : j ≡ tailMember (wordsIn text table n) (familyBy table n) i (drop (s .stop - s .start - length ua) ub)) where
+    pub tail-room : endCell j < length table
+    tail-room =
+        let B = wordsIn text table n in
+        let b = words-length text table n in
+        let t = h .word .there in
+        let a = tail-member-there B (rigid-of-c4 B (h .word .grouped .checked .accepted)) (familyBy table n) i (drop (s .stop - s .start - length ua) ub) (omega (arith, b, t)) in
+        grouped-room text table n j (record { grouped = h .word .grouped; there = omega (arith, a, b, e) })
+
+    -- the rest of u is in the second slice
+    pub replace-made : (z : Site) → z ≡ siteOf table j → (k : ℕ) (r : Plan) → r ≡ putBoth (s .stop - s .start) z (t .stop - t .start) k
+        → r ≡ plan4 s t (siteOf table (tailMember (wordsIn text table n) (familyBy table n) i (drop (s .stop - s .start) (ua ++ ub)))) k
+    unfolding plan4
+    replace-made z ez k r f = rw (drop-past ua ub (s .stop - s .start) (h .past), ← e, ← ez) f
+
+pub ruleset replacements = (whole-rest, whole-own, whole-member, whole-past, tail-room, replace-made, needs)
 
 -- row 8
 module _ (text : List ℕ) (s t : Site) (l : ℕ) (h : TailsHave text s t l) where

@@ -9,6 +9,7 @@ use Rattle.overlap.specs.Cuts.{xylen, xyOf, zOf}
 use Rattle.congruence.specs.Rows.{Next, round}
 use Rattle.congruence.specs.Rows.Next.{end, go}
 use Rattle.layout.specs.Layout.{wordsIn}
+use Rattle.layout.specs.Families.{familyBy}
 use Rattle.changes.specs.declared.Change.{Change}
 use Rattle.changes.specs.declared.Plan.{Plan}
 use Rattle.changes.specs.declared.Plan.the-variants.{End, Go}
@@ -60,5 +61,5 @@ pub record Carries (text : List ℕ) (B : List Word) (u v p : Word) (plan : Plan
 
 -- a plan for u, v and p: it gives the round, and its changes fit
 pub record PlansRound (text table : List ℕ) (n : ℕ) (u v p : Word) (plan : Plan) : Type 0 where
-  pub same : planned text u v p plan ≡ round (wordsIn text table n) u v p
+  pub same : planned text u v p plan ≡ round (wordsIn text table n) (familyBy table n) u v p
   pub fits : PlanFit text (wordsIn text table n) u v p plan

@@ -1,4 +1,4 @@
--- The plan that each row makes, by the sites of the clean relation prefix of u and of the other word of its relation. Those of rows 6 and 7 are made by positions alone (`plan6` and `plan7` of `changes`).
+-- The plan that each row makes, by the sites of the clean relation prefix of u and of the member of its family that v begins with. Those of rows 6 and 7 are made by positions alone (`plan6` and `plan7` of `changes`).
 use Prim.Native.Nat.{ℕ, _-_, min}
 use mathlib.Core.Bool.{false, cond, _&&_, _||_}
 use mathlib.Core.List.{List}
@@ -27,9 +27,9 @@ markDrop x p = cond (isEmpty p || eqb (getD p 0 0) x) (dropOne (min 1 (length p)
 unfoldable pub plan2 : Word → Word → Word → Plan
 plan2 u v p = cond (alike u v) (markDrop (getD u 0 0) p) (End false)
 
--- row 4
-unfoldable pub plan4 : Site → Site → ℕ → ℕ → Plan
-plan4 s z m k = putBoth (s .stop - s .start) z m k
+-- row 4, with the tail at z
+unfoldable pub plan4 : Site → Site → Site → ℕ → Plan
+plan4 s t z k = putBoth (s .stop - s .start) z (t .stop - t .start) k
 
 -- row 5
 unfoldable pub plan5 : List ℕ → Site → Word → Plan

@@ -2,14 +2,16 @@
 // A word is two slices, a head part and what follows it.
 
 ghost use mathlib.Core.Path.{_≡_};
+ghost use Prim.Native.Nat.{_-_};
 ghost use mathlib.Core.List.{_++_};
+ghost use lib.ListN.{drop};
+ghost use Rattle.congruence.specs.Rows.{tailMember};
 ghost use Rattle.layout.specs.Layout.{wordsIn};
-ghost use Rattle.sites.specs.Sites.{SiteInText, SitesInText};
-ghost use Rattle.rows.specs.Pairs.{Paired};
-ghost use Rattle.changes.specs.Asked.{CheckedSites};
-ghost use Rattle.changes.specs.Changes.{keptTail, wholeCut, sharedSuffix};
+ghost use Rattle.layout.specs.Families.{familyBy};
+ghost use Rattle.sites.specs.Sites.{siteOf, SiteInText, SitesInText};
+ghost use Rattle.changes.specs.Changes.{sharedSuffix};
 ghost use Rattle.plans.specs.Plans.{PlansRound};
-ghost use Rattle.plans.specs.Asked.{BothNonEmpty, TailsHave};
+ghost use Rattle.plans.specs.Asked.{HeadClear, BothNonEmpty, WholeWords, TailsHave};
 ghost use Rattle.plans.specs.RowPlans.{plan1, dropOne, markDrop, plan2, plan4, plan5, plan8Of};
 pub use changes::Change;
 pub use changes::Plan;
@@ -62,25 +64,24 @@ fn drop_letters(ua: &[u16], ub: &[u16], va: &[u16], vb: &[u16], p: &[u16]) -> Pl
     Plan::End(false)
 }
 
-// Row 4.
+// Row 4, where relation word i lies at s and begins u, and the member at t begins v: the tail of a member takes the place of both. The rest of u is in ub.
 fn replace_words(
     text: &[u16],
     table: &[u16],
     n: usize,
+    i: usize,
     s: Site,
     t: Site,
     ua: &[u16],
     ub: &[u16],
-    va: &[u16],
-    vb: &[u16],
     k: usize,
 ) -> Plan
-    requires { ⌜ CheckedSites (now text) (now table) n s t ⌝ }
-    ensures { λ r. ⌜ r ≡ plan4 s (keptTail (wordsIn (now (text .entry)) (now (table .entry)) n) s t (now (ua .entry) ++ now (ub .entry))) (wholeCut (now (text .entry)) s t (now (va .entry) ++ now (vb .entry))) k ⌝ }
+    requires { ⌜ WholeWords (now text) (now table) n i s t (now ua) (now ub) ⌝ }
+    ensures { λ r. ⌜ r ≡ plan4 s t (siteOf (now (table .entry)) (tailMember (wordsIn (now (text .entry)) (now (table .entry)) n) (familyBy (now (table .entry)) n) i (drop (s .stop - s .start) (now (ua .entry) ++ now (ub .entry))))) k ⌝ }
 {
-    let z = changes::kept_tail(text, table, n, s, t, ua, ub);
-    let m = changes::whole_cut(text, s, t, va, vb);
-    changes::put_both(s.stop - s.start, z, m, k)
+    let m = s.stop - s.start;
+    let j = kin::tail_member(text, table, n, ub, i, m - ua.len());
+    changes::put_both(m, sites::read_site(table, j), t.stop - t.start, k)
 }
 
 // Row 5.
@@ -135,7 +136,7 @@ fn cut_ends(
     cut_common(text, s, t, l, ua, ub, va, vb, p)
 }
 
-// One round: the plan of what the rows make of u, v and p.
+// One round: the plan of what the rows make of u, v and p. No X and Y stands in the head part of u, so that the rest behind a relation word is in what follows it.
 pub fn decide(
     text: &[u16],
     table: &[u16],
@@ -146,18 +147,18 @@ pub fn decide(
     vb: &[u16],
     p: &[u16],
 ) -> Plan
-    requires { ⌜ Paired (now text) (now table) n ⌝ }
+    requires { ⌜ HeadClear (now text) (now table) n (now ua) ⌝ }
     ensures { λ r. ⌜ PlansRound (now (text .entry)) (now (table .entry)) n (now (ua .entry) ++ now (ub .entry)) (now (va .entry) ++ now (vb .entry)) (now (p .entry)) r ⌝ }
 {
     let found = rows::find_row(text, table, n, ua, ub, va, vb, p);
     let row = found.row;
     let s = found.own;
-    let t = found.other;
+    let t = found.member;
     match row {
         1 => finish(ua, ub, va, vb, p),
         2 => drop_letters(ua, ub, va, vb, p),
         3 => Plan::End(false),
-        4 => replace_words(text, table, n, s, t, ua, ub, va, vb, p.len()),
+        4 => replace_words(text, table, n, found.word, s, t, ua, ub, p.len()),
         5 => cut_prefixes(text, s, p),
         6 => changes::put_on_v(s, t, p.len()),
         7 => changes::put_on_u(s, t, p.len()),

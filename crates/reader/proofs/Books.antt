@@ -1,13 +1,20 @@
 -- The reader's loop: what it knows at its head, and a law for each way on.
 use Prim.Native.Nat.{ℕ, zero, suc, _+_, _*_, _-_, _≤_, _<_}
-use mathlib.Core.List.{List, [], _∷_, _++_}
+use mathlib.Core.List.{List, [], _∷_, _++_, append-assoc}
 use mathlib.Core.Path.{_≡_, refl, sym, ap, _∙_, subst}
 use native.Mathlib.Omega.{arith}
 use borrow.Author.Needs.{needs}
 use borrow.Author.Tests.{le-leb, lt-leb}
-use lib.ListN.{length, set, length-append, length-set}
+use lib.ListN.{length, getD, set, length-append, length-set}
+use lib.Seq.{getD-set-same, getD-set-other}
 use Rattle.words.specs.Relations.{Relation, relationWords}
-use Rattle.layout.specs.Layout.{wordsIn, Laid}
+use Rattle.words.specs.Families.{distinctWords, includingAll, placesIn, sideWords, wordsOf}
+use Rattle.words.proofs.Distinct.{distinct-last, side-words-last}
+use Rattle.layout.specs.Places.{startCell, endCell, countCell}
+use Rattle.layout.specs.Layout.{startOf, endOf, wordsIn, Laid}
+use Rattle.layout.specs.Families.{sidesIn, countOf}
+use Rattle.layout.proofs.Placed.{words-of-places, laid-of-places}
+use Rattle.layout.proofs.Cells.{sides-same}
 use Rattle.refusals.specs.declared.Refusal.{Refusal}
 use Rattle.format.specs.declared.HeadReading.{HeadReading}
 use Rattle.format.specs.declared.HeadReading.the-variants as Heads
@@ -19,7 +26,7 @@ use Rattle.format.specs.Book.{Presentation, adding, read, refused, headAt, rela
 use Rattle.format.specs.Bytes.{Within}
 use Rattle.format.proofs.Readings.{RelationRead, relation-read, relation-within, within-more, head-read, within-head}
 use Rattle.laying.specs.Appending.{Arrays}
-use Rattle.laying.specs.Relations.{RelationRoom, RelationAppended}
+use Rattle.laying.specs.Relations.{includingBoth, bothPlaces, RelationRoom, RelationAppended}
 use Rattle.laying.proofs.Appending.{nothing-laid}
 use Rattle.reader.specs.Reading.{ofHead, ofRelation, Stored, BookRead}
 
@@ -41,7 +48,7 @@ module _ (letters count : ℕ) (relation : RelationReading) where
 pub ruleset answers = (head-read-answer, head-refused-answer, relation-read-answer, relation-refused-answer, needs)
 
 -- the book up to `at` is read: the presentation so far is laid, and the rest gives the answer
-pub record Going (book text₀ : List ℕ) (letters at count : ℕ) (text table : List ℕ) : Type 0 where
+pub record Going (book text₀ : List ℕ) (letters at count n : ℕ) (text table : List ℕ) : Type 0 where
   pub presentation : Presentation
   pub lettered : letters ≡ presentation .letters
   pub counted : count ≡ length (presentation .relations)
@@ -50,8 +57,10 @@ pub record Going (book text₀ : List ℕ) (letters at count : ℕ) (text table 
   pub enough : length book ≤ at + fuel
   pub same : readBook book ≡ relationsFrom fuel presentation book at
   pub within : Within presentation
-  pub laid : Laid text table (2 * count)
-  pub words : wordsIn text table (2 * count) ≡ relationWords (presentation .relations)
+  pub laid : Laid text table n
+  pub before : n ≤ 2 * count
+  pub words : wordsIn text table n ≡ wordsOf (presentation .relations)
+  pub sides : sidesIn table (2 * count) ≡ sideWords (relationWords (presentation .relations))
   pub textLong : length text ≡ length text₀
   pub arrays : Arrays text table
 
@@ -66,8 +75,8 @@ module _ (book text table : List ℕ) (head : HeadReading) (e : head ≡ headAt 
   unfolding readBook
   head-refused x f r g = refused-book book text table x r text table (rw (← e, f)) (g ∙ rw f) refl refl
 
-  pub going-start : (letters first : ℕ) → head ≡ Heads.Read letters first → Arrays text table → Going book text letters first 0 text (set table 0 0)
-  unfolding readBook wordsIn relationWords
+  pub going-start : (letters first : ℕ) → head ≡ Heads.Read letters first → Arrays text table → Going book text letters first 0 0 text (set table 0 0)
+  unfolding readBook wordsIn relationWords distinctWords includingAll sidesIn sideWords placesIn
   going-start letters first f a =
       let h = head-read 64 0 book 0 letters first (sym e ∙ f) in
       record {
@@ -80,7 +89,9 @@ module _ (book text table : List ℕ) (head : HeadReading) (e : head ≡ headAt 
         same = rw (← e, f);
         within = within-head 64 book 0 letters first (omega arith) h;
         laid = nothing-laid text table (a .tableLong);
+        before = omega arith;
         words = refl;
+        sides = refl;
         textLong = refl;
         arrays = record { textLong = a .textLong; tableLong = length-set table 0 0 ∙ a .tableLong };
       }
@@ -105,25 +116,71 @@ module _ (p : Presentation) (book : List ℕ) (at : ℕ) (h : at < length book) 
   from-more zero k left right to e = absurd (omega arith)
   from-more (suc fuel) k left right to e = (fuel, refl, rw (lt-leb (length book) at h, e))
 
-words-more : (done : List Relation) (r : Relation) → relationWords (done ++ (r ∷ [])) ≡ relationWords done ++ relationWords (r ∷ [])
+-- one relation more has two sides more
+sides-more : (done : List Relation) (r : Relation) → relationWords (done ++ (r ∷ [])) ≡ relationWords done ++ (r .left ∷ []) ++ (r .right ∷ [])
 unfolding relationWords
-words-more [] r = refl
-words-more (d ∷ done) r = ap (λ l. d .left ∷ d .right ∷ l) (words-more done r)
+sides-more [] r = refl
+sides-more (d ∷ done) r = ap (λ l. d .left ∷ d .right ∷ l) (sides-more done r)
 
-module _ (book text₀ : List ℕ) (letters at count : ℕ) (text table : List ℕ) (g : Going book text₀ letters at count text table) where
+distinct-more : (done : List Relation) (r : Relation) → wordsOf (done ++ (r ∷ [])) ≡ includingBoth (wordsOf done) r
+distinct-more done r =
+    rw (sides-more done r, distinct-last (relationWords done ++ (r .left ∷ [])) (r .right), distinct-last (relationWords done) (r .left))
+
+numbers-more : (done : List Relation) (r : Relation) → sideWords (relationWords (done ++ (r ∷ []))) ≡ sideWords (relationWords done) ++ bothPlaces (wordsOf done) r
+numbers-more done r =
+    rw (sides-more done r, side-words-last (relationWords done ++ (r .left ∷ [])) (r .right), side-words-last (relationWords done) (r .left), distinct-last (relationWords done) (r .left))
+    (append-assoc (sideWords (relationWords done)) _ _)
+
+module _ (book text₀ : List ℕ) (letters at count n : ℕ) (text table : List ℕ) (g : Going book text₀ letters at count n text table) where
   pub going-count : count ≤ 32
   going-count = omega (arith, g .counted, g .within .fewRelations)
 
-  pub going-end : (table₀ : List ℕ) → Arrays text₀ table₀ → length book ≤ at → BookRead book text₀ table₀ (Readings.Read letters count) text table
-  going-end table₀ a h =
-      let b : readBook book ≡ read (g .presentation) = g .same ∙ from-end (g .fuel) (g .presentation) book at h in
-      let s : Stored (g .presentation) text table = record { laid = rw (← g .counted) (g .laid); words = rw (← g .counted) (g .words); within = g .within } in
-      record {
-        answer = rw (b, g .counted, g .lettered);
-        stored = λ q f. let x : g .presentation ≡ q = cc in subst (λ (t : Presentation). Stored t text table) x s;
-        textLong = g .textLong;
-        tableLong = g .arrays .tableLong ∙ sym (a .tableLong);
-      }
+  pub going-small : n < 65536
+  going-small = omega (arith, g .laid .few)
+
+  pub going-cell : countCell < length table
+  going-cell = omega (arith, g .arrays .tableLong)
+
+  pub going-long : (v : ℕ) (table₀ : List ℕ) → Arrays text₀ table₀ → length (set table countCell v) ≡ length table₀
+  going-long v table₀ a = length-set table countCell v ∙ g .arrays .tableLong ∙ sym (a .tableLong)
+
+  -- the number of words in its cell
+  module _ (v : ℕ) (e : v ≡ n) where
+    abbrev table′ : List ℕ
+    table′ = set table countCell v
+
+    counted-words : countOf table′ ≡ n
+    counted-words = getD-set-same table countCell v 0 going-cell ∙ e
+
+    cell-kept : (k : ℕ) → k < countCell → getD table′ k 0 ≡ getD table k 0
+    cell-kept k h = getD-set-other table countCell k v 0 (λ d. omega (arith, h, d))
+
+    start-kept : (k : ℕ) → k ≤ n → startOf table′ k ≡ startOf table k
+    start-kept k h = cell-kept (startCell k) (omega (arith, h, g .laid .few))
+
+    end-kept : (k : ℕ) → k < n → endOf table′ k ≡ endOf table k
+    end-kept k h = cell-kept (endCell k) (omega (arith, h, g .laid .few))
+
+    going-stored : Stored (g .presentation) text table′
+    going-stored =
+        record {
+          laid = rw counted-words (laid-of-places text table table′ n start-kept end-kept (length-set table countCell v) (g .laid));
+          words = rw counted-words (words-of-places text table table′ n start-kept end-kept ∙ g .words);
+          sides =
+              rw (← g .counted)
+              (sides-same table table′ (2 * count) (λ k a b. cell-kept k (omega (arith, b, going-count))) ∙ g .sides);
+          within = g .within;
+        }
+
+    pub going-end : (table₀ : List ℕ) → Arrays text₀ table₀ → length book ≤ at → BookRead book text₀ table₀ (Readings.Read letters count) text table′
+    going-end table₀ a h =
+        let b : readBook book ≡ read (g .presentation) = g .same ∙ from-end (g .fuel) (g .presentation) book at h in
+        record {
+          answer = rw (b, g .counted, g .lettered);
+          stored = λ q f. let x : g .presentation ≡ q = cc in subst (λ (t : Presentation). Stored t text table′) x going-stored;
+          textLong = g .textLong;
+          tableLong = going-long v table₀ a;
+        }
 
   module _ (h : at < length book) (r : RelationReading) (e : r ≡ relationAt letters count at book at) where
     here : r ≡ relationAt (g .presentation .letters) (length (g .presentation .relations)) at book at
@@ -142,7 +199,7 @@ module _ (book text₀ : List ℕ) (letters at count : ℕ) (text table : List �
       pub going-less : length book - to < length book - at
       going-less = let q = read-here in omega (arith, q .behind, q .leftSome, q .rightSome, q .fits)
 
-      pub going-room : RelationRoom book left right to text table count
+      pub going-room : RelationRoom book left right to text table count n
       going-room =
           let q = read-here in
           record {
@@ -154,12 +211,13 @@ module _ (book text₀ : List ℕ) (letters at count : ℕ) (text table : List �
             inside = q .fits;
             more = omega (arith, q .room, g .counted);
             laid = g .laid;
+            before = g .before;
             arrays = g .arrays;
           }
 
-      pub going-more : (text′ table′ : List ℕ) → RelationAppended book left right to text table count text′ table′
-          → Going book text₀ letters to (count + 1) text′ table′
-      going-more text′ table′ a =
+      pub going-more : (text′ table′ : List ℕ) (n′ : ℕ) → RelationAppended book left right to text table count n text′ table′ n′
+          → Going book text₀ letters to (count + 1) n′ text′ table′
+      going-more text′ table′ n′ a =
           let q = read-here in
           let t = from-more (g .presentation) book at h (g .fuel) (g .enough) left right to (sym here ∙ f) in
           record {
@@ -172,9 +230,11 @@ module _ (book text₀ : List ℕ) (letters at count : ℕ) (text table : List �
             same = g .same ∙ t .2;
             within = within-more (g .presentation) book at left right to (g .within) q;
             laid = a .laid;
-            words = a .words ∙ rw (g .words) (sym (words-more (g .presentation .relations) (relationIn book left right to)));
+            before = a .before;
+            words = a .words ∙ rw (g .words) (sym (distinct-more (g .presentation .relations) (relationIn book left right to)));
+            sides = a .sides ∙ rw (g .words, g .sides) (sym (numbers-more (g .presentation .relations) (relationIn book left right to)));
             textLong = a .textLong ∙ g .textLong;
             arrays = record { textLong = omega (arith, a .textLong, g .arrays .textLong); tableLong = a .tableLong ∙ g .arrays .tableLong };
           }
 
-pub ruleset goings = (head-refused, going-start, going-end, going-refused, going-less, going-room, going-more, going-count, needs)
+pub ruleset goings = (head-refused, going-start, going-small, going-cell, going-long, going-end, going-refused, going-less, going-room, going-more, going-count, needs)

@@ -1,10 +1,12 @@
--- What the reader of a book promises: its answer, and the relation words laid in the text and the table.
+-- What the reader of a book promises: its answer, and the relation words laid in the text and the table, each once, with the number of each side's word.
 use Prim.Native.Nat.{ℕ, _*_}
 use mathlib.Core.List.{List}
 use mathlib.Core.Path.{_≡_}
 use lib.ListN.{length}
 use Rattle.words.specs.Relations.{relationWords}
+use Rattle.words.specs.Families.{sideWords, wordsOf}
 use Rattle.layout.specs.Layout.{Laid, wordsIn}
+use Rattle.layout.specs.Families.{sidesIn, countOf}
 use Rattle.format.specs.declared.HeadReading.{HeadReading}
 use Rattle.format.specs.declared.HeadReading.the-variants as Heads
 use Rattle.format.specs.declared.RelationReading.{RelationReading}
@@ -24,10 +26,12 @@ abbrev pub ofRelation : ℕ → ℕ → RelationReading → Reading
 ofRelation letters count (Relations.Read left right to) = Readings.Read letters count
 ofRelation letters count (Relations.Refused r) = Readings.Refused r
 
--- the arrays hold a presentation: its relation words are laid in order, and all is within the limits, so that every letter is below the number of letters
+-- the arrays hold a presentation: its relation words are laid, each once, in order of first appearance; each side has the number of its word; and all is within
+-- the limits, so that every letter is below the number of letters
 pub record Stored (presentation : Presentation) (text table : List ℕ) : Type 0 where
-  pub laid : Laid text table (2 * length (presentation .relations))
-  pub words : wordsIn text table (2 * length (presentation .relations)) ≡ relationWords (presentation .relations)
+  pub laid : Laid text table (countOf table)
+  pub words : wordsIn text table (countOf table) ≡ wordsOf (presentation .relations)
+  pub sides : sidesIn table (2 * length (presentation .relations)) ≡ sideWords (relationWords (presentation .relations))
   pub within : Within presentation
 
 -- the answer is what reading the book gives, and where it is read, the arrays hold its presentation

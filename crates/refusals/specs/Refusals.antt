@@ -3,9 +3,9 @@ use Prim.Native.Nat.{_+_, _*_}
 use Rattle.limits.specs.Limits.{placeSpacing, inputMost}
 use Rattle.refusals.specs.declared.Numbered.{Numbered}
 use Rattle.refusals.specs.declared.Refusal.{Refusal}
-use Rattle.refusals.specs.declared.Refusal.the-variants.{Short, Kind, Length, Range, UnknownLetter, TooMany, Repeated, Loose, Long, Stranger, Spent, Narrow, Heavy, NoSpace}
+use Rattle.refusals.specs.declared.Refusal.the-variants.{Short, Kind, Length, Range, UnknownLetter, TooMany, Loose, Long, Stranger, Spent, Narrow, Heavy, NoSpace}
 
--- the number and the place of each case, in the order of the table
+-- the number and the place of each case, in the order of the table; 7 is not used
 abbrev pub numberAndPlace : Refusal → Numbered
 numberAndPlace (Short at) = record { number = 1; place = at }
 numberAndPlace (Kind at) = record { number = 2; place = at }
@@ -13,8 +13,7 @@ numberAndPlace (Length at) = record { number = 3; place = at }
 numberAndPlace (Range at) = record { number = 4; place = at }
 numberAndPlace (UnknownLetter at) = record { number = 5; place = at }
 numberAndPlace (TooMany at) = record { number = 6; place = at }
-numberAndPlace (Repeated word) = record { number = 7; place = word }
-numberAndPlace (Loose word) = record { number = 8; place = word }
+numberAndPlace (Loose side) = record { number = 8; place = side }
 numberAndPlace (Long word) = record { number = 9; place = placeSpacing * word }
 numberAndPlace (Stranger word position) = record { number = 10; place = placeSpacing * word + position }
 numberAndPlace (Spent rounds) = record { number = 11; place = rounds }

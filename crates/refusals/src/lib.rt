@@ -5,7 +5,8 @@ use limits::Input;
 use limits::Word;
 use numbers::wide;
 
-// What can be refused, in the order of document 01's table; `number_and_place` gives its number and its place. A record's place is its first byte.
+// What can be refused, in the order of document 01's table, in which 7 is not used; `number_and_place` gives its number and its place. A record's place is its
+// first byte.
 pub enum Refusal {
     // The bytes end inside a record, or the book is empty.
     Short(usize),
@@ -19,9 +20,7 @@ pub enum Refusal {
     UnknownLetter(usize),
     // One relation over the limit (thick).
     TooMany(usize),
-    // A relation word that equals an earlier one (twice), by its number.
-    Repeated(usize),
-    // A relation word that is a product of three or fewer pieces (loose), by its number.
+    // A side whose word is a product of three or fewer pieces (loose), by its number.
     Loose(usize),
     // A given word over its limit, by its number.
     Long(u8),
@@ -72,13 +71,9 @@ pub fn number_and_place(refusal: Refusal) -> Numbered
             number: 6,
             place: at,
         },
-        Refusal::Repeated(word) => Numbered {
-            number: 7,
-            place: word,
-        },
-        Refusal::Loose(word) => Numbered {
+        Refusal::Loose(side) => Numbered {
             number: 8,
-            place: word,
+            place: side,
         },
         Refusal::Long(word) => Numbered {
             number: 9,

@@ -1,7 +1,7 @@
 -- Laws of the writers: a change written into a buffer, and the three of a round; and of the doors, where given words are widened and next words narrowed.
 use Prim.Native.Nat.{ℕ, zero, suc, _+_, _-_, _≤_, _<_}
 use mathlib.Core.Bool.{Bool}
-use mathlib.Core.List.{List, _++_}
+use mathlib.Core.List.{List, [], _++_}
 use mathlib.Core.Path.{_≡_, ap, _∙_}
 use native.Mathlib.Omega.{arith}
 use borrow.Author.Needs.{needs}
@@ -11,9 +11,12 @@ use lib.ListN.{replicate, length-replicate, length, take, drop, length-append, l
 use lib.Seq.{take-all}
 use Rattle.words.specs.Words.{Word, part}
 use Rattle.words.proofs.Parts.{part-length}
+use Rattle.overlap.proofs.Facts.{rigid-of-c4}
 use Rattle.congruence.specs.Rows.{round}
+use Rattle.congruence.proofs.ShapeNoPrefix.{no-prefix-nil}
 use Rattle.layout.specs.Places.{startCell}
 use Rattle.layout.specs.Layout.{wordsIn, startOf, Laid}
+use Rattle.layout.specs.Families.{familyBy}
 use Rattle.layout.proofs.Whole.{whole-inside, whole-long, whole-words, whole-bytes, whole-checked}
 use Rattle.given.specs.Given.{Widened}
 use Rattle.writing.specs.Writing.{written, Bytes, Narrowing}
@@ -23,9 +26,9 @@ use Rattle.changes.specs.declared.Plan.{Plan}
 use Rattle.changes.specs.declared.Plan.the-variants.{End, Go}
 use Rattle.rounds.specs.declared.RoundLengths.{RoundLengths}
 use Rattle.rounds.specs.declared.RoundLengths.the-variants as S
-use Rattle.rows.specs.Pairs.{Paired}
 use Rattle.plans.specs.Plans.{planned, Fit, MarkFit, PlanFit, PlansRound}
 use Rattle.plans.specs.Plans.PlanFit.{goes}
+use Rattle.plans.specs.Asked.{HeadClear}
 use Rattle.rounds.specs.Writing.{writtenBy, Writable, Written, Changes, Planned, GivenShort, GivenRoom, LentInBytes, Lent}
 use Rattle.rounds.specs.Writing.Outcome.{after}
 
@@ -131,8 +134,11 @@ mark-writable text B p d c b f h r =
 
 -- words in bytes are decided as they are widened
 module _ (text table : List ℕ) (n : ℕ) (u v p : Word) (a c : List ℕ) (g : GivenRoom text table n u v p a c) where
-  pub given-paired : Paired text table n
-  given-paired = g .given .paired
+  -- no X and Y stands in a head part without letters
+  pub given-clear : HeadClear text table n []
+  given-clear =
+      let c = g .given .grouped in
+      record { grouped = c; clear = no-prefix-nil (wordsIn text table n) (rigid-of-c4 (wordsIn text table n) (c .checked .accepted)) }
 
   pub given-p : length p ≤ length (replicate {A = ℕ} 64 0)
   given-p = let l = length-replicate {A = ℕ} 64 0 in omega (arith, g .given .shortP)
@@ -141,7 +147,7 @@ pub given-decided : (text table : List ℕ) (n : ℕ) (u v p nu nv np : List ℕ
     → PlansRound text table n (take (length u) nu) (take (length v) nv) (take (length p) np) plan → PlansRound text table n u v p plan
 given-decided text table n u v p nu nv np plan x y z q = rw (x .same, y .same, z .same) at q
 
-pub ruleset decisions = (given-paired, given-p, given-decided, needs)
+pub ruleset decisions = (given-clear, given-p, given-decided, needs)
 
 -- the single round over the text as far as its last fence
 module _ (text table : List ℕ) (n : ℕ) (u v p nu nv np : List ℕ) (h : LentInBytes text table n u v p nu nv np) where
@@ -162,7 +168,7 @@ module _ (text table : List ℕ) (n : ℕ) (u v p nu nv np : List ℕ) (h : Lent
     }
 
     pub round-written : (r : RoundLengths) (nu′ nv′ np′ : List ℕ) → after r nu′ nv′ np′ ≡ writtenBy (planned text u v p plan) nu nv np
-        → after r nu′ nv′ np′ ≡ writtenBy (round (wordsIn text table n) u v p) nu nv np
+        → after r nu′ nv′ np′ ≡ writtenBy (round (wordsIn text table n) (familyBy table n) u v p) nu nv np
     round-written r nu′ nv′ np′ f = rw (← q .same) f
 
 pub ruleset roundWrites = (lent-given, round-planned, round-written, needs)
@@ -170,7 +176,7 @@ pub ruleset roundWrites = (lent-given, round-planned, round-written, needs)
 -- the single round
 module _ (text table : List ℕ) (n : ℕ) (u v p nu nv np : List ℕ) (h : Lent text table n u v p nu nv np) where
   laid : Laid text table n
-  laid = h .given .paired .checked .laid
+  laid = h .given .grouped .checked .laid
 
   pub lent-read : startCell n < length table
   lent-read = laid .room
@@ -188,7 +194,7 @@ module _ (text table : List ℕ) (n : ℕ) (u v p nu nv np : List ℕ) (h : Lent
         record {
           lent = record {
             given = record {
-              paired = record { checked = whole-checked text table n (g .paired .checked) t e; even = g .paired .even };
+              grouped = record { checked = whole-checked text table n (g .grouped .checked) t e; linked = g .grouped .linked };
               shortU = g .shortU;
               shortV = g .shortV;
               shortP = g .shortP;
@@ -200,8 +206,8 @@ module _ (text table : List ℕ) (n : ℕ) (u v p nu nv np : List ℕ) (h : Lent
           small = whole-bytes text table n laid t e;
         }
 
-    pub lent-written : (r : RoundLengths) (nu′ nv′ np′ : List ℕ) → after r nu′ nv′ np′ ≡ writtenBy (round (wordsIn (take t text) table n) u v p) nu nv np
-        → after r nu′ nv′ np′ ≡ writtenBy (round (wordsIn text table n) u v p) nu nv np
+    pub lent-written : (r : RoundLengths) (nu′ nv′ np′ : List ℕ) → after r nu′ nv′ np′ ≡ writtenBy (round (wordsIn (take t text) table n) (familyBy table n) u v p) nu nv np
+        → after r nu′ nv′ np′ ≡ writtenBy (round (wordsIn text table n) (familyBy table n) u v p) nu nv np
     lent-written r nu′ nv′ np′ f = rw (whole-words text table n laid t e) at f
 
 pub ruleset lents = (lent-read, lent-inside, lent-long, lent-whole, lent-written, needs)

@@ -7,12 +7,12 @@ use Rattle.words.specs.Words.{Word}
 use Rattle.writing.specs.Writing.{over, Bytes}
 use Rattle.congruence.specs.Rows.{Next}
 use Rattle.congruence.specs.Rows.Next.{end, go}
+use Rattle.layout.specs.Families.{Grouped}
 use Rattle.changes.specs.declared.Change.{Change}
 use Rattle.changes.specs.declared.Plan.{Plan}
 use Rattle.changes.specs.declared.Plan.the-variants.{Go}
 use Rattle.rounds.specs.declared.RoundLengths.{RoundLengths}
 use Rattle.rounds.specs.declared.RoundLengths.the-variants as S
-use Rattle.rows.specs.Pairs.{Paired}
 use Rattle.plans.specs.Plans.{applied}
 
 -- an outcome, and the buffers for u, v and p after it
@@ -47,9 +47,9 @@ pub record Changes (text : List ℕ) (cu cv cp : Change) (u v p nu nv np : List 
 pub record Planned (text : List ℕ) (plan : Plan) (u v p nu nv np : List ℕ) : Type 0 where
   pub changes : (cu cv cp : Change) → plan ≡ Go cu cv cp → Changes text cu cv cp u v p nu nv np
 
--- what a round asks of its words: a presentation whose relation words come in pairs, and the limits of u, v and p
+-- what a round asks of its words: a checked presentation with families, and the limits of u, v and p
 pub record GivenShort (text table : List ℕ) (n : ℕ) (u v p : Word) : Type 0 where
-  pub paired : Paired text table n
+  pub grouped : Grouped text table n
   pub shortU : length u ≤ 4160
   pub shortV : length v ≤ 4160
   pub shortP : length p ≤ 64

@@ -3,6 +3,7 @@
 ghost use mathlib.Core.Path.{_≡_};
 ghost use Rattle.congruence.specs.Rows.{round};
 ghost use Rattle.layout.specs.Layout.{wordsIn};
+ghost use Rattle.layout.specs.Families.{familyBy};
 ghost use Rattle.plans.specs.Plans.{planned, PlansRound};
 ghost use Rattle.changes.specs.declared.Plan.the-variants.{Go};
 ghost use Rattle.rounds.specs.Writing.{Writable, Written, writtenBy, Changes, Planned, GivenShort, GivenRoom, LentInBytes, Lent};
@@ -144,7 +145,7 @@ fn write_next(
     np: &mut [u8],
 ) -> RoundLengths
     requires { ⌜ LentInBytes (now text) (now table) n (now u) (now v) (now p) (now nu) (now nv) (now np) ⌝ }
-    ensures { λ r. ⌜ after r (now (nu .exit)) (now (nv .exit)) (now (np .exit)) ≡ writtenBy (round (wordsIn (now (text .entry)) (now (table .entry)) n) (now (u .entry)) (now (v .entry)) (now (p .entry))) (now (nu .entry)) (now (nv .entry)) (now (np .entry)) ⌝ }
+    ensures { λ r. ⌜ after r (now (nu .exit)) (now (nv .exit)) (now (np .exit)) ≡ writtenBy (round (wordsIn (now (text .entry)) (now (table .entry)) n) (familyBy (now (table .entry)) n) (now (u .entry)) (now (v .entry)) (now (p .entry))) (now (nu .entry)) (now (nv .entry)) (now (np .entry)) ⌝ }
 {
     let plan = decide_given(text, table, n, u, v, p);
     write_plan(text, plan, u, v, p, nu, nv, np)
@@ -163,7 +164,7 @@ pub fn write_round(
     np: &mut [u8],
 ) -> RoundLengths
     requires { ⌜ Lent (now text) (now table) n (now u) (now v) (now p) (now nu) (now nv) (now np) ⌝ }
-    ensures { λ r. ⌜ after r (now (nu .exit)) (now (nv .exit)) (now (np .exit)) ≡ writtenBy (round (wordsIn (now (text .entry)) (now (table .entry)) n) (now (u .entry)) (now (v .entry)) (now (p .entry))) (now (nu .entry)) (now (nv .entry)) (now (np .entry)) ⌝ }
+    ensures { λ r. ⌜ after r (now (nu .exit)) (now (nv .exit)) (now (np .exit)) ≡ writtenBy (round (wordsIn (now (text .entry)) (now (table .entry)) n) (familyBy (now (table .entry)) n) (now (u .entry)) (now (v .entry)) (now (p .entry))) (now (nu .entry)) (now (nv .entry)) (now (np .entry)) ⌝ }
 {
     let total = layout::start_of(table, n);
     write_next(&text[..total], table, n, u, v, p, nu, nv, np)

@@ -1,74 +1,130 @@
 -- A law for each way that the code can go which looks for the first row that fits.
 use Prim.Native.Nat.{ℕ, suc, _-_, _≤_, _<_}
-use mathlib.Core.Bool.{Bool, true, false}
+use mathlib.Core.Bool.{Bool, true, false, _&&_, _||_}
 use mathlib.Core.List.{List, [], _∷_, _++_}
+use mathlib.Core.Logic.{by-cases}
 use mathlib.Core.Path.{_≡_, refl, sym, _∙_}
+use native.Mathlib.Decide.{decLt, ℕ-discrete}
 use native.Mathlib.Omega.{arith}
 use borrow.Author.Needs.{needs}
-use lib.Dec.{eqb}
-use lib.ListN.{length, drop}
-use borrow.Author.Tests.{ne-eqb, le-leb}
-use Rattle.words.specs.Words.{Word, isEmpty, isPrefix, part}
-use Rattle.words.specs.Relations.{other}
-use Rattle.words.proofs.Relations.{other-there}
-use Rattle.congruence.specs.Rows.{cleanRelationPrefix, fitting, firstRow}
-use Rattle.congruence.proofs.FirstRow.{row-of-prefix, fits}
-use Rattle.layout.specs.Places.{endCell}
-use Rattle.layout.specs.Layout.{wordsIn}
+use lib.Dec.{eqb, ltb}
+use lib.ListN.{length}
+use borrow.Author.Tests.{eq-eqb, ne-eqb, le-leb, lt-leb, lt-ltb, le-ltb}
+use Rattle.words.specs.Words.{Word, isEmpty}
+use Rattle.overlap.proofs.Facts.{rigid-of-c4}
+use Rattle.congruence.specs.Rows.{cleanRelationPrefix, markedByAny, memberOf, fitting, firstRow}
+use Rattle.congruence.proofs.Heads.{Facts}
+use Rattle.congruence.proofs.RowTests.{cleanRelationPrefix-passes}
+use Rattle.congruence.proofs.FirstRow.{CleanPrefix, Member, memberOf-begins}
+use Rattle.layout.specs.Layout.{wordsIn, Checked}
+use Rattle.layout.specs.Places.{familyCell}
+use Rattle.layout.specs.Families.{familyAt, familyBy, Grouped, GroupedWord}
 use Rattle.layout.proofs.Placed.{words-length}
+use Rattle.layout.proofs.Cells.{family-at}
+use Rattle.index.specs.Index.{relationPrefixAt}
 use Rattle.sites.specs.declared.Site.{Site}
-use Rattle.sites.specs.Sites.{siteOf, SitesInText}
-use Rattle.sites.specs.Prefixes.{markInEitherX}
-use Rattle.sites.proofs.Sites.{Lies, lies, site-in-text}
+use Rattle.sites.specs.Sites.{siteOf, SiteInText, SitesInText}
+use Rattle.sites.proofs.Sites.{site-in-text}
 use Rattle.sites.proofs.Laws.{spans}
+use Rattle.kin.specs.Asked.{LinkedWord}
+use Rattle.kin.proofs.Tails.{linked-family-room}
+use Rattle.kin.proofs.Laws.{grouped, grouped-checked, grouped-lies}
 use Rattle.rows.specs.declared.Found.{Found}
-use Rattle.rows.specs.Pairs.{Paired, PairedWord}
-use Rattle.rows.specs.Shapes.{shapeOf, rowBy, shapedRow, rowAtSites, foundAt, FoundRow}
-use Rattle.rows.proofs.Shapes.{sites-row}
-
--- how a word begins
-module _ (text : List ℕ) (s : Site) (w : Word) (x : Bool) (e : x ≡ isPrefix (part text (s .start) (s .tail)) w) where
-  pub shape-none : x ≡ false → 0 ≡ shapeOf text s w
-  unfolding shapeOf
-  shape-none h = rw (← e, h)
-
-  module _ (h : x ≡ true) (y : Bool) (f : y ≡ isPrefix (part text (s .tail) (s .stop)) (drop (s .tail - s .start) w)) where
-    pub shape-part : y ≡ false → 1 ≡ shapeOf text s w
-    unfolding shapeOf
-    shape-part k = rw (← e, h, ← f, k)
-
-    pub shape-whole : y ≡ true → 2 ≡ shapeOf text s w
-    unfolding shapeOf
-    shape-whole k = rw (← e, h, ← f, k)
-
-pub ruleset shapes = (shape-none, shape-part, shape-whole, spans, needs)
-
-pub row-whole : (w : Bool) (a b r : ℕ) → w ≡ true → r ≡ rowBy true a b → r ≡ rowBy w a b
-row-whole w a b r h e = rw h e
-
-pub row-part : (w : Bool) (a b r : ℕ) → w ≡ false → r ≡ rowBy false a b → r ≡ rowBy w a b
-row-part w a b r h e = rw h e
-
-pub ruleset rows = (row-whole, row-part, needs)
+use Rattle.rows.specs.Shapes.{rowBy, shapedRow, tailFollows, kinOrNone, CleanWord, FoundRow}
+use Rattle.rows.proofs.Shapes.{shaped}
+use Rattle.rows.proofs.Members.{begun-none, begun-other, begun-here}
 
 -- the row by three tests
-pub row-shaped : (text : List ℕ) (s t : Site) (u v : Word) (w : Bool) (a b r : ℕ) → w ≡ isPrefix (part text (s .tail) (s .stop)) (drop (s .tail - s .start) u)
-    → a ≡ shapeOf text s v → b ≡ shapeOf text t v → r ≡ rowBy w a b → r ≡ shapedRow text s t u v
+module _ (w a c : Bool) where
+  module _ (ew : w ≡ true) where
+    pub row-all : a ≡ true → 4 ≡ rowBy w a c
+    unfolding rowBy
+    row-all e = rw (ew, e)
+
+    pub row-whole-same : a ≡ false → c ≡ true → 5 ≡ rowBy w a c
+    unfolding rowBy
+    row-whole-same e f = rw (ew, e, f)
+
+    pub row-whole : a ≡ false → c ≡ false → 7 ≡ rowBy w a c
+    unfolding rowBy
+    row-whole e f = rw (ew, e, f)
+
+  module _ (ew : w ≡ false) where
+    pub row-part-same : c ≡ true → 5 ≡ rowBy w a c
+    unfolding rowBy
+    row-part-same f = rw (ew, f)
+
+    pub row-member : c ≡ false → a ≡ true → 6 ≡ rowBy w a c
+    unfolding rowBy
+    row-member f e = rw (ew, f, e)
+
+    pub row-parts : c ≡ false → a ≡ false → 8 ≡ rowBy w a c
+    unfolding rowBy
+    row-parts f e = rw (ew, f, e)
+
+pub ruleset rows = (row-all, row-whole-same, row-whole, row-part-same, row-member, row-parts, needs)
+
+-- the row by the words
+pub row-shaped : (text : List ℕ) (s t : Site) (same : Bool) (u v : Word) (w a : Bool) (r : ℕ) → w ≡ tailFollows text s u → a ≡ tailFollows text t v
+    → r ≡ rowBy w a same → r ≡ shapedRow text s t same u v
 unfolding shapedRow
-row-shaped text s t u v w a b r e f g h = rw (← e, ← f, ← g) h
+row-shaped text s t same u v w a r e f g = rw (← e, ← f) g
 
-pub ruleset shapedRows = (row-shaped, spans, needs)
+module _ (text : List ℕ) (s t : Site) (h : SitesInText text s t) where
+  pub spans-own : SiteInText text s
+  spans-own = h .own
 
--- the first row from row 3 on
-pub sites-other : (text : List ℕ) (s t : Site) (u v p : Word) (m : Bool) → m ≡ markInEitherX text s t p → m ≡ false → 3 ≡ rowAtSites text s t u v p
-unfolding rowAtSites
-sites-other text s t u v p m e h = rw (← e, h)
+  pub spans-member : SiteInText text t
+  spans-member = h .other
 
-pub sites-shaped : (text : List ℕ) (s t : Site) (u v p : Word) (m : Bool) (r : ℕ) → m ≡ markInEitherX text s t p → m ≡ true → r ≡ shapedRow text s t u v → r ≡ rowAtSites text s t u v p
-unfolding rowAtSites
-sites-shaped text s t u v p m r e h f = rw (← e, h) f
+pub ruleset shapedRows = (row-shaped, spans-own, spans-member, spans, needs)
 
-pub ruleset siteRows = (sites-other, sites-shaped, needs)
+-- a word and its family
+module _ (table : List ℕ) (n i : ℕ) (h : LinkedWord table n i) (j : ℕ) where
+  pub kin-none : n ≤ j → n ≡ kinOrNone table n i j
+  unfolding kinOrNone
+  kin-none l = rw (le-leb n j l)
+
+  module _ (l : j < n) where
+    pub kin-room : familyCell j < length table
+    kin-room = let a = h .few in let b = h .room in omega arith
+
+    module _ (a b : ℕ) (ea : a ≡ familyAt table i) (eb : b ≡ familyAt table j) where
+      pub kin-here : a ≡ b → j ≡ kinOrNone table n i j
+      unfolding kinOrNone
+      kin-here q = let t : eqb (familyAt table i) (familyAt table j) ≡ true = rw (← ea, ← eb) (eq-eqb a b q) in rw (lt-leb n j l, t)
+
+      pub kin-other : (a ≡ b → ⊥) → n ≡ kinOrNone table n i j
+      unfolding kinOrNone
+      kin-other q = let t : eqb (familyAt table i) (familyAt table j) ≡ false = rw (← ea, ← eb) (ne-eqb a b q) in rw (lt-leb n j l, t)
+
+pub ruleset kins = (linked-family-room, kin-none, kin-room, kin-here, kin-other, needs)
+
+-- the member that a word begins with
+module _ (text table : List ℕ) (n i : ℕ) (h : GroupedWord text table n i) where
+  pub word-linked : LinkedWord table n i
+  word-linked = let c = h .grouped .checked in record { linked = h .grouped .linked; room = c .indexed .room; few = c .laid .few; there = h .there }
+
+  pub member-one : (w : Word) (j : ℕ) → j ≡ relationPrefixAt (wordsIn text table n) w 0 → (r : ℕ) → r ≡ kinOrNone table n i j
+      → r ≡ memberOf (wordsIn text table n) (familyBy table n) i w
+  unfolding relationPrefixAt kinOrNone
+  member-one w j e r f = f ∙ by-cases (decLt j n)
+      (λ l.
+      let c : j < length (wordsIn text table n) = let b = words-length text table n in omega (arith, b, l) in
+      let p = family-at table n i (h .there) in
+      let q = family-at table n j l in
+      rw (lt-leb n j l)
+      (by-cases (ℕ-discrete (familyAt table i) (familyAt table j))
+      (λ t. rw (eq-eqb (familyAt table i) (familyAt table j) t) (begun-here (wordsIn text table n) rigid (familyBy table n) i w j e c (p ∙ t ∙ sym q)))
+      (λ t. rw (ne-eqb (familyAt table i) (familyAt table j) t) (sym (words-length text table n) ∙ begun-other (wordsIn text table n) rigid (familyBy table n) i w j e (λ z. t (sym p ∙ z ∙ q))))))
+      (λ l.
+      let b = words-length text table n in
+      rw (le-leb n j (omega (arith, l))) (sym b ∙ begun-none (wordsIn text table n) rigid (familyBy table n) i w j e (omega (arith, b, l))))
+    where
+      rigid : Facts (wordsIn text table n)
+      rigid = rigid-of-c4 (wordsIn text table n) (h .grouped .checked .accepted)
+
+pub ruleset members = (grouped-checked, word-linked, member-one, needs)
 
 -- empty words
 pub empty-left : (a b : Word) → 0 < length a → false ≡ isEmpty (a ++ b)
@@ -85,71 +141,96 @@ empty-right (x ∷ a) b h = absurd (omega arith)
 
 pub ruleset empties = (empty-left, empty-right, needs)
 
+module _ (u v : Word) (x : Bool) (e : x ≡ isEmpty u) where
+  pub either-u : x ≡ true → true ≡ (isEmpty u || isEmpty v)
+  either-u h = rw (← e, h)
+
+  pub either-v : x ≡ false → (y : Bool) → y ≡ isEmpty v → y ≡ (isEmpty u || isEmpty v)
+  either-v h y f = rw (← e, h) f
+
+pub ruleset eithers = (either-u, either-v, needs)
+
 -- row 3 or a later one
-module _ (text table : List ℕ) (n i : ℕ) (h : PairedWord text table n i) where
-  pub paired-few : i ≤ 64
-  paired-few = let a = h .there in let b = h .paired .checked .laid .few in omega arith
+module _ (text table : List ℕ) (n : ℕ) (u v : Word) (i : ℕ) (h : CleanWord text table n u v i) where
+  pub clean-word : GroupedWord text table n i
+  clean-word = h .word
 
-  pub paired-room : endCell i < length table
-  paired-room = let a = paired-few in let b = h .paired .checked .indexed .room in omega arith
+  clean-prefix : CleanPrefix (wordsIn text table n) u i
+  clean-prefix =
+      let b = words-length text table n in
+      let t = h .word .there in
+      record { there = omega (arith, b, t); clean = rw (h .clean) (cleanRelationPrefix-passes (wordsIn text table n) u (let e = h .clean in omega (arith, b, t, e))) }
 
-  pub other-room : (j : ℕ) → j ≡ other i → endCell j < length table
-  other-room j e = let a = paired-few in let b = h .paired .checked .indexed .room in omega arith
+  module _ (s : Site) (e : s ≡ siteOf table i) (p : Word) (x : Bool) (ex : x ≡ markedByAny (wordsIn text table n) (familyBy table n) i p) where
+    -- row 3, where the mark is in no X or v begins with no member
+    third : (x && ltb (memberOf (wordsIn text table n) (familyBy table n) i v) n) ≡ false → FoundRow text table n u v p (record { row = 3; word = i; own = s; member = s })
+    unfolding firstRow fitting
+    third q =
+        record {
+          number = rw (← h .clean, h .some, words-length text table n, lt-leb n i (h .word .there), ← ex, q);
+          word = λ _. h .clean;
+          own = λ _. rw (← h .clean) e;
+          member = λ l. absurd (omega arith);
+        }
 
-  pub own-lies : Lies text (wordsIn text table n) i (siteOf table i)
-  own-lies = lies text table n (h .paired .checked) i (h .there)
+    pub found-unmarked : x ≡ false → FoundRow text table n u v p (record { row = 3; word = i; own = s; member = s })
+    found-unmarked q = third (rw q)
 
-  pub other-lies : Lies text (wordsIn text table n) (other i) (siteOf table (other i))
-  other-lies = lies text table n (h .paired .checked) (other i) (other-there n i (h .paired .even) (h .there))
+    module _ (t : x ≡ true) (j : ℕ) (ej : j ≡ memberOf (wordsIn text table n) (familyBy table n) i v) where
+      pub found-no-member : n ≤ j → FoundRow text table n u v p (record { row = 3; word = i; own = s; member = s })
+      found-no-member l = third (rw (t, ← ej) (le-ltb j n l))
 
-  pub sites-in-text : SitesInText text (siteOf table i) (siteOf table (other i))
-  sites-in-text = record { own = site-in-text text (wordsIn text table n) i (siteOf table i) own-lies; other = site-in-text text (wordsIn text table n) (other i) (siteOf table (other i)) other-lies }
+      module _ (l : j < n) where
+        pub other-word : GroupedWord text table n j
+        other-word = record { grouped = h .word .grouped; there = l }
 
-  module _ (s : Site) (e : s ≡ siteOf table i) (j : ℕ) (ej : j ≡ other i) (t : Site) (et : t ≡ siteOf table j) where
-    pub sites-read : SitesInText text s t
-    sites-read = rw (e, et, ej) sites-in-text
+        member : Member (wordsIn text table n) (familyBy table n) v i j
+        member = rw ej (memberOf-begins (wordsIn text table n) (familyBy table n) i v (let b = words-length text table n in omega (arith, b, l, ej)))
 
-    pub found-made : (u v p : Word) (row : ℕ) → row ≡ rowAtSites text s t u v p → record { row = row; own = s; other = t } ≡ foundAt text table i u v p
-    unfolding foundAt
-    found-made u v p row f = rw (f, e, et, ej)
+        module _ (m : Site) (em : m ≡ siteOf table j) where
+          pub both-sites : SitesInText text s m
+          both-sites =
+              record {
+                own = site-in-text text (wordsIn text table n) i s (grouped-lies text table n i (h .word) s e);
+                other = site-in-text text (wordsIn text table n) j m (grouped-lies text table n j other-word m em);
+              }
 
-pub ruleset siteFinds = (paired-few, paired-room, other-room, sites-read, found-made, needs)
+          pub found-member : (row : ℕ) → row ≡ shapedRow text s m (eqb i j) u v → FoundRow text table n u v p (record { row = row; word = i; own = s; member = m })
+          unfolding firstRow fitting
+          found-member row er =
+              let q = shaped (wordsIn text table n) (rigid-of-c4 (wordsIn text table n) (h .word .grouped .checked .accepted)) (familyBy table n) i j u v clean-prefix member text s m
+              (grouped-lies text table n i (h .word) s e) (grouped-lies text table n j other-word m em) in
+              record {
+                number = er ∙ q ∙ rw (← h .clean, h .some, words-length text table n, lt-leb n i (h .word .there), ← ex, t, ← ej, lt-ltb j n l);
+                word = λ _. h .clean;
+                own = λ _. rw (← h .clean) e;
+                member = λ _. rw (← h .clean, ← ej) em;
+              }
+
+pub ruleset siteFinds = (clean-word, grouped, found-unmarked, found-no-member, other-word, both-sites, found-member, needs)
 
 -- the first row that fits
-module _ (text table : List ℕ) (n : ℕ) (c : Paired text table n) (u v p : Word) (f : Found) where
-  module _ (x : Bool) (ex : x ≡ isEmpty u) where
-    pub found-u : x ≡ true → f .row ≡ 1 → FoundRow text table n u v p f
-    unfolding firstRow fitting
-    found-u h e = record { number = rw (e, ← ex, h); own = λ l. absurd (omega arith); other = λ l. absurd (omega arith) }
+module _ (text table : List ℕ) (n : ℕ) (u v p : Word) (f : Found) (x : Bool) (ex : x ≡ (isEmpty u || isEmpty v)) where
+  pub found-empty : x ≡ true → f .row ≡ 1 → FoundRow text table n u v p f
+  unfolding firstRow fitting
+  found-empty h e = record { number = rw (e, ← ex, h); word = λ l. absurd (omega arith); own = λ l. absurd (omega arith); member = λ l. absurd (omega arith) }
 
-    module _ (h : x ≡ false) (y : Bool) (ey : y ≡ isEmpty v) where
-      pub found-v : y ≡ true → f .row ≡ 1 → FoundRow text table n u v p f
-      unfolding firstRow fitting
-      found-v k e = record { number = rw (e, ← ex, h, ← ey, k); own = λ l. absurd (omega arith); other = λ l. absurd (omega arith) }
+  pub found-none : x ≡ false → (i : ℕ) → i ≡ cleanRelationPrefix (wordsIn text table n) u → n ≤ i → f .row ≡ 2 → FoundRow text table n u v p f
+  unfolding firstRow fitting
+  found-none h i ei l e =
+      record {
+        number = rw (e, ← ei, ← ex, h, words-length text table n, le-leb n i l);
+        word = λ l. absurd (omega arith);
+        own = λ l. absurd (omega arith);
+        member = λ l. absurd (omega arith);
+      }
 
-      module _ (k : y ≡ false) (i : ℕ) (ei : i ≡ cleanRelationPrefix (wordsIn text table n) u) where
-        pub found-none : n ≤ i → f .row ≡ 2 → FoundRow text table n u v p f
-        unfolding firstRow fitting
-        found-none l e =
-            record {
-              number = rw (e, ← ei, ← ex, h, ← ey, k, words-length text table n, le-leb n i l);
-              own = λ l. absurd (omega arith);
-              other = λ l. absurd (omega arith);
-            }
+-- the relation word that is found
+pub found-prefix : (text table : List ℕ) (n : ℕ) (u v : Word) (i : ℕ) → Grouped text table n → (x : Bool) → x ≡ (isEmpty u || isEmpty v) → x ≡ false
+    → i ≡ cleanRelationPrefix (wordsIn text table n) u → i < n → CleanWord text table n u v i
+found-prefix text table n u v i c x ex h ei l = record { word = record { grouped = c; there = l }; some = sym ex ∙ h; clean = ei }
 
-        module _ (l : i < n) where
-          pub found-prefix : PairedWord text table n i
-          found-prefix = record { paired = c; there = l }
+pub grouped-is-checked : (text table : List ℕ) (n : ℕ) → Grouped text table n → Checked text table n
+grouped-is-checked text table n c = c .checked
 
-          -- the row is 3 or a later one
-          third-or-later : 2 < firstRow (wordsIn text table n) u v p
-          third-or-later = let b = words-length text table n in row-of-prefix (rw (← ei) at (fits (wordsIn text table n) u v p)) (sym ex ∙ h) (sym ey ∙ k) (omega arith)
-
-          pub found-sites : f ≡ foundAt text table i u v p → FoundRow text table n u v p f
-          unfolding foundAt
-          found-sites e =
-              let q = sites-row text (wordsIn text table n) i (other i) (siteOf table i) (siteOf table (other i)) (own-lies text table n i found-prefix) (other-lies text table n i found-prefix) u v p
-              (firstRow (wordsIn text table n) u v p) third-or-later (rw (← ei) at (fits (wordsIn text table n) u v p)) in
-              rw e (record { number = q; own = λ _. rw ei; other = λ _. rw ei })
-
-pub ruleset founds = (found-u, found-v, found-none, found-prefix, found-sites, needs)
+pub ruleset founds = (found-empty, found-none, found-prefix, grouped-is-checked, needs)

@@ -1,2 +1,3 @@
 pub mod Shapes
+pub mod Members
 pub mod Laws

@@ -1,49 +1,44 @@
 -- The first row that fits, by how u, v and p begin with the parts of the text in which relation words lie.
 -- That this is `firstRow` of the rows' definition is shown in proofs/Shapes.antt.
 use Prim.Native.Nat.{ℕ, _-_, _<_}
-use mathlib.Core.Bool.{Bool, cond}
+use mathlib.Core.Bool.{Bool, false, cond, _||_}
 use mathlib.Core.List.{List}
 use mathlib.Core.Path.{_≡_}
-use lib.Dec.{eqb, ltb}
+use lib.Dec.{eqb, leb}
 use lib.ListN.{drop}
-use Rattle.words.specs.Words.{Word, isPrefix, part}
-use Rattle.words.specs.Relations.{other}
-use Rattle.congruence.specs.Rows.{cleanRelationPrefix, otherWord, firstRow}
+use Rattle.words.specs.Words.{Word, isEmpty, isPrefix, part}
+use Rattle.congruence.specs.Rows.{cleanRelationPrefix, primedWord, firstRow}
 use Rattle.layout.specs.Layout.{wordsIn}
+use Rattle.layout.specs.Families.{familyAt, familyBy, GroupedWord}
 use Rattle.sites.specs.declared.Site.{Site}
 use Rattle.sites.specs.Sites.{siteOf}
-use Rattle.sites.specs.Prefixes.{markInEitherX}
 use Rattle.rows.specs.declared.Found.{Found}
 
--- how a word begins: with all of the relation word (2), with its X and Y but not all of it (1), or not so (0)
-unfoldable pub shapeOf : List ℕ → Site → Word → ℕ
-shapeOf text s w =
-    cond (isPrefix (part text (s .start) (s .tail)) w)
-    (cond (isPrefix (part text (s .tail) (s .stop)) (drop (s .tail - s .start) w)) 2 1)
-    0
+-- the row from row 4 on by whether u begins with all of its relation word (`whole`), v with all of its member (`all`), and these two are the same
+unfoldable pub rowBy : Bool → Bool → Bool → ℕ
+rowBy whole all same = cond whole (cond all 4 (cond same 5 7)) (cond same 5 (cond all 6 8))
 
--- the row by whether u begins with all of its relation word, and by how v begins with that word (`own`) and with the other one of the relation (`by`)
-unfoldable pub rowBy : Bool → ℕ → ℕ → ℕ
-rowBy whole own by =
-    cond whole
-    (cond (eqb own 2) 4 (cond (eqb by 2) 4 (cond (ltb 0 own) 5 (cond (ltb 0 by) 7 3))))
-    (cond (ltb 0 own) 5 (cond (eqb by 2) 6 (cond (ltb 0 by) 8 3)))
+-- Z of the relation word at s follows in w behind as many letters as its X and Y have
+abbrev pub tailFollows : List ℕ → Site → Word → Bool
+tailFollows text s w = isPrefix (part text (s .tail) (s .stop)) (drop (s .tail - s .start) w)
 
--- the row by the words, where u begins with X and Y of the relation word at s and the other word of the relation lies at t
-unfoldable pub shapedRow : List ℕ → Site → Site → Word → Word → ℕ
-shapedRow text s t u v = rowBy (isPrefix (part text (s .tail) (s .stop)) (drop (s .tail - s .start) u)) (shapeOf text s v) (shapeOf text t v)
+-- the same row by the words, where u begins with X and Y of the relation word at s and v with those of the member at t
+unfoldable pub shapedRow : List ℕ → Site → Site → Bool → Word → Word → ℕ
+shapedRow text s t same u v = rowBy (tailFollows text s u) (tailFollows text t v) same
 
--- the first row from row 3 on that fits
-unfoldable pub rowAtSites : List ℕ → Site → Site → Word → Word → Word → ℕ
-rowAtSites text s t u v p = cond (markInEitherX text s t p) (shapedRow text s t u v) 3
+-- relation word j where it is one and of i's family, else n
+unfoldable pub kinOrNone : List ℕ → ℕ → ℕ → ℕ → ℕ
+kinOrNone table n i j = cond (leb n j) n (cond (eqb (familyAt table i) (familyAt table j)) j n)
 
--- the first row from row 3 on that fits, and where relation word i, the clean relation prefix of u, and the other word of its relation lie
-unfoldable pub foundAt : List ℕ → List ℕ → ℕ → Word → Word → Word → Found
-foundAt text table i u v p =
-    record { row = rowAtSites text (siteOf table i) (siteOf table (other i)) u v p; own = siteOf table i; other = siteOf table (other i) }
+-- relation word i is the clean relation prefix of u, and u and v are not empty
+pub record CleanWord (text table : List ℕ) (n : ℕ) (u v : Word) (i : ℕ) : Type 0 where
+  pub word : GroupedWord text table n i
+  pub some : (isEmpty u || isEmpty v) ≡ false
+  pub clean : i ≡ cleanRelationPrefix (wordsIn text table n) u
 
--- what is found: the first row that fits, and from row 3 on where its two relation words lie
+-- what is found: the first row that fits, from row 3 on the relation word of u and where it lies, and from row 4 on where the member lies that v begins with
 pub record FoundRow (text table : List ℕ) (n : ℕ) (u v p : Word) (f : Found) : Type 0 where
-  pub number : f .row ≡ firstRow (wordsIn text table n) u v p
+  pub number : f .row ≡ firstRow (wordsIn text table n) (familyBy table n) u v p
+  pub word : 2 < f .row → f .word ≡ cleanRelationPrefix (wordsIn text table n) u
   pub own : 2 < f .row → f .own ≡ siteOf table (cleanRelationPrefix (wordsIn text table n) u)
-  pub other : 2 < f .row → f .other ≡ siteOf table (otherWord (wordsIn text table n) u)
+  pub member : 3 < f .row → f .member ≡ siteOf table (primedWord (wordsIn text table n) (familyBy table n) u v)

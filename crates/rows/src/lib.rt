@@ -1,111 +1,88 @@
 // Which row of document 01 fits first, by how u, v and p begin with the parts of two relation words where these lie in the text.
 // A word is two slices, a head part and what follows it.
 
-ghost use mathlib.Core.Bool.{true, false};
+ghost use mathlib.Core.Bool.{_||_};
 ghost use mathlib.Core.Path.{_≡_};
 ghost use mathlib.Core.List.{_++_};
 ghost use Rattle.words.specs.Words.{isEmpty};
-ghost use Rattle.sites.specs.Sites.{SiteInText, SitesInText};
-ghost use Rattle.rows.specs.Pairs.{Paired, PairedWord};
-ghost use Rattle.rows.specs.Shapes.{shapeOf, rowBy, shapedRow, rowAtSites, foundAt, FoundRow};
+ghost use Rattle.congruence.specs.Rows.{memberOf};
+ghost use Rattle.layout.specs.Layout.{wordsIn};
+ghost use Rattle.layout.specs.Families.{familyBy, Grouped, GroupedWord};
+ghost use Rattle.sites.specs.Sites.{SitesInText};
+ghost use Rattle.kin.specs.Asked.{LinkedWord};
+ghost use Rattle.rows.specs.Shapes.{rowBy, shapedRow, kinOrNone, CleanWord, FoundRow};
 use sites::Site;
 
-// The first row that fits; from row 3 on, also where the relation word of u's clean relation prefix and the other word of its relation lie.
+// The first row that fits; from row 3 on, also the relation word of u's clean relation prefix and where it lies, and from row 4 on where the member of its family
+// lies that v begins with.
 pub struct Found {
     pub row: u8,
+    pub word: usize,
     pub own: Site,
-    pub other: Site,
+    pub member: Site,
 }
 
-// How a word begins: with all of the relation word (2), with its X and Y but not all of it (1), or not so (0).
-fn shape(text: &[u16], s: Site, a: &[u16], b: &[u16]) -> u8
-    requires { ⌜ SiteInText (now text) s ⌝ }
-    ensures { λ r. ⌜ r ≡ shapeOf (now (text .entry)) s (now (a .entry) ++ now (b .entry)) ⌝ }
-{
-    if joined::begins(text, s.start, s.tail, a, b, 0) {
-        if joined::begins(text, s.tail, s.stop, a, b, s.tail - s.start) {
-            return 2;
-        }
-        return 1;
-    }
-    0
-}
-
-// The row, where u begins with all of its relation word; v begins with that word and with the other one by these shapes.
-fn row_of_whole(own: u8, other: u8) -> u8
-    ensures { λ r. ⌜ r ≡ rowBy true own other ⌝ }
-{
-    if own == 2 {
-        return 4;
-    }
-    if other == 2 {
-        return 4;
-    }
-    if 0 < own {
-        return 5;
-    }
-    if 0 < other {
-        return 7;
-    }
-    3
-}
-
-// The row, where u begins with X and Y of its relation word and not with all of it; v begins with that word and with the other one by these shapes.
-fn row_of_part(own: u8, other: u8) -> u8
-    ensures { λ r. ⌜ r ≡ rowBy false own other ⌝ }
-{
-    if 0 < own {
-        return 5;
-    }
-    if other == 2 {
-        return 6;
-    }
-    if 0 < other {
-        return 8;
-    }
-    3
-}
-
-// The row by whether u begins with all of its relation word, and by the shapes of v.
-fn row_by(whole: bool, own: u8, other: u8) -> u8
-    ensures { λ r. ⌜ r ≡ rowBy whole own other ⌝ }
+// The row from row 4 on: whether u begins with all of its relation word, whether v begins with all of its member, and whether these two are the same.
+fn row_by(whole: bool, all: bool, same: bool) -> u8
+    ensures { λ r. ⌜ r ≡ rowBy whole all same ⌝ }
 {
     if whole {
-        row_of_whole(own, other)
-    } else {
-        row_of_part(own, other)
+        if all {
+            return 4;
+        }
+        if same {
+            return 5;
+        }
+        return 7;
     }
+    if same {
+        return 5;
+    }
+    if all {
+        return 6;
+    }
+    8
 }
 
-// The row by how u and v begin: u begins with X and Y of the relation word at s, and the other word of its relation lies at t.
-fn shaped_row(text: &[u16], s: Site, t: Site, ua: &[u16], ub: &[u16], va: &[u16], vb: &[u16]) -> u8
-    requires { ⌜ SitesInText (now text) s t ⌝ }
-    ensures { λ r. ⌜ r ≡ shapedRow (now (text .entry)) s t (now (ua .entry) ++ now (ub .entry)) (now (va .entry) ++ now (vb .entry)) ⌝ }
-{
-    let whole = joined::begins(text, s.tail, s.stop, ua, ub, s.tail - s.start);
-    let own = shape(text, s, va, vb);
-    let other = shape(text, t, va, vb);
-    row_by(whole, own, other)
-}
-
-// The first row from row 3 on that fits, where u begins with X and Y of the relation word at s.
-fn row_at_sites(
+// The same by how u and v begin: u begins with X and Y of the relation word at s, and v with those of the member at t.
+fn shaped_row(
     text: &[u16],
     s: Site,
     t: Site,
+    same: bool,
     ua: &[u16],
     ub: &[u16],
     va: &[u16],
     vb: &[u16],
-    p: &[u16],
 ) -> u8
     requires { ⌜ SitesInText (now text) s t ⌝ }
-    ensures { λ r. ⌜ r ≡ rowAtSites (now (text .entry)) s t (now (ua .entry) ++ now (ub .entry)) (now (va .entry) ++ now (vb .entry)) (now (p .entry)) ⌝ }
+    ensures { λ r. ⌜ r ≡ shapedRow (now (text .entry)) s t same (now (ua .entry) ++ now (ub .entry)) (now (va .entry) ++ now (vb .entry)) ⌝ }
 {
-    if sites::mark_in_either_x(text, s, t, p) {
-        return shaped_row(text, s, t, ua, ub, va, vb);
+    let whole = joined::begins(text, s.tail, s.stop, ua, ub, s.tail - s.start);
+    let all = joined::begins(text, t.tail, t.stop, va, vb, t.tail - t.start);
+    row_by(whole, all, same)
+}
+
+// Relation word j where it is of i's family, else n; there may be no word j.
+fn kin_or_none(table: &[u16], n: usize, i: usize, j: usize) -> usize
+    requires { ⌜ LinkedWord (now table) n i ⌝ }
+    ensures { λ r. ⌜ r ≡ kinOrNone (now (table .entry)) n i j ⌝ }
+{
+    if n <= j {
+        return n;
     }
-    3
+    if layout::family_of(table, i) == layout::family_of(table, j) {
+        return j;
+    }
+    n
+}
+
+// The member of relation word i's family whose X and Y the word begins with, or n. X and Y of one relation word at most begin it, so that no other need be tried.
+fn member_of(text: &[u16], table: &[u16], n: usize, i: usize, a: &[u16], b: &[u16]) -> usize
+    requires { ⌜ GroupedWord (now text) (now table) n i ⌝ }
+    ensures { λ r. ⌜ r ≡ memberOf (wordsIn (now (text .entry)) (now (table .entry)) n) (familyBy (now (table .entry)) n) i (now (a .entry) ++ now (b .entry)) ⌝ }
+{
+    kin_or_none(table, n, i, index::prefix_at(text, table, n, a, b, 0))
 }
 
 // Whether a word in two slices is empty.
@@ -116,6 +93,16 @@ pub fn empty(a: &[u16], b: &[u16]) -> bool
         return false;
     }
     b.len() == 0
+}
+
+// Whether u or v is empty.
+fn either_empty(ua: &[u16], ub: &[u16], va: &[u16], vb: &[u16]) -> bool
+    ensures { λ r. ⌜ r ≡ (isEmpty (now (ua .entry) ++ now (ub .entry)) || isEmpty (now (va .entry) ++ now (vb .entry))) ⌝ }
+{
+    if empty(ua, ub) {
+        return true;
+    }
+    empty(va, vb)
 }
 
 // Row 1 or 2, for which no relation word is looked at.
@@ -130,12 +117,13 @@ fn without_sites(row: u8) -> Found
     };
     Found {
         row,
+        word: 0,
         own: nowhere,
-        other: nowhere,
+        member: nowhere,
     }
 }
 
-// Row 3 or a later one, where relation word i is the clean relation prefix of u.
+// Row 3 or a later one, where relation word i is the clean relation prefix of u. Row 3 names no member: the own site stands in its place.
 fn with_sites(
     text: &[u16],
     table: &[u16],
@@ -147,15 +135,27 @@ fn with_sites(
     vb: &[u16],
     p: &[u16],
 ) -> Found
-    requires { ⌜ PairedWord (now text) (now table) n i ⌝ }
-    ensures { λ r. ⌜ r ≡ foundAt (now (text .entry)) (now (table .entry)) i (now (ua .entry) ++ now (ub .entry)) (now (va .entry) ++ now (vb .entry)) (now (p .entry)) ⌝ }
+    requires { ⌜ CleanWord (now text) (now table) n (now ua ++ now ub) (now va ++ now vb) i ⌝ }
+    ensures { λ r. ⌜ FoundRow (now (text .entry)) (now (table .entry)) n (now (ua .entry) ++ now (ub .entry)) (now (va .entry) ++ now (vb .entry)) (now (p .entry)) r ⌝ }
 {
     let own = sites::read_site(table, i);
-    let other = sites::read_site(table, sites::other_word(i));
+    if kin::mark_in_any_x(text, table, n, i, p) {
+        let j = member_of(text, table, n, i, va, vb);
+        if j < n {
+            let member = sites::read_site(table, j);
+            return Found {
+                row: shaped_row(text, own, member, i == j, ua, ub, va, vb),
+                word: i,
+                own,
+                member,
+            };
+        }
+    }
     Found {
-        row: row_at_sites(text, own, other, ua, ub, va, vb, p),
+        row: 3,
+        word: i,
         own,
-        other,
+        member: own,
     }
 }
 
@@ -170,13 +170,10 @@ pub fn find_row(
     vb: &[u16],
     p: &[u16],
 ) -> Found
-    requires { ⌜ Paired (now text) (now table) n ⌝ }
+    requires { ⌜ Grouped (now text) (now table) n ⌝ }
     ensures { λ r. ⌜ FoundRow (now (text .entry)) (now (table .entry)) n (now (ua .entry) ++ now (ub .entry)) (now (va .entry) ++ now (vb .entry)) (now (p .entry)) r ⌝ }
 {
-    if empty(ua, ub) {
-        return without_sites(1);
-    }
-    if empty(va, vb) {
+    if either_empty(ua, ub, va, vb) {
         return without_sites(1);
     }
     let i = sites::clean_prefix(text, table, n, ua, ub);

@@ -18,7 +18,7 @@ use Rattle.layout.specs.Layout.{piecesOf, wordsIn, Checked}
 use Rattle.layout.specs.Families.{sideWordOf, sidesIn}
 use Rattle.layout.proofs.Placed.{words-length, word-length}
 use Rattle.layout.proofs.CutPlaces.{cuts-inside, xy-long}
-use Rattle.layout.proofs.Links.{side-cell}
+use Rattle.layout.proofs.Cells.{side-at}
 use Rattle.writing.specs.Writing.{written, over}
 use Rattle.writing.proofs.Writing.{written-zero, written-length, written-behind}
 use Rattle.sheet.specs.Sheet.{cutBytes, cutSheet, cutRow, xAt, yAt, zAt, rowAt, sheetBytes, CutsIn, SideIn, RowRoom, SheetRoom}
@@ -71,7 +71,7 @@ module _ (text table : List ℕ) (n : ℕ) (c : Checked text table n) where
     bytes-cut zero h = refl
     bytes-cut (suc k) h =
         rw (bytes-cut k (omega arith), row-cut (sideWordOf table k) (known k (omega arith)))
-        (ap (λ (i : ℕ). cutBytes (wordsIn text table n) (sidesIn table m) k ++ cutRow (wordsIn text table n) i) (sym (side-cell table m k (omega arith))))
+        (ap (λ (i : ℕ). cutBytes (wordsIn text table n) (sidesIn table m) k ++ cutRow (wordsIn text table n) i) (sym (side-at table m k (omega arith))))
 
     -- the sheet by the table is the cut sheet of the sides
     pub sheet-cut : (sides : List Word) → m ≡ length sides → wordsIn text table n ≡ distinctWords sides → sidesIn table m ≡ sideWords sides

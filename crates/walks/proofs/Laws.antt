@@ -12,31 +12,27 @@ use mir.Val.{Fits}
 use lib.ListN.{length, take, drop, length-drop}
 use lib.Seq.{drop-drop}
 use Rattle.words.specs.Words.{Word, isPrefix, commonPrefix, part}
-use Rattle.words.specs.Relations.{other}
 use Rattle.words.proofs.Parts.{part-length, part-drop}
 use Rattle.words.proofs.Prefixes.{prefix-length}
 use Rattle.words.proofs.Commons.{common-within, common-prefix, common-no-prefix}
 use Rattle.overlap.specs.Cuts.{xylen, xyOf}
 use Rattle.overlap.proofs.Facts.{length-xy, rigid-of-c4}
-use Rattle.congruence.specs.Rows.{cleanRelationPrefix}
-use Rattle.least.specs.Possible.{relationOf, markedByAny, possible}
+use Rattle.congruence.specs.Rows.{cleanRelationPrefix, markedByAny}
+use Rattle.least.specs.Possible.{possible}
 use Rattle.least.proofs.Possible.{possible-front, possible-turn, possible-unmarked}
 use Rattle.layout.specs.Places.{endCell}
 use Rattle.layout.specs.Layout.{wordsIn, Checked}
+use Rattle.layout.specs.Families.{familyBy, GroupedWord}
 use Rattle.layout.proofs.Placed.{words-length}
 use Rattle.joined.specs.Joined.{Agreed}
 use Rattle.sites.specs.declared.Site.{Site}
-use Rattle.sites.specs.Sites.{siteOf, SitesInText}
-use Rattle.sites.specs.Prefixes.{markInEitherX}
+use Rattle.sites.specs.Sites.{siteOf}
 use Rattle.sites.proofs.Sites.{Lies}
 use Rattle.sites.proofs.CleanPrefixes.{clean-prefix}
-use Rattle.rows.specs.Pairs.{PairedWord}
-use Rattle.rows.proofs.Laws.{paired-few, paired-room, other-room, sites-read}
-use Rattle.moves.proofs.Laws.{rest-lent}
+use Rattle.kin.proofs.Laws.{grouped-room, grouped-lies, rest-lent}
 use Rattle.walks.specs.declared.Leg.{Leg}
 use Rattle.walks.specs.declared.Leg.the-variants as Legs
 use Rattle.walks.specs.Walks.{PlaceAsked, PlacesAsked, FirstClean, Walking, Turning, Parting, Further, LegStands, LegMade}
-use Rattle.walks.proofs.Pairs.{pair-own, pair-marked}
 use Rattle.walks.proofs.Legs.{prefix-rest, passed, ends}
 
 -- the clean relation prefix at a place
@@ -92,7 +88,7 @@ pub ruleset seeks = (seek-start, seek-place, seek-found, seek-more, seek-end, ne
 -- a leg that begins with a clean relation prefix, that of relation word i
 module _ (text table : List ℕ) (n : ℕ) (given : Word) (at to from : ℕ) (t : Turning text table n given at to from) where
   pub turn-asked : PlaceAsked text table n given from
-  turn-asked = record { checked = t .walking .ready .paired .checked; within = t .walking .within }
+  turn-asked = record { checked = t .walking .ready .grouped .checked; within = t .walking .within }
 
   pub turn-up : at ≤ to
   turn-up = t .walking .span .upwards
@@ -101,21 +97,15 @@ module _ (text table : List ℕ) (n : ℕ) (given : Word) (at to from : ℕ) (t 
   turn-inside = t .walking .span .inside
 
   module _ (i : ℕ) (e : i ≡ cleanRelationPrefix (wordsIn text table n) (drop from given)) where
-    turn-word : PairedWord text table n i
-    turn-word = record { paired = t .walking .ready .paired; there = let b = words-length text table n in let c = t .clean in omega (arith, b, c, e) }
-
-    pub turn-few : i ≤ 64
-    turn-few = paired-few text table n i turn-word
+    pub turn-word : GroupedWord text table n i
+    turn-word = record { grouped = t .walking .ready .grouped; there = let b = words-length text table n in let c = t .clean in omega (arith, b, c, e) }
 
     pub turn-room : endCell i < length table
-    turn-room = paired-room text table n i turn-word
-
-    pub turn-room-other : (o : ℕ) → o ≡ other i → endCell o < length table
-    turn-room-other o f = other-room text table n i turn-word o f
+    turn-room = grouped-room text table n i turn-word
 
     module _ (own : Site) (eo : own ≡ siteOf table i) where
       own-lies : Lies text (wordsIn text table n) i own
-      own-lies = pair-own text table n i turn-word own eo
+      own-lies = grouped-lies text table n i turn-word own eo
 
       pub turn-tail : own .start ≤ own .tail
       turn-tail = let l = own-lies in omega (arith, l .first, l .second)
@@ -132,32 +122,27 @@ module _ (text table : List ℕ) (n : ℕ) (given : Word) (at to from : ℕ) (t 
       pub turn-fits : Fits w64 (from + (own .tail - own .start))
       turn-fits = let b = behind-xy in let l = own-lies .longXY in let s = t .walking .short in omega (arith, b, l, s)
 
-      module _ (o : ℕ) (f : o ≡ other i) (oth : Site) (et : oth ≡ siteOf table o) where
-        pub turn-sites : SitesInText text own oth
-        turn-sites = sites-read text table n i turn-word own eo o f oth et
+    module _ (x : Bool) (g : x ≡ markedByAny (wordsIn text table n) (familyBy table n) i (part text at to)) where
+      pub turn-next : x ≡ true → (own : Site) → own ≡ siteOf table i → LegMade text table n given at to from (Legs.Next (own .tail) (own .stop) (from + (own .tail - own .start)))
+      turn-next h own eo =
+          let l = own-lies own eo in
+          let R = rigid-of-c4 (wordsIn text table n) (t .walking .ready .grouped .checked .accepted) in
+          let b = behind-xy own eo in
+          record {
+            same = sym (possible-turn R (familyBy table n) (part text at to) (drop from given) i (t .apart) e (l .known) (sym g ∙ h) ∙ rw (l .z, drop-drop, l .longXY));
+            stands = record {
+              span = record { upwards = l .third; inside = l .inside };
+              later = omega (arith, l .first, l .second);
+              within = omega (arith, b, l .longXY);
+            };
+          }
 
-        module _ (x : Bool) (g : x ≡ markInEitherX text own oth (part text at to)) where
-          marks : markedByAny (wordsIn text table n) relationOf i (part text at to) ≡ x
-          marks = pair-marked text table n i turn-word own eo o f oth et (part text at to) ∙ sym g
+      pub turn-no : x ≡ false → LegMade text table n given at to from Legs.No
+      turn-no h =
+          let k : i < length (wordsIn text table n) = rw (words-length text table n) (turn-word .there) in
+          record { same = sym (possible-unmarked (wordsIn text table n) (familyBy table n) (part text at to) (drop from given) i (t .apart) e k (sym g ∙ h)); stands = tt }
 
-          pub turn-next : x ≡ true → LegMade text table n given at to from (Legs.Next (own .tail) (own .stop) (from + (own .tail - own .start)))
-          turn-next h =
-              let l = own-lies in
-              let R = rigid-of-c4 (wordsIn text table n) (t .walking .ready .paired .checked .accepted) in
-              let b = behind-xy in
-              record {
-                same = sym (possible-turn R relationOf (part text at to) (drop from given) i (t .apart) e (l .known) (marks ∙ h) ∙ rw (l .z, drop-drop, l .longXY));
-                stands = record {
-                  span = record { upwards = l .third; inside = l .inside };
-                  later = omega (arith, l .first, l .second);
-                  within = omega (arith, b, l .longXY);
-                };
-              }
-
-          pub turn-no : x ≡ false → LegMade text table n given at to from Legs.No
-          turn-no h = record { same = sym (possible-unmarked (wordsIn text table n) relationOf (part text at to) (drop from given) i (t .apart) e (own-lies .known) (marks ∙ h)); stands = tt }
-
-pub ruleset turns = (turn-asked, turn-up, turn-inside, turn-few, turn-room, turn-room-other, turn-sites, turn-tail, turn-fits, turn-next, turn-no, needs)
+pub ruleset turns = (turn-asked, turn-up, turn-inside, turn-word, turn-room, turn-tail, turn-fits, turn-next, turn-no, needs)
 
 -- one leg: whether the mark is a prefix
 module _ (text table : List ℕ) (n : ℕ) (given : Word) (at to from : ℕ) (w : Walking text table n given at to from) where
@@ -171,7 +156,7 @@ module _ (text table : List ℕ) (n : ℕ) (given : Word) (at to from : ℕ) (w 
     pub leg-yes : m ≡ to - at → LegMade text table n given at to from Legs.Yes
     leg-yes h =
         let p = part-length text at to (w .span .inside) in
-        record { same = sym (possible-front (wordsIn text table n) relationOf (part text at to) (drop from given) (common-prefix (part text at to) (drop from given) (omega (arith, h, e, p)))); stands = tt }
+        record { same = sym (possible-front (wordsIn text table n) (familyBy table n) (part text at to) (drop from given) (common-prefix (part text at to) (drop from given) (omega (arith, h, e, p)))); stands = tt }
 
     pub leg-parting : (m ≡ to - at → ⊥) → Parting text table n given at to from m
     leg-parting d = record { walking = w; common = e; some = d }
@@ -200,7 +185,7 @@ module _ (text table : List ℕ) (n : ℕ) (given : Word) (at to from m : ℕ) (
 
   module _ (end : ℕ) (f : end ≡ min (from + m + 1) (length given)) where
     pub part-asked : PlacesAsked text table n given from end
-    part-asked = let l = w .walking .within in record { checked = w .walking .ready .paired .checked; up = omega (arith, l, f); within = omega (arith, f) }
+    part-asked = let l = w .walking .within in record { checked = w .walking .ready .grouped .checked; up = omega (arith, l, f); within = omega (arith, f) }
 
     module _ (q : ℕ) (c : FirstClean (wordsIn text table n) given from end q) where
       -- no clean relation prefix begins before q
@@ -257,7 +242,7 @@ module _ (text table : List ℕ) (n : ℕ) (given : Word) (at to from m : ℕ) (
             let a = along in
             let e = w .common in
             record {
-              same = g .same ∙ sym (passed (wordsIn text table n) relationOf (part text at to) (drop from given) (q - from) apart (omega (arith, a, e))
+              same = g .same ∙ sym (passed (wordsIn text table n) (familyBy table n) (part text at to) (drop from given) (q - from) apart (omega (arith, a, e))
                   (λ k l. unclean k (let z = c .low in omega (arith, l, z))) ∙ rw (mark-rest, word-rest));
               stands = stands-later leg (g .stands);
             }
@@ -266,7 +251,7 @@ module _ (text table : List ℕ) (n : ℕ) (given : Word) (at to from m : ℕ) (
       part-no h =
           let b = bounds in
           record {
-            same = sym (ends (wordsIn text table n) relationOf (part text at to) (drop from given) m (w .common) (omega (arith, b .0, b .2))
+            same = sym (ends (wordsIn text table n) (familyBy table n) (part text at to) (drop from given) m (w .common) (omega (arith, b .0, b .2))
                 (λ k l g. unclean k (omega (arith, l, g, b .3, f, h))));
             stands = tt;
           }
@@ -276,7 +261,7 @@ pub ruleset partings = (part-fits, part-fits-next, part-asked, part-from, part-m
 -- the walk has come to the mark text[a..b] and place q
 pub record WalkAt (text table : List ℕ) (n : ℕ) (given : Word) (at to from a b q : ℕ) : Type 0 where
   pub walking : Walking text table n given a b q
-  pub same : possible (wordsIn text table n) relationOf (part text a b) (drop q given) ≡ possible (wordsIn text table n) relationOf (part text at to) (drop from given)
+  pub same : possible (wordsIn text table n) (familyBy table n) (part text a b) (drop q given) ≡ possible (wordsIn text table n) (familyBy table n) (part text at to) (drop from given)
 
 pub walk-start : (text table : List ℕ) (n : ℕ) (given : Word) (at to from : ℕ) → Walking text table n given at to from → WalkAt text table n given at to from at to from
 walk-start text table n given at to from w = record { walking = w; same = refl }
@@ -286,10 +271,10 @@ module _ (text table : List ℕ) (n : ℕ) (given : Word) (at to from a b q : �
   walk-walking = w .walking
 
   module _ (leg : Leg) (g : LegMade text table n given a b q leg) where
-    pub walk-yes : leg ≡ Legs.Yes → true ≡ possible (wordsIn text table n) relationOf (part text at to) (drop from given)
+    pub walk-yes : leg ≡ Legs.Yes → true ≡ possible (wordsIn text table n) (familyBy table n) (part text at to) (drop from given)
     walk-yes e = (rw e at (g .same)) ∙ w .same
 
-    pub walk-no : leg ≡ Legs.No → false ≡ possible (wordsIn text table n) relationOf (part text at to) (drop from given)
+    pub walk-no : leg ≡ Legs.No → false ≡ possible (wordsIn text table n) (familyBy table n) (part text at to) (drop from given)
     walk-no e = (rw e at (g .same)) ∙ w .same
 
     module _ (x y z : ℕ) (e : leg ≡ Legs.Next x y z) where

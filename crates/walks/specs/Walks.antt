@@ -6,8 +6,9 @@ use mathlib.Core.Path.{_≡_}
 use lib.ListN.{length, drop}
 use Rattle.words.specs.Words.{Word, isPrefix, commonPrefix, part}
 use Rattle.congruence.specs.Rows.{cleanRelationPrefix}
-use Rattle.least.specs.Possible.{relationOf, possible}
+use Rattle.least.specs.Possible.{possible}
 use Rattle.layout.specs.Layout.{Span, wordsIn, Checked}
+use Rattle.layout.specs.Families.{familyBy}
 use Rattle.moves.specs.State.{Ready}
 use Rattle.walks.specs.declared.Leg.{Leg}
 use Rattle.walks.specs.declared.Leg.the-variants as Legs
@@ -50,10 +51,10 @@ pub record Parting (text table : List ℕ) (n : ℕ) (given : Word) (at to from 
   pub some : m ≡ to - at → ⊥
 
 -- what a leg tells: that the mark is possible, that it is not, or that another mark has to be possible further on
-abbrev pub legPossible : List ℕ → List Word → Word → Leg → Bool
-legPossible text B given Legs.Yes = true
-legPossible text B given Legs.No = false
-legPossible text B given (Legs.Next at to from) = possible B relationOf (part text at to) (drop from given)
+abbrev pub legPossible : List ℕ → List Word → (ℕ → ℕ) → Word → Leg → Bool
+legPossible text B family given Legs.Yes = true
+legPossible text B family given Legs.No = false
+legPossible text B family given (Legs.Next at to from) = possible B family (part text at to) (drop from given)
 
 -- a leg that began at place q ends further on, in the given word
 pub record Further (text : List ℕ) (given : Word) (q at to from : ℕ) : Type 0 where
@@ -68,5 +69,5 @@ LegStands text given q (Legs.Next at to from) = Further text given q at to from
 
 -- one leg of the walk with the mark text[at..to] along the given word from `from` on
 pub record LegMade (text table : List ℕ) (n : ℕ) (given : Word) (at to from : ℕ) (leg : Leg) : Type 0 where
-  pub same : legPossible text (wordsIn text table n) given leg ≡ possible (wordsIn text table n) relationOf (part text at to) (drop from given)
+  pub same : legPossible text (wordsIn text table n) (familyBy table n) given leg ≡ possible (wordsIn text table n) (familyBy table n) (part text at to) (drop from given)
   pub stands : LegStands text given from leg

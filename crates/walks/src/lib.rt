@@ -3,8 +3,9 @@ ghost use mathlib.Core.Path.{_≡_};
 ghost use lib.ListN.{drop};
 ghost use Rattle.words.specs.Words.{part};
 ghost use Rattle.congruence.specs.Rows.{cleanRelationPrefix};
-ghost use Rattle.least.specs.Possible.{relationOf, possible};
+ghost use Rattle.least.specs.Possible.{possible};
 ghost use Rattle.layout.specs.Layout.{wordsIn};
+ghost use Rattle.layout.specs.Families.{familyBy};
 ghost use Rattle.walks.specs.Walks.{PlaceAsked, PlacesAsked, FirstClean, Walking, Turning, Parting, LegMade};
 use numbers::smaller;
 
@@ -46,7 +47,7 @@ pub fn first_clean(
     q
 }
 
-// A leg that begins with a clean relation prefix: the mark has to lie in an X of that relation, and Z has to be possible behind X and Y.
+// A leg that begins with a clean relation prefix: the mark has to lie in the X of a member of that word's family, and Z has to be possible behind X and Y.
 fn take_turn(
     text: &[u16],
     table: &[u16],
@@ -60,9 +61,8 @@ fn take_turn(
     ensures { λ r. ⌜ LegMade (now (text .entry)) (now (table .entry)) n (now (given .entry)) at to from r ⌝ }
 {
     let i = clean_at(text, table, n, given, from);
-    let own = sites::read_site(table, i);
-    let other = sites::read_site(table, sites::other_word(i));
-    if sites::mark_in_either_x(text, own, other, &text[at..to]) {
+    if kin::mark_in_any_x(text, table, n, i, &text[at..to]) {
+        let own = sites::read_site(table, i);
         return Leg::Next(own.tail, own.stop, from + (own.tail - own.start));
     }
     Leg::No
@@ -121,7 +121,7 @@ pub fn possible(
     from: usize,
 ) -> bool
     requires { ⌜ Walking (now text) (now table) n (now given) at to from ⌝ }
-    ensures { λ r. ⌜ r ≡ possible (wordsIn (now (text .entry)) (now (table .entry)) n) relationOf (part (now (text .entry)) at to) (drop from (now (given .entry))) ⌝ }
+    ensures { λ r. ⌜ r ≡ possible (wordsIn (now (text .entry)) (now (table .entry)) n) (familyBy (now (table .entry)) n) (part (now (text .entry)) at to) (drop from (now (given .entry))) ⌝ }
 {
     let mut a = at;
     let mut b = to;

@@ -8,4 +8,6 @@ find-carrier-spec =
     (tie.spec
     (λ c κs. search carriers)
     (λ c. search carriers)
+    (λ c κs. search carriers)
+    (λ c. search carriers)
     (λ c. search carriers))

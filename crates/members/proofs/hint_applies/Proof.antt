@@ -8,9 +8,6 @@ hint-applies-spec =
     (tie.spec
     (λ c κs. search applications)
     (λ c. search applications)
-    (λ c κs. search applications)
-    (λ c κs. search applications)
-    (λ c κs. search applications)
     (λ c. search applications)
     (λ c. search applications)
     (λ c. search applications)

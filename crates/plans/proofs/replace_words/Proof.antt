@@ -6,6 +6,8 @@ pub replace-words-spec : {M : Type 1} → statement M
 replace-words-spec =
     tie.close
     (tie.spec
+    (λ c. search replacements)
+    (λ c. search replacements)
     (λ c κs. search replacements)
     (λ c κs. search replacements)
     (λ c. search replacements)

@@ -5,10 +5,10 @@ use Rattle.reader.proofs.read_book.Statement.{statement}
 use Rattle.reader.proofs.read_book.Tie as tie
 
 abbrev Inv-loop : tie.InvT-loop
-Inv-loop book text₀ table₀ letters first at₀ count₀ text table at count = Going book text₀ letters at count text table
+Inv-loop book text₀ table₀ letters first at₀ count₀ n₀ text table at count n = Going book text₀ letters at count n text table
 
 abbrev μ-loop : tie.MeasureT-loop
-μ-loop book text₀ table₀ letters first at₀ count₀ text table at count = length book - at
+μ-loop book text₀ table₀ letters first at₀ count₀ n₀ text table at count n = length book - at
 
 pub read-book-spec : {M : Type 1} → statement M
 read-book-spec =
@@ -34,6 +34,8 @@ read-book-spec =
     (λ c κs. search goings)
     (λ c. search goings)
     (λ c. search goings)
+    (λ c. search goings)
+    (λ c κs. search goings)
     (λ c. search goings)
     (λ c. search goings)
     (λ c. search goings)

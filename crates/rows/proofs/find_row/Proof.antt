@@ -13,7 +13,4 @@ find-row-spec =
     (λ c κs. search founds)
     (λ c. search founds)
     (λ c κs. search founds)
-    (λ c κs. search founds)
-    (λ c. search founds)
-    (λ c κs. search founds)
     (λ c. search founds))

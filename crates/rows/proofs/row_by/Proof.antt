@@ -6,7 +6,9 @@ pub row-by-spec : {M : Type 1} → statement M
 row-by-spec =
     tie.close
     (tie.spec
-    (λ c κs. search rows)
-    (λ c κs. search rows)
+    (λ c. search rows)
+    (λ c. search rows)
+    (λ c. search rows)
+    (λ c. search rows)
     (λ c. search rows)
     (λ c. search rows))

@@ -8,7 +8,7 @@ shaped-row-spec =
     (tie.spec
     (λ c. search shapedRows)
     (λ c κs. search shapedRows)
-    (λ c κs. search shapedRows)
+    (λ c. search shapedRows)
     (λ c κs. search shapedRows)
     (λ c κs. search shapedRows)
     (λ c. search shapedRows))

@@ -10,4 +10,7 @@ with-sites-spec =
     (λ c κs. search siteFinds)
     (λ c κs. search siteFinds)
     (λ c κs. search siteFinds)
+    (λ c κs. search siteFinds)
+    (λ c. search siteFinds)
+    (λ c. search siteFinds)
     (λ c. search siteFinds))

@@ -7,13 +7,11 @@ take-turn-spec =
     tie.close
     (tie.spec
     (λ c κs. search turns)
+    (λ c. search turns)
+    (λ c. search turns)
+    (λ c. search turns)
+    (λ c. search turns)
     (λ c κs. search turns)
-    (λ c κs. search turns)
-    (λ c κs. search turns)
-    (λ c. search turns)
-    (λ c. search turns)
-    (λ c. search turns)
-    (λ c. search turns)
     (λ c κs. search turns)
     (λ c. search turns)
     (λ c. search turns)

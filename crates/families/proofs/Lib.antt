@@ -1,0 +1,5 @@
+pub mod Kept
+pub mod Naming
+pub mod Joining
+pub mod Linking
+pub mod Reading
