@@ -115,8 +115,8 @@ module _ (book : List ℕ) (reading : Reading) (text table : List ℕ) (d : Book
     pub loaded-room : countCell < length table
     loaded-room = omega (arith, held .grouped .checked .indexed .room)
 
-    pub loaded-ready : Ready text table (countOf table)
-    loaded-ready = record { grouped = held .grouped; text-short = omega (arith, d .memory .textRoomy) }
+    pub loaded-ready : (n : ℕ) → n ≡ countOf table → Ready text table n
+    loaded-ready n c = rw c (record { grouped = held .grouped; text-short = omega (arith, d .memory .textRoomy) })
 
     pub loaded-sheet : SheetReady table count
     loaded-sheet =
@@ -135,39 +135,39 @@ module _ (book : List ℕ) (reading : Reading) (text table : List ℕ) (d : Book
         let q : sheetOf book sheet ≡ acceptedSheet table count sheet = rw (h .is, ← h .many, s) in
         f ∙ sym q
 
-    pub compare-loaded : (u v : Word) (allowance : ℕ) (x : Comparison)
-        → x ≡ comparisonOf letters (wordsIn text table (countOf table)) (familyBy table (countOf table)) u v allowance → Compared book u v allowance (ofComparison x)
+    pub compare-loaded : (n : ℕ) → n ≡ countOf table → (u v : Word) (allowance : ℕ) (x : Comparison)
+        → x ≡ comparisonOf letters (wordsIn text table n) (familyBy table n) u v allowance → Compared book u v allowance (ofComparison x)
     unfolding compareOf
-    compare-loaded u v allowance x f =
+    compare-loaded n c u v allowance x f =
         let h = held in
         let B = wordsOf (h .presentation .relations) in
         let F = familyOf (h .presentation .relations) in
         let q : compareOf book u v allowance ≡ ofComparison (comparisonOf (h .presentation .letters) B F u v allowance) = rw (h .is) in
-        let g : x ≡ comparisonOf (h .presentation .letters) B F u v allowance = f ∙ rw (h .words, h .families, ← h .lettered) in
+        let g : x ≡ comparisonOf (h .presentation .letters) B F u v allowance = f ∙ rw (c, h .words, h .families, ← h .lettered) in
         compared book u v allowance (ofComparison x) (ap ofComparison g ∙ sym q)
 
-    pub round-loaded : (u v p nextU nextV nextP : List ℕ) (x : RoundOutcome)
-        → x ≡ loadedRound letters (wordsIn text table (countOf table)) (familyBy table (countOf table)) u v p nextU nextV nextP → x ≡ roundOf book u v p nextU nextV nextP
+    pub round-loaded : (n : ℕ) → n ≡ countOf table → (u v p nextU nextV nextP : List ℕ) (x : RoundOutcome)
+        → x ≡ loadedRound letters (wordsIn text table n) (familyBy table n) u v p nextU nextV nextP → x ≡ roundOf book u v p nextU nextV nextP
     unfolding roundOf
-    round-loaded u v p nextU nextV nextP x f =
+    round-loaded n c u v p nextU nextV nextP x f =
         let h = held in
         let B = wordsOf (h .presentation .relations) in
         let F = familyOf (h .presentation .relations) in
-        let g = rw (h .words, h .families) at f in
+        let g = rw (c, h .words, h .families) at f in
         let q : roundOf book u v p nextU nextV nextP ≡ loadedRound letters B F u v p nextU nextV nextP = rw (h .is, ← h .lettered) in
         g ∙ sym q
 
-    pub loaded-letters : LeastLoaded text table (countOf table) letters
-    loaded-letters = let h = held in record { ready = loaded-ready; few = omega (arith, h .within .few, h .lettered) }
+    pub loaded-letters : (n : ℕ) → n ≡ countOf table → LeastLoaded text table n letters
+    loaded-letters n c = let h = held in record { ready = loaded-ready n c; few = omega (arith, h .within .few, h .lettered) }
 
-    pub least-loaded : (u buffer : List ℕ) (offset : ℕ) (x : LeastOutcome)
-        → x ≡ loadedLeast letters (wordsIn text table (countOf table)) (familyBy table (countOf table)) u buffer offset → LeastAnswered book u buffer offset x
+    pub least-loaded : (n : ℕ) → n ≡ countOf table → (u buffer : List ℕ) (offset : ℕ) (x : LeastOutcome)
+        → x ≡ loadedLeast letters (wordsIn text table n) (familyBy table n) u buffer offset → LeastAnswered book u buffer offset x
     unfolding leastOf
-    least-loaded u buffer offset x f =
+    least-loaded n c u buffer offset x f =
         let h = held in
         let B = wordsOf (h .presentation .relations) in
         let F = familyOf (h .presentation .relations) in
-        let g = rw (h .words, h .families) at f in
+        let g = rw (c, h .words, h .families) at f in
         let q : leastOf book u buffer offset ≡ loadedLeast letters B F u buffer offset = rw (h .is, ← h .lettered) in
         least-answered book u buffer offset x (g ∙ sym q)
 

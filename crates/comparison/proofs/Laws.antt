@@ -13,6 +13,7 @@ use Rattle.congruence.specs.Rows.Next.{end, go}
 use Rattle.congruence.specs.Rounds.{answerFrom, compareUnder}
 use Rattle.congruence.proofs.ShapeNoPrefix.{no-prefix-nil}
 use Rattle.layout.specs.Layout.{wordsIn}
+use Rattle.layout.specs.Families.{familyBy}
 use Rattle.refusals.specs.declared.Refusal.{Refusal}
 use Rattle.refusals.specs.declared.Refusal.the-variants.{Spent}
 use Rattle.given.specs.declared.Given.{Given}
@@ -36,7 +37,7 @@ use Rattle.comparison.specs.Comparing.{answerOf, comparisonOf}
 module _ (text table : List ℕ) (n : ℕ) (first second : Word) where
   -- the rounds from the words of a state, where some are done
   abbrev pub stateRounds : ℕ → ℕ → State → MadeRounds
-  stateRounds left done s = roundsFrom (wordsIn text table n) left done (placedWord text first (s .u)) (placedWord text second (s .v)) (placedMark text (s .mark))
+  stateRounds left done s = roundsFrom (wordsIn text table n) (familyBy table n) left done (placedWord text first (s .u)) (placedWord text second (s .v)) (placedMark text (s .mark))
 
 -- `done` rounds are made, and the rest from s gives what the rounds from the start give
 pub record Going (text table : List ℕ) (n : ℕ) (first second : Word) (start : State) (budget : ℕ) (s : State) (done : ℕ) : Type 0 where
@@ -62,7 +63,7 @@ module _ (text table : List ℕ) (n : ℕ) (first second : Word) (start : State)
   going-end b e = record { same = end-of (budget - done) b e ∙ sym (g .same); stands = tt }
 
   module _ (t : State) (e : r ≡ Moves.Next t) where
-    due : go (placedWord text first (t .u)) (placedWord text second (t .v)) (placedMark text (t .mark)) ≡ round (wordsIn text table n) (placedWord text first (s .u)) (placedWord text second (s .v)) (placedMark text (s .mark))
+    due : go (placedWord text first (t .u)) (placedWord text second (t .v)) (placedMark text (t .mark)) ≡ round (wordsIn text table n) (familyBy table n) (placedWord text first (s .u)) (placedWord text second (s .v)) (placedMark text (s .mark))
     due = rw e at (f .same)
 
     paused-here : paused (placedWord text first (s .u)) (placedWord text second (s .v)) (placedMark text (s .mark)) done ≡ stateRounds text table n first second 0 done s
@@ -93,7 +94,7 @@ pub ruleset goings = (going-start, going-end, going-paused, going-more, needs)
 pub whole-poised : (text table : List ℕ) (n : ℕ) (u v : Word) → Fitting text table n u v
     → StateReady text table n u v (record { u = record { at = 0; to = 0; from = 0 }; v = record { at = 0; to = 0; from = 0 }; mark = record { at = 0; to = 0 } })
 whole-poised text table n u v f =
-    let q = no-prefix-nil (wordsIn text table n) (rigid-of-c4 (wordsIn text table n) (f .ready .paired .checked .accepted)) in
+    let q = no-prefix-nil (wordsIn text table n) (rigid-of-c4 (wordsIn text table n) (f .ready .grouped .checked .accepted)) in
     record {
       fitting = f;
       standing = record {
@@ -104,34 +105,34 @@ whole-poised text table n u v f =
     }
 
 -- rounds that are not at their end are spent
-pub answered-rounds : (B : List Word) (left done : ℕ) (u v p : Word) → answered (roundsFrom B left done u v p) ≡ answerFrom B left done u v p
+pub answered-rounds : (B : List Word) (family : ℕ → ℕ) (left done : ℕ) (u v p : Word) → answered (roundsFrom B family left done u v p) ≡ answerFrom B family left done u v p
 unfolding roundsFrom answerFrom
-answered-rounds B zero done u v p = go (round B u v p) refl
+answered-rounds B family zero done u v p = go (round B family u v p) refl
   where
-    go : (x : Next) → round B u v p ≡ x → answered (roundsFrom B zero done u v p) ≡ answerFrom B zero done u v p
+    go : (x : Next) → round B family u v p ≡ x → answered (roundsFrom B family zero done u v p) ≡ answerFrom B family zero done u v p
     go (end b) e = rw e
     go (Next.go a b c) e = rw e
-answered-rounds B (suc left) done u v p = go (λ a b c. answered-rounds B left (done + 1) a b c) (round B u v p) refl
+answered-rounds B family (suc left) done u v p = go (λ a b c. answered-rounds B family left (done + 1) a b c) (round B family u v p) refl
   where
-    go : ((a b c : Word) → answered (roundsFrom B left (done + 1) a b c) ≡ answerFrom B left (done + 1) a b c) → (x : Next) → round B u v p ≡ x
-        → answered (roundsFrom B (suc left) done u v p) ≡ answerFrom B (suc left) done u v p
+    go : ((a b c : Word) → answered (roundsFrom B family left (done + 1) a b c) ≡ answerFrom B family left (done + 1) a b c) → (x : Next) → round B family u v p ≡ x
+        → answered (roundsFrom B family (suc left) done u v p) ≡ answerFrom B family (suc left) done u v p
     go ih (end b) e = rw e
     go ih (Next.go a b c) e = rw e (ih a b c)
 
 module _ (text table : List ℕ) (n : ℕ) (u v : Word) (allowance : ℕ) (r : Progress)
     (d : Progressed text table n u v (record { u = record { at = 0; to = 0; from = 0 }; v = record { at = 0; to = 0; from = 0 }; mark = record { at = 0; to = 0 } }) allowance r) where
-  told : compareUnder (wordsIn text table n) allowance u v ≡ answered (roundsOf text u v r)
-  told = sym (ap answered (d .same) ∙ answered-rounds (wordsIn text table n) allowance 0 u v [])
+  told : compareUnder (wordsIn text table n) (familyBy table n) allowance u v ≡ answered (roundsOf text u v r)
+  told = sym (ap answered (d .same) ∙ answered-rounds (wordsIn text table n) (familyBy table n) allowance 0 u v [])
 
-  pub compared-same : (b : Bool) (k : ℕ) → r ≡ Ended b k → b ≡ true → Same k ≡ answerOf (wordsIn text table n) u v allowance
+  pub compared-same : (b : Bool) (k : ℕ) → r ≡ Ended b k → b ≡ true → Same k ≡ answerOf (wordsIn text table n) (familyBy table n) u v allowance
   unfolding answerOf
   compared-same b k e f = sym (rw (told, e, f))
 
-  pub compared-different : (b : Bool) (k : ℕ) → r ≡ Ended b k → b ≡ false → Different k ≡ answerOf (wordsIn text table n) u v allowance
+  pub compared-different : (b : Bool) (k : ℕ) → r ≡ Ended b k → b ≡ false → Different k ≡ answerOf (wordsIn text table n) (familyBy table n) u v allowance
   unfolding answerOf
   compared-different b k e f = sym (rw (told, e, f))
 
-  pub compared-spent : (s : State) (k : ℕ) → r ≡ Paused s k → Refused (Spent k) ≡ answerOf (wordsIn text table n) u v allowance
+  pub compared-spent : (s : State) (k : ℕ) → r ≡ Paused s k → Refused (Spent k) ≡ answerOf (wordsIn text table n) (familyBy table n) u v allowance
   unfolding answerOf
   compared-spent s k e = sym (rw (told, e))
 
@@ -142,19 +143,19 @@ module _ (text table : List ℕ) (n : ℕ) (u v : Word) (a c a′ c′ : List �
   pub widened-fitting : Fitting text table n (take (length u) a′) (take (length v) c′)
   widened-fitting = rw (x .same, y .same) (w .fitting)
 
-  pub widened-answer : (allowance : ℕ) (r : Comparison) → r ≡ answerOf (wordsIn text table n) (take (length u) a′) (take (length v) c′) allowance
-      → r ≡ answerOf (wordsIn text table n) u v allowance
+  pub widened-answer : (allowance : ℕ) (r : Comparison) → r ≡ answerOf (wordsIn text table n) (familyBy table n) (take (length u) a′) (take (length v) c′) allowance
+      → r ≡ answerOf (wordsIn text table n) (familyBy table n) u v allowance
   widened-answer allowance r e = rw (x .same, y .same) at e
 
 pub ruleset widenings = (widened-fitting, widened-answer, needs)
 
 -- given words
 module _ (text table : List ℕ) (n letters : ℕ) (u v : Word) (allowance : ℕ) (g : Given) (e : g ≡ pairOf letters u v) where
-  pub given-refused : (r : Refusal) → g ≡ Words.Refused r → Refused r ≡ comparisonOf letters (wordsIn text table n) u v allowance
+  pub given-refused : (r : Refusal) → g ≡ Words.Refused r → Refused r ≡ comparisonOf letters (wordsIn text table n) (familyBy table n) u v allowance
   unfolding comparisonOf
   given-refused r f = rw (← e, f)
 
-  pub given-compared : (x : Comparison) → g ≡ Words.Fine → x ≡ answerOf (wordsIn text table n) u v allowance → x ≡ comparisonOf letters (wordsIn text table n) u v allowance
+  pub given-compared : (x : Comparison) → g ≡ Words.Fine → x ≡ answerOf (wordsIn text table n) (familyBy table n) u v allowance → x ≡ comparisonOf letters (wordsIn text table n) (familyBy table n) u v allowance
   unfolding comparisonOf
   given-compared x f h = rw (← e, f) h
 

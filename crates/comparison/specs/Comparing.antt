@@ -16,10 +16,10 @@ byAnswer (same n) = Same n
 byAnswer (different n) = Different n
 byAnswer (spent n) = Refused (Spent n)
 
--- the rows' answer for two words under relation words B
-unfoldable pub answerOf : List Word → Word → Word → ℕ → Comparison
-answerOf B u v allowance = byAnswer (compareUnder B allowance u v)
+-- the rows' answer for two words under relation words B and their families
+unfoldable pub answerOf : List Word → (ℕ → ℕ) → Word → Word → ℕ → Comparison
+answerOf B family u v allowance = byAnswer (compareUnder B family allowance u v)
 
--- two given words under relation words B of so many letters, with an allowance of rounds
-unfoldable pub comparisonOf : ℕ → List Word → Word → Word → ℕ → Comparison
-comparisonOf letters B u v allowance = onGiven (pairOf letters u v) Refused (answerOf B u v allowance)
+-- two given words under relation words B of so many letters and their families, with an allowance of rounds
+unfoldable pub comparisonOf : ℕ → List Word → (ℕ → ℕ) → Word → Word → ℕ → Comparison
+comparisonOf letters B family u v allowance = onGiven (pairOf letters u v) Refused (answerOf B family u v allowance)

@@ -9,6 +9,7 @@ use Rattle.congruence.specs.Rows.Next.{end, go}
 use Rattle.congruence.specs.Rounds.{CompareAnswer, ending}
 use Rattle.congruence.specs.Rounds.CompareAnswer.{spent}
 use Rattle.layout.specs.Layout.{wordsIn}
+use Rattle.layout.specs.Families.{familyBy}
 use Rattle.moves.specs.declared.State.{State}
 use Rattle.moves.specs.State.{placedWord, placedMark, StateFits}
 use Rattle.comparison.specs.declared.Progress.{Progress}
@@ -24,9 +25,9 @@ onRound (end b) n next = ended b n
 onRound (go u v p) n next = next u v p
 
 -- from u, v and p, where n rounds are done and `left` more are to be made
-unfoldable pub roundsFrom : List Word → ℕ → ℕ → Word → Word → Word → MadeRounds
-roundsFrom B zero n u v p = onRound (round B u v p) n (λ _ _ _. paused u v p n)
-roundsFrom B (suc left) n u v p = onRound (round B u v p) n (roundsFrom B left (n + 1))
+unfoldable pub roundsFrom : List Word → (ℕ → ℕ) → ℕ → ℕ → Word → Word → Word → MadeRounds
+roundsFrom B family zero n u v p = onRound (round B family u v p) n (λ _ _ _. paused u v p n)
+roundsFrom B family (suc left) n u v p = onRound (round B family u v p) n (roundsFrom B family left (n + 1))
 
 -- a comparison that is paused for want of rounds is spent
 abbrev pub answered : MadeRounds → CompareAnswer
@@ -45,5 +46,5 @@ ProgressFits text B first second (Paused s n) = StateFits text B first second s
 
 -- the rounds made are those of the rows from the words that the state stands for, at most so many
 pub record Progressed (text table : List ℕ) (n : ℕ) (first second : Word) (s : State) (budget : ℕ) (r : Progress) : Type 0 where
-  pub same : roundsOf text first second r ≡ roundsFrom (wordsIn text table n) budget 0 (placedWord text first (s .u)) (placedWord text second (s .v)) (placedMark text (s .mark))
+  pub same : roundsOf text first second r ≡ roundsFrom (wordsIn text table n) (familyBy table n) budget 0 (placedWord text first (s .u)) (placedWord text second (s .v)) (placedMark text (s .mark))
   pub stands : ProgressFits text (wordsIn text table n) first second r

@@ -1,6 +1,7 @@
 // The rounds of a comparison, and the comparison of two given words, which are widened into lent arrays.
 ghost use mathlib.Core.Path.{_≡_};
 ghost use Rattle.layout.specs.Layout.{wordsIn};
+ghost use Rattle.layout.specs.Families.{familyBy};
 ghost use Rattle.moves.specs.State.{Ready, Fitting, StateReady};
 ghost use Rattle.comparison.specs.Rounds.{Progressed};
 ghost use Rattle.comparison.specs.Widening.{ReadyToWiden, Widenable};
@@ -68,7 +69,7 @@ fn compare_words(
     allowance: u32,
 ) -> Comparison
     requires { ⌜ Fitting (now text) (now table) n (now u) (now v) ⌝ }
-    ensures { λ r. ⌜ r ≡ answerOf (wordsIn (now (text .entry)) (now (table .entry)) n) (now (u .entry)) (now (v .entry)) allowance ⌝ }
+    ensures { λ r. ⌜ r ≡ answerOf (wordsIn (now (text .entry)) (now (table .entry)) n) (familyBy (now (table .entry)) n) (now (u .entry)) (now (v .entry)) allowance ⌝ }
 {
     let whole = PlacedWord {
         at: 0,
@@ -104,7 +105,7 @@ fn compare_bytes(
     allowance: u32,
 ) -> Comparison
     requires { ⌜ Widenable (now text) (now table) n (now u) (now v) (now «wide_u») (now «wide_v») ⌝ }
-    ensures { λ r. ⌜ r ≡ answerOf (wordsIn (now (text .entry)) (now (table .entry)) n) (now (u .entry)) (now (v .entry)) allowance ⌝ }
+    ensures { λ r. ⌜ r ≡ answerOf (wordsIn (now (text .entry)) (now (table .entry)) n) (familyBy (now (table .entry)) n) (now (u .entry)) (now (v .entry)) allowance ⌝ }
 {
     widen_word(u, wide_u);
     widen_word(v, wide_v);
@@ -131,7 +132,7 @@ pub fn compare_given(
     allowance: u32,
 ) -> Comparison
     requires { ⌜ ReadyToWiden (now text) (now table) n (now u) (now v) (now «wide_u») (now «wide_v») ⌝ }
-    ensures { λ r. ⌜ r ≡ comparisonOf letters (wordsIn (now (text .entry)) (now (table .entry)) n) (now (u .entry)) (now (v .entry)) allowance ⌝ }
+    ensures { λ r. ⌜ r ≡ comparisonOf letters (wordsIn (now (text .entry)) (now (table .entry)) n) (familyBy (now (table .entry)) n) (now (u .entry)) (now (v .entry)) allowance ⌝ }
 {
     let given = given::check_pair(letters, u, v);
     match given {
@@ -151,7 +152,7 @@ fn compare_long(
     allowance: u32,
 ) -> Comparison
     requires { ⌜ Ready (now text) (now table) n ⌝ }
-    ensures { λ r. ⌜ r ≡ comparisonOf letters (wordsIn (now (text .entry)) (now (table .entry)) n) (now (u .entry)) (now (v .entry)) allowance ⌝ }
+    ensures { λ r. ⌜ r ≡ comparisonOf letters (wordsIn (now (text .entry)) (now (table .entry)) n) (familyBy (now (table .entry)) n) (now (u .entry)) (now (v .entry)) allowance ⌝ }
 {
     let mut first = [0u16; Word::COMPARED];
     let mut second = [0u16; Word::COMPARED];
@@ -179,7 +180,7 @@ pub fn compare_once(
     allowance: u32,
 ) -> Comparison
     requires { ⌜ Ready (now text) (now table) n ⌝ }
-    ensures { λ r. ⌜ r ≡ comparisonOf letters (wordsIn (now (text .entry)) (now (table .entry)) n) (now (u .entry)) (now (v .entry)) allowance ⌝ }
+    ensures { λ r. ⌜ r ≡ comparisonOf letters (wordsIn (now (text .entry)) (now (table .entry)) n) (familyBy (now (table .entry)) n) (now (u .entry)) (now (v .entry)) allowance ⌝ }
 {
     if given::SHORT < u.len() {
         return compare_long(text, table, n, letters, u, v, allowance);

@@ -12,6 +12,7 @@ use lib.ListN.{length, take, drop, length-drop}
 use lib.Seq.{take-all}
 use Rattle.words.specs.Search.{anyBelow}
 use Rattle.words.specs.Words.{Word, isPrefix, part}
+use Rattle.words.proofs.Lists.{no-letters}
 use Rattle.words.proofs.Parts.{part-length}
 use Rattle.words.proofs.Searching.{any-of}
 use Rattle.overlap.specs.Cuts.{xOf, zOf}
@@ -24,7 +25,7 @@ use Rattle.layout.proofs.Links.{kinTest, Along, along-start, along-next, along-
 use Rattle.sites.specs.declared.Site.{Site}
 use Rattle.sites.specs.Sites.{siteOf, SiteInText}
 use Rattle.sites.proofs.Sites.{Lies, lies, site-in-text}
-use Rattle.kin.specs.Asked.{RestAsked}
+use Rattle.kin.specs.Asked.{LinkedWord, RestAsked}
 
 -- a relation word of a checked presentation with families
 module _ (text table : List ℕ) (n i : ℕ) (h : GroupedWord text table n i) where
@@ -39,6 +40,9 @@ module _ (text table : List ℕ) (n i : ℕ) (h : GroupedWord text table n i) wh
 
   pub grouped-checked : Checked text table n
   grouped-checked = h .grouped .checked
+
+  pub grouped-linked : LinkedWord table n i
+  grouped-linked = let c = h .grouped .checked in record { linked = h .grouped .linked; room = c .indexed .room; few = c .laid .few; there = h .there }
 
   pub grouped-lies : (s : Site) → s ≡ siteOf table i → Lies text (wordsIn text table n) i s
   grouped-lies s e = rw e (lies text table n (h .grouped .checked) i (h .there))
@@ -77,6 +81,10 @@ module _ (text table : List ℕ) (n i : ℕ) (p : Word) (h : GroupedWord text ta
   marked-own x e t =
       marked-search true (any-of n (kinTest table n i (markTest text table n p)) i (h .there) (simp and-eq-true-iff (eq-eqb (familyBy table n i) (familyBy table n i) refl, sym e ∙ t)))
 
+  pub marked-empty : length p ≡ 0 → true ≡ markedByAny (wordsIn text table n) (familyBy table n) i p
+  unfolding isPrefix
+  marked-empty e = marked-own true (subst (λ (w : Word). true ≡ isPrefix w (xOf (wordsIn text table n) i)) (sym (no-letters p e)) refl) refl
+
   pub unmarked-start : (f : ℕ) → f ≡ familyAt table i → Unmarked text table n i p f
   unmarked-start f e = subst (Unmarked text table n i p) (sym e) (along-start table n (h .grouped .linked) i (h .there) (markTest text table n p))
 
@@ -95,7 +103,7 @@ module _ (text table : List ℕ) (n i : ℕ) (p : Word) (h : GroupedWord text ta
     pub member-later : j < n → (k : ℕ) → k ≡ nextOf table j → n - k < n - j
     member-later l k e = let a = h .grouped .linked .later j l in omega (arith, a, e, l)
 
-pub ruleset marksAny = (grouped, marked-own, unmarked-start, marked-some, unmarked-next, marked-none, member-later, needs)
+pub ruleset marksAny = (grouped, marked-own, marked-empty, unmarked-start, marked-some, unmarked-next, marked-none, member-later, needs)
 
 -- what is lent of a word from a place on is all that is left of it
 pub rest-lent : (source : Word) (from : ℕ) → take (length source - from) (drop from source) ≡ drop from source

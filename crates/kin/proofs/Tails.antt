@@ -23,7 +23,7 @@ use Rattle.layout.proofs.Placed.{words-length}
 use Rattle.layout.proofs.Cells.{family-at}
 use Rattle.layout.proofs.Links.{kinTest, Along, along-start, along-next, along-first, along-no-first}
 use Rattle.kin.specs.Asked.{LinkedWord, RestAsked, twoAtMost, activeOther}
-use Rattle.kin.proofs.Laws.{grouped, rest-word}
+use Rattle.kin.proofs.Laws.{grouped, grouped-linked, rest-word}
 
 -- the other members of a family by their cells
 module _ (table : List ℕ) (n i : ℕ) (h : LinkedWord table n i) where
@@ -36,12 +36,14 @@ module _ (table : List ℕ) (n i : ℕ) (h : LinkedWord table n i) where
   pub low-room : (f : ℕ) → f ≡ familyAt table i → nextCell f < length table
   low-room f e = let a = h .linked .low i (h .there) in let b = h .few in let c = h .room in let d = h .there in omega (arith, a, b, c, d, e)
 
+  -- another member is one of the same family that is not i
   other-of : (k : ℕ) → k < n → isOther (familyBy table n) i k ≡ true → (familyAt table k ≡ familyAt table i) × (i ≡ k → ⊥)
   unfolding isOther
   other-of k l t =
-      let r = simp and-eq-true-iff at t in
-      (sym (family-at table n k l) ∙ sym (eqb-true (familyBy table n i) (familyBy table n k) (r .0)) ∙ family-at table n i (h .there),
-       λ e. true≢false (sym (eq-eqb i k e) ∙ not-true (eqb i k) (r .1)))
+      let r = simp and-eq-true-iff at t in (
+        sym (family-at table n k l) ∙ sym (eqb-true (familyBy table n i) (familyBy table n k) (r .0)) ∙ family-at table n i (h .there),
+        λ e. true≢false (sym (eq-eqb i k e) ∙ not-true (eqb i k) (r .1)),
+      )
 
   of-other : (k : ℕ) → k < n → familyAt table k ≡ familyAt table i → (i ≡ k → ⊥) → isOther (familyBy table n) i k ≡ true
   unfolding isOther
@@ -52,13 +54,16 @@ module _ (table : List ℕ) (n i : ℕ) (h : LinkedWord table n i) where
   none-below-low : NoneBelow (isOther (familyBy table n) i) (familyAt table i)
   none-below-low =
       let a = h .linked .low i (h .there) in
-      record { none = λ k l. false-of (isOther (familyBy table n) i k) (λ t.
-          let b : k < n = let c = h .there in omega (arith, a, l, c) in
-          let o = other-of k b t in
-          let c = h .linked .low k b in
-          absurd (omega (arith, c, l, o .0))) }
+      record {
+        none = λ k l. false-of (isOther (familyBy table n) i k) (λ t.
+            let b : k < n = let c = h .there in omega (arith, a, l, c) in
+            let o = other-of k b t in
+            let c = h .linked .low k b in
+            absurd (omega (arith, c, l, o .0)));
+      }
 
   module _ (f : ℕ) (e : f ≡ familyAt table i) where
+    -- the lowest member, where it is not i
     pub other-low : (f ≡ i → ⊥) → f ≡ least n (isOther (familyBy table n) i)
     other-low d =
         let l = h .linked .low i (h .there) in
@@ -75,12 +80,14 @@ module _ (table : List ℕ) (n i : ℕ) (h : LinkedWord table n i) where
           let z : i < m = let d = o .1 in by-cases (decLt i m) (λ x. x) (λ x. absurd (d (omega (arith, x, c, o .0, w, e)))) in
           h .linked .none i m (h .there) z (omega (arith, b, g)) a (o .0))
 
+      -- the member behind i, where i is the lowest
       pub other-next : k < n → k ≡ least n (isOther (familyBy table n) i)
       other-next l =
           let a = h .linked .later i (h .there) in
           sym (least-is n (isOther (familyBy table n) i) k l (record { none = λ m b. none-below-next m (omega (arith, b, l)) b })
           (of-other k l (ap (familyAt table) g ∙ h .linked .kin i (h .there) (omega (arith, l, g))) (λ z. absurd (omega (arith, a, g, z)))))
 
+      -- none, where i is alone
       pub other-none : n ≤ k → n ≡ least n (isOther (familyBy table n) i)
       other-none l = sym (least-none n (isOther (familyBy table n) i) (record { none = λ m b. none-below-next m b (omega (arith, b, l)) }))
 
@@ -116,9 +123,9 @@ module _ (table : List ℕ) (n i : ℕ) (h : LinkedWord table n i) where
       by-cases (decLt k second)
       (λ z. absurd (h .linked .none low k b x z l (m ∙ sym c)))
       (λ z. by-cases (ℕ-discrete k second) (λ w. w) (λ w.
-          let s : second < n = omega (arith, z, l) in
-          let r : leb n (nextOf table second) ≡ true = rw (lt-leb n second s) at t in
-          absurd (h .linked .none second k s (omega (arith, z, w)) (let y = leb-true n (nextOf table second) r in omega (arith, y, l)) l (m ∙ sym (h .linked .kin low b s ∙ c)))))
+      let s : second < n = omega (arith, z, l) in
+      let r : leb n (nextOf table second) ≡ true = rw (lt-leb n second s) at t in
+      absurd (h .linked .none second k s (omega (arith, z, w)) (let y = leb-true n (nextOf table second) r in omega (arith, y, l)) l (m ∙ sym (h .linked .kin low b s ∙ c)))))
 
   -- and there is at most one other member
   pub one-other : twoAtMost table n i ≡ true → (a b : ℕ) → a < n → b < n → isOther (familyBy table n) i a ≡ true → isOther (familyBy table n) i b ≡ true → a ≡ b
@@ -157,7 +164,8 @@ and-assoc false b c = refl
 
 module _ (text table : List ℕ) (n : ℕ) (given : Word) (i k : ℕ) (a : RestAsked text table n given i k) where
   -- the search over members, as it stands in the definition
-  active-search : (r : ℕ) → least n (kinTest table n i (activeOther (wordsIn text table n) i (drop k given))) ≡ r → r ≡ firstActive (wordsIn text table n) (familyBy table n) i (drop k given)
+  active-search : (r : ℕ) → least n (kinTest table n i (activeOther (wordsIn text table n) i (drop k given))) ≡ r
+      → r ≡ firstActive (wordsIn text table n) (familyBy table n) i (drop k given)
   unfolding firstActive isOther activeOther
   active-search r e =
       let B = wordsIn text table n in
@@ -167,7 +175,9 @@ module _ (text table : List ℕ) (n : ℕ) (given : Word) (i k : ℕ) (a : RestA
       ∙ rw (words-length text table n)
 
   pub quiet-start : (f : ℕ) → f ≡ familyAt table i → Quiet text table n given i k f
-  quiet-start f e = subst (Quiet text table n given i k) (sym e) (along-start table n (a .word .grouped .linked) i (a .word .there) (activeOther (wordsIn text table n) i (drop k given)))
+  quiet-start f e =
+      subst (Quiet text table n given i k) (sym e)
+      (along-start table n (a .word .grouped .linked) i (a .word .there) (activeOther (wordsIn text table n) i (drop k given)))
 
   pub rest-of-other : (j : ℕ) → j < n → RestAsked text table n given j k
   rest-of-other j l = record { word = record { grouped = a .word .grouped; there = l }; within = a .within }
@@ -194,9 +204,7 @@ pub ruleset quiets = (rest-word, grouped, rest-of-other, quiet-start, quiet-stop
 -- the member whose tail is taken
 module _ (text table : List ℕ) (n : ℕ) (given : Word) (i k : ℕ) (a : RestAsked text table n given i k) where
   pub tail-linked : LinkedWord table n i
-  tail-linked =
-      let c = a .word .grouped .checked in
-      record { linked = a .word .grouped .linked; room = c .indexed .room; few = c .laid .few; there = a .word .there }
+  tail-linked = grouped-linked text table n i (a .word)
 
   module _ (x : Bool) (ex : x ≡ active (wordsIn text table n) (zOf (wordsIn text table n) i) (drop k given)) where
     pub tail-own : x ≡ true → i ≡ tailMember (wordsIn text table n) (familyBy table n) i (drop k given)
@@ -220,14 +228,16 @@ module _ (text table : List ℕ) (n : ℕ) (given : Word) (i k : ℕ) (a : RestA
           absurd (true≢false (sym (active-other f e l) ∙ least-first n (isOther (familyBy table n) i) .none f (omega (arith, z, eo)))))
 
       -- the first active other member, where there is one
-      pub tail-active : (f : ℕ) → f ≡ firstActive (wordsIn text table n) (familyBy table n) i (drop k given) → f < n → f ≡ tailMember (wordsIn text table n) (familyBy table n) i (drop k given)
+      pub tail-active : (f : ℕ) → f ≡ firstActive (wordsIn text table n) (familyBy table n) i (drop k given) → f < n
+          → f ≡ tailMember (wordsIn text table n) (familyBy table n) i (drop k given)
       unfolding tailMember
       tail-active f e l =
           let q : ltb f n ≡ true = lt-ltb f n l in
           rw (← ex, t, ← e, words-length text table n, q)
 
       -- else the first other member
-      pub tail-quiet : (f : ℕ) → f ≡ firstActive (wordsIn text table n) (familyBy table n) i (drop k given) → n ≤ f → o < n → o ≡ tailMember (wordsIn text table n) (familyBy table n) i (drop k given)
+      pub tail-quiet : (f : ℕ) → f ≡ firstActive (wordsIn text table n) (familyBy table n) i (drop k given) → n ≤ f → o < n
+          → o ≡ tailMember (wordsIn text table n) (familyBy table n) i (drop k given)
       unfolding tailMember firstOther
       tail-quiet f e l h =
           let q : ltb f n ≡ false = le-ltb f n l in

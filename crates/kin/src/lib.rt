@@ -18,11 +18,14 @@ fn mark_in_word(text: &[u16], table: &[u16], n: usize, j: usize, p: &[u16]) -> b
     sites::mark_in_x(text, sites::read_site(table, j), p)
 }
 
-// Whether p is a prefix of the X of a member of relation word i's family. Its own X is tried first: that is where a mark mostly lies, and an empty one always.
+// Whether p is a prefix of the X of a member of relation word i's family. An empty mark is one of every X, and another mostly lies in its own X, which is tried first.
 pub fn mark_in_any_x(text: &[u16], table: &[u16], n: usize, i: usize, p: &[u16]) -> bool
     requires { ⌜ GroupedWord (now text) (now table) n i ⌝ }
     ensures { λ r. ⌜ r ≡ markedByAny (wordsIn (now (text .entry)) (now (table .entry)) n) (familyBy (now (table .entry)) n) i (now (p .entry)) ⌝ }
 {
+    if p.len() == 0 {
+        return true;
+    }
     if mark_in_word(text, table, n, i, p) {
         return true;
     }
@@ -37,22 +40,21 @@ pub fn mark_in_any_x(text: &[u16], table: &[u16], n: usize, i: usize, p: &[u16])
 }
 
 // Whether the given word from place k on is active for the Z of relation word j.
-pub fn active_behind(text: &[u16], table: &[u16], n: usize, given: &[u16], j: usize, k: usize) -> bool
+pub fn active_behind(
+    text: &[u16],
+    table: &[u16],
+    n: usize,
+    given: &[u16],
+    j: usize,
+    k: usize,
+) -> bool
     requires { ⌜ RestAsked (now text) (now table) n (now given) j k ⌝ }
     ensures { λ r. ⌜ r ≡ active (wordsIn (now (text .entry)) (now (table .entry)) n) (zOf (wordsIn (now (text .entry)) (now (table .entry)) n) j) (drop k (now (given .entry))) ⌝ }
 {
     let z = sites::read_site(table, j);
     let from = z.tail;
     let to = z.stop;
-    sites::has_prefix_between(
-        text,
-        table,
-        n,
-        &text[from..to],
-        &given[k..],
-        0,
-        to - from,
-    )
+    sites::has_prefix_between(text, table, n, &text[from..to], &given[k..], 0, to - from)
 }
 
 // The first other member of relation word i's family, or n: the lowest member, which is the family's number, or the next one where i is the lowest itself.
@@ -84,7 +86,15 @@ fn two_at_most(table: &[u16], n: usize, i: usize) -> bool
 }
 
 // Whether relation word j is not i and the given word from place k on is active for its Z.
-fn active_other(text: &[u16], table: &[u16], n: usize, given: &[u16], i: usize, j: usize, k: usize) -> bool
+fn active_other(
+    text: &[u16],
+    table: &[u16],
+    n: usize,
+    given: &[u16],
+    i: usize,
+    j: usize,
+    k: usize,
+) -> bool
     requires { ⌜ RestAsked (now text) (now table) n (now given) j k ⌝ }
     ensures { λ r. ⌜ r ≡ activeOther (wordsIn (now (text .entry)) (now (table .entry)) n) i (drop k (now (given .entry))) j ⌝ }
 {
@@ -99,19 +109,26 @@ fn first_active(text: &[u16], table: &[u16], n: usize, given: &[u16], i: usize, 
     requires { ⌜ RestAsked (now text) (now table) n (now given) i k ⌝ }
     ensures { λ r. ⌜ r ≡ firstActive (wordsIn (now (text .entry)) (now (table .entry)) n) (familyBy (now (table .entry)) n) i (drop k (now (given .entry))) ⌝ }
 {
-    let mut j = layout::family_of(table, i);
-    while j < n {
-        if active_other(text, table, n, given, i, j, k) {
-            return j;
+    let mut member = layout::family_of(table, i);
+    while member < n {
+        if active_other(text, table, n, given, i, member, k) {
+            return member;
         }
-        j = layout::next_of(table, j);
+        member = layout::next_of(table, member);
     }
     n
 }
 
 // The member of relation word i's family whose Z row 4 goes on with, where the given word from place k on is the rest of u. Where only one other member is there,
 // it is that one, whether the rest is active for it or not.
-pub fn tail_member(text: &[u16], table: &[u16], n: usize, given: &[u16], i: usize, k: usize) -> usize
+pub fn tail_member(
+    text: &[u16],
+    table: &[u16],
+    n: usize,
+    given: &[u16],
+    i: usize,
+    k: usize,
+) -> usize
     requires { ⌜ RestAsked (now text) (now table) n (now given) i k ⌝ }
     ensures { λ r. ⌜ r ≡ tailMember (wordsIn (now (text .entry)) (now (table .entry)) n) (familyBy (now (table .entry)) n) i (drop k (now (given .entry))) ⌝ }
 {

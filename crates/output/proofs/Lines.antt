@@ -7,10 +7,9 @@ use native.Mathlib.Nat.{add-zero}
 use borrow.Author.Needs.{needs}
 use borrow.Author.Tests.{lt-leb, le-leb}
 use lib.ListN.{length, length-append, take-append-drop}
-use mir.Val.{Fits}
-use mir.Syntax.{w64}
 use Rattle.words.specs.Words.{part}
 use Rattle.layout.specs.Layout.{wordsIn}
+use Rattle.layout.specs.Places.{countCell}
 use Rattle.layout.specs.Families.{countOf, familyBy}
 use Rattle.refusals.specs.declared.Refusal.{Refusal}
 use Rattle.comparison.specs.declared.Comparison.{Comparison}
@@ -168,23 +167,25 @@ module _ (text table : List ℕ) (relations letters : ℕ) (input : List ℕ) (e
   room : 0 + length (linesOfAccepted text table relations letters input end) ≤ length out
   room = omega (arith, h .room)
 
-  pub accepted-words : Fits w64 (2 * relations)
-  accepted-words = omega (arith, h .few)
+  pub accepted-counted : countCell < length table
+  accepted-counted = omega (arith, h .ready .grouped .checked .indexed .room)
 
   pub accepted-line : 0 + length (lineOf bookText relations) ≤ length out
   accepted-line = room-first out 0 (lineOf bookText relations) (linesUnder text table (countOf table) letters input end) room
 
   module _ (a : List ℕ) (r : ℕ) (p : WrittenTo out 0 (lineOf bookText relations) a r) where
-    pub accepted-lined : Lined text table (2 * relations) letters input end a r
-    accepted-lined =
-        record {
-          ready = h .ready;
-          within = h .within;
-          room = room-second out 0 (lineOf bookText relations) a r (linesUnder text table (countOf table) letters input end) room p;
-        }
+    -- the words are as many as the table tells
+    module _ (n : ℕ) (e : n ≡ countOf table) where
+      pub accepted-lined : Lined text table n letters input end a r
+      accepted-lined =
+          record {
+            ready = rw e (h .ready);
+            within = h .within;
+            room = rw e (room-second out 0 (lineOf bookText relations) a r (linesUnder text table (countOf table) letters input end) room p);
+          }
 
-    pub accepted-put : (b : List ℕ) (q : ℕ) → WrittenTo a r (linesUnder text table (countOf table) letters input end) b q
-        → WrittenTo out 0 (linesOfAccepted text table relations letters input end) b q
-    accepted-put b q g = put-both out 0 (lineOf bookText relations) a r (linesUnder text table (countOf table) letters input end) b q room p g
+      pub accepted-put : (b : List ℕ) (q : ℕ) → WrittenTo a r (linesUnder text table n letters input end) b q
+          → WrittenTo out 0 (linesOfAccepted text table relations letters input end) b q
+      accepted-put b q g = put-both out 0 (lineOf bookText relations) a r (linesUnder text table (countOf table) letters input end) b q room p (rw e at g)
 
-pub ruleset accepts = (accepted-words, accepted-line, accepted-lined, accepted-put, needs)
+pub ruleset accepts = (accepted-counted, accepted-line, accepted-lined, accepted-put, needs)

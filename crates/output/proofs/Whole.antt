@@ -64,7 +64,6 @@ module _ (input : List ℕ) (end : ℕ) (e : end ≡ bookEnd input) where
       accepted-fits out h =
           let k = held in
           record {
-            few = omega (arith, k .many, k .within .fewRelations);
             ready = record { grouped = k .grouped; text-short = omega (arith, l .memory .textRoomy) };
             within = book-within;
             room = omega (arith, h .room, ap length accepted-whole);

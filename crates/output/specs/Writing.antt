@@ -6,7 +6,6 @@ use Rattle.layout.specs.Layout.{wordsIn}
 use Rattle.layout.specs.Families.{countOf, familyBy}
 use Rattle.moves.specs.State.{Ready}
 use Rattle.lines.specs.Lines.{lineOf}
-use Rattle.limits.specs.Limits.{relationsMost}
 use Rattle.output.specs.Program.{bookText, linesFrom, loadedOutput}
 
 -- the lines of the comparison records from a position on, under the relation words of a checked presentation
@@ -25,7 +24,6 @@ linesOfAccepted text table relations letters input end = lineOf bookText relatio
 
 -- the presentation is checked, the book ends in the input, and there is room for the lines at the start of the buffer
 pub record Accepted (text table : List ℕ) (relations letters : ℕ) (input : List ℕ) (end : ℕ) (out : List ℕ) : Type 0 where
-  pub few : relations ≤ relationsMost
   pub ready : Ready text table (countOf table)
   pub within : end ≤ length input
   pub room : length (linesOfAccepted text table relations letters input end) ≤ length out

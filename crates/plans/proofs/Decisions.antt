@@ -11,7 +11,7 @@ use Rattle.words.proofs.Parts.{part-length}
 use Rattle.words.proofs.CommonSuffixes.{suffix-within}
 use Rattle.overlap.specs.Cuts.{len}
 use Rattle.overlap.proofs.Facts.{rigid-of-c4}
-use Rattle.congruence.specs.Rows.{cleanRelationPrefix, primedWord, tailMember, makes, row1, round}
+use Rattle.congruence.specs.Rows.{cleanRelationPrefix, Next, primedWord, tailMember, makes, row1, round}
 use Rattle.congruence.proofs.FirstRow.{Fits, Member, fits, prefix-of-fits, row-eight, xy-of-whole}
 use Rattle.congruence.proofs.FirstRow.Fits.{fits1, fits2, fits3, fits4, fits5, fits6, fits7, fits8}
 use Rattle.congruence.proofs.ShapeNoPrefix.{prefix-past-tail}
@@ -62,27 +62,41 @@ member-of-fits (fits6 c m o a z w) h = o
 member-of-fits (fits7 c m o a w z) h = o
 member-of-fits (fits8 c m o a w z) h = o
 
+-- the relation word of u's clean relation prefix, and the member of its family that v begins with
+abbrev ownWord : List ℕ → List ℕ → ℕ → Word → ℕ
+ownWord text table n u = cleanRelationPrefix (wordsIn text table n) u
+
+abbrev memberWord : List ℕ → List ℕ → ℕ → Word → Word → ℕ
+memberWord text table n u v = primedWord (wordsIn text table n) (familyBy table n) u v
+
+-- what holds where a row fits first, and what it makes
+abbrev FitsRow : List ℕ → List ℕ → ℕ → Word → Word → Word → ℕ → Type 0
+FitsRow text table n u v p k = Fits (wordsIn text table n) (familyBy table n) (ownWord text table n u) (memberWord text table n u v) u v p k
+
+abbrev rowMakes : List ℕ → List ℕ → ℕ → Word → Word → Word → ℕ → Next
+rowMakes text table n u v p k = makes (wordsIn text table n) (familyBy table n) (ownWord text table n u) (memberWord text table n u v) u v p k
+
 -- the arms of the decision
 module _ (text table : List ℕ) (n : ℕ) (u v p : Word) (f : Found) (h : FoundRow text table n u v p f) where
   -- what holds where the row that is found has this number
-  fits-found : (k : ℕ) → f .row ≡ k → Fits (wordsIn text table n) (familyBy table n) (cleanRelationPrefix (wordsIn text table n) u) (primedWord (wordsIn text table n) (familyBy table n) u v) u v p k
+  fits-found : (k : ℕ) → f .row ≡ k → FitsRow text table n u v p k
   fits-found k e =
-      subst (Fits (wordsIn text table n) (familyBy table n) (cleanRelationPrefix (wordsIn text table n) u) (primedWord (wordsIn text table n) (familyBy table n) u v) u v p) (sym (h .number) ∙ e) (fits (wordsIn text table n) (familyBy table n) u v p)
+      subst (FitsRow text table n u v p) (sym (h .number) ∙ e) (fits (wordsIn text table n) (familyBy table n) u v p)
 
   pub found-some : f .row ≡ 2 → BothNonEmpty u v
   found-some e = some (fits-found 2 e)
     where
-      some : Fits (wordsIn text table n) (familyBy table n) (cleanRelationPrefix (wordsIn text table n) u) (primedWord (wordsIn text table n) (familyBy table n) u v) u v p 2 → BothNonEmpty u v
+      some : FitsRow text table n u v p 2 → BothNonEmpty u v
       some (fits2 a b l) = record { someU = a; someV = b }
 
   -- a plan that carries what the row makes gives the round
   by-row : (k : ℕ) → f .row ≡ k → (r : Plan)
-      → Carries text (wordsIn text table n) u v p r (makes (wordsIn text table n) (familyBy table n) (cleanRelationPrefix (wordsIn text table n) u) (primedWord (wordsIn text table n) (familyBy table n) u v) u v p k)
+      → Carries text (wordsIn text table n) u v p r (rowMakes text table n u v p k)
       → PlansRound text table n u v p r
   unfolding round
   by-row k e r q =
       record {
-        same = q .same ∙ ap (makes (wordsIn text table n) (familyBy table n) (cleanRelationPrefix (wordsIn text table n) u) (primedWord (wordsIn text table n) (familyBy table n) u v) u v p) (sym e ∙ h .number);
+        same = q .same ∙ ap (rowMakes text table n u v p) (sym e ∙ h .number);
         fits = q .fits;
       }
 
@@ -93,7 +107,7 @@ module _ (text table : List ℕ) (n : ℕ) (u v p : Word) (f : Found) (h : Found
   pub by2 : (r : Plan) → f .row ≡ 2 → r ≡ plan2 u v p → PlansRound text table n u v p r
   unfolding makes
   by2 r e g =
-      by-row 2 e r (rw g (carried2 text (wordsIn text table n) (familyBy table n) (cleanRelationPrefix (wordsIn text table n) u) (primedWord (wordsIn text table n) (familyBy table n) u v) u v p (fits-found 2 e)))
+      by-row 2 e r (rw g (carried2 text (wordsIn text table n) (familyBy table n) (ownWord text table n u) (memberWord text table n u v) u v p (fits-found 2 e)))
 
   pub by3 : f .row ≡ 3 → PlansRound text table n u v p (End false)
   unfolding makes planned
@@ -101,29 +115,29 @@ module _ (text table : List ℕ) (n : ℕ) (u v p : Word) (f : Found) (h : Found
 
   module _ (c : Grouped text table n) where
     -- from row 4 on both relation words lie in the text
-    own-word : (k : ℕ) → f .row ≡ k → 3 < k → GroupedWord text table n (cleanRelationPrefix (wordsIn text table n) u)
-    own-word k e l =
+    own-grouped : (k : ℕ) → f .row ≡ k → 3 < k → GroupedWord text table n (ownWord text table n u)
+    own-grouped k e l =
         let t = prefix-of-fits (fits-found k e) (omega arith) .there in
         let b = words-length text table n in
         record { grouped = c; there = omega (arith, t, b) }
 
-    member-word : (k : ℕ) → f .row ≡ k → 3 < k → GroupedWord text table n (primedWord (wordsIn text table n) (familyBy table n) u v)
-    member-word k e l =
+    member-grouped : (k : ℕ) → f .row ≡ k → 3 < k → GroupedWord text table n (memberWord text table n u v)
+    member-grouped k e l =
         let t = member-of-fits (fits-found k e) l .there in
         let b = words-length text table n in
         record { grouped = c; there = omega (arith, t, b) }
 
-    lies-own : (k : ℕ) → f .row ≡ k → 3 < k → Lies text (wordsIn text table n) (cleanRelationPrefix (wordsIn text table n) u) (f .own)
-    lies-own k e l = grouped-lies text table n (cleanRelationPrefix (wordsIn text table n) u) (own-word k e l) (f .own) (h .own (omega arith))
+    lies-own : (k : ℕ) → f .row ≡ k → 3 < k → Lies text (wordsIn text table n) (ownWord text table n u) (f .own)
+    lies-own k e l = grouped-lies text table n (ownWord text table n u) (own-grouped k e l) (f .own) (h .own (omega arith))
 
-    lies-member : (k : ℕ) → f .row ≡ k → 3 < k → Lies text (wordsIn text table n) (primedWord (wordsIn text table n) (familyBy table n) u v) (f .member)
-    lies-member k e l = grouped-lies text table n (primedWord (wordsIn text table n) (familyBy table n) u v) (member-word k e l) (f .member) (h .member (omega arith))
+    lies-member : (k : ℕ) → f .row ≡ k → 3 < k → Lies text (wordsIn text table n) (memberWord text table n u v) (f .member)
+    lies-member k e l = grouped-lies text table n (memberWord text table n u v) (member-grouped k e l) (f .member) (h .member (omega arith))
 
     found-sites : (k : ℕ) → f .row ≡ k → 3 < k → SitesInText text (f .own) (f .member)
     found-sites k e l =
         record {
-          own = site-in-text text (wordsIn text table n) (cleanRelationPrefix (wordsIn text table n) u) (f .own) (lies-own k e l);
-          other = site-in-text text (wordsIn text table n) (primedWord (wordsIn text table n) (familyBy table n) u v) (f .member) (lies-member k e l);
+          own = site-in-text text (wordsIn text table n) (ownWord text table n u) (f .own) (lies-own k e l);
+          other = site-in-text text (wordsIn text table n) (memberWord text table n u v) (f .member) (lies-member k e l);
         }
 
     sites-upwards : SitesInText text (f .own) (f .member) → SitesUpwards (f .own) (f .member)
@@ -153,24 +167,35 @@ module _ (text table : List ℕ) (n : ℕ) (u v p : Word) (f : Found) (h : Found
           let B = wordsIn text table n in
           let F = familyBy table n in
           let lo = lies-own 4 e (omega arith) in
-          let w = own-word 4 e (omega arith) .there in
+          let w = own-grouped 4 e (omega arith) .there in
           let b = words-length text table n in
           let k = tailMember B F (f .word) (drop (f .own .stop - f .own .start) u) in
           let q : k ≡ tailMember B F (cleanRelationPrefix B u) (drop (len B (cleanRelationPrefix B u)) u) = rw (h .word (omega arith), lo .long) in
-          let t = tail-member-there B (rigid-of-c4 B (c .checked .accepted)) F (f .word) (drop (f .own .stop - f .own .start) u) (let d = h .word (omega arith) in omega (arith, b, w, d)) in
-          by-row 4 e r (rw g (carried4 text B _ _ (f .own) (f .member) lo (lies-member 4 e (omega arith)) F u v p k (siteOf table k) (lies text table n (c .checked) k (omega (arith, b, t))) q (fits-found 4 e)))
+          let d = h .word (omega arith) in
+          let t = tail-member-there B (rigid-of-c4 B (c .checked .accepted)) F (f .word) (drop (f .own .stop - f .own .start) u) (omega (arith, b, w, d)) in
+          let lk = lies text table n (c .checked) k (omega (arith, b, t)) in
+          by-row 4 e r (rw g (carried4 text B _ _ (f .own) (f .member) lo (lies-member 4 e (omega arith)) F u v p k (siteOf table k) lk q (fits-found 4 e)))
 
       pub by5 : f .row ≡ 5 → r ≡ plan5 text (f .own) p → PlansRound text table n u v p r
       unfolding makes
-      by5 e g = by-row 5 e r (rw g (carried5 text (wordsIn text table n) _ _ (f .own) (f .member) (lies-own 5 e (omega arith)) (lies-member 5 e (omega arith)) (familyBy table n) u v p (fits-found 5 e)))
+      by5 e g =
+          let lo = lies-own 5 e (omega arith) in
+          let lm = lies-member 5 e (omega arith) in
+          by-row 5 e r (rw g (carried5 text (wordsIn text table n) _ _ (f .own) (f .member) lo lm (familyBy table n) u v p (fits-found 5 e)))
 
       pub by6 : f .row ≡ 6 → r ≡ plan6 (f .own) (f .member) (length p) → PlansRound text table n u v p r
       unfolding makes
-      by6 e g = by-row 6 e r (rw g (carried6 text (wordsIn text table n) _ _ (f .own) (f .member) (lies-own 6 e (omega arith)) (lies-member 6 e (omega arith)) (familyBy table n) u v p (fits-found 6 e)))
+      by6 e g =
+          let lo = lies-own 6 e (omega arith) in
+          let lm = lies-member 6 e (omega arith) in
+          by-row 6 e r (rw g (carried6 text (wordsIn text table n) _ _ (f .own) (f .member) lo lm (familyBy table n) u v p (fits-found 6 e)))
 
       pub by7 : f .row ≡ 7 → r ≡ plan7 (f .own) (f .member) (length p) → PlansRound text table n u v p r
       unfolding makes
-      by7 e g = by-row 7 e r (rw g (carried7 text (wordsIn text table n) _ _ (f .own) (f .member) (lies-own 7 e (omega arith)) (lies-member 7 e (omega arith)) (familyBy table n) u v p (fits-found 7 e)))
+      by7 e g =
+          let lo = lies-own 7 e (omega arith) in
+          let lm = lies-member 7 e (omega arith) in
+          by-row 7 e r (rw g (carried7 text (wordsIn text table n) _ _ (f .own) (f .member) lo lm (familyBy table n) u v p (fits-found 7 e)))
 
     -- the last arm: a row that is none of the others
     module _ (h1 : f .row ≡ 1 → ⊥) (h2 : f .row ≡ 2 → ⊥) (h3 : f .row ≡ 3 → ⊥) (h4 : f .row ≡ 4 → ⊥) (h5 : f .row ≡ 5 → ⊥) (h6 : f .row ≡ 6 → ⊥) (h7 : f .row ≡ 7 → ⊥) where
@@ -182,7 +207,10 @@ module _ (text table : List ℕ) (n : ℕ) (u v p : Word) (f : Found) (h : Found
 
       pub by8 : (r : Plan) → r ≡ plan8Of text (f .own) (f .member) (sharedSuffix text (f .own) (f .member)) u v p → PlansRound text table n u v p r
       unfolding makes
-      by8 r g = by-row 8 last r (rw g (carried8 text (wordsIn text table n) _ _ (f .own) (f .member) (lies-own 8 last (omega arith)) (lies-member 8 last (omega arith)) (familyBy table n) u v p (fits-found 8 last)))
+      by8 r g =
+          let lo = lies-own 8 last (omega arith) in
+          let lm = lies-member 8 last (omega arith) in
+          by-row 8 last r (rw g (carried8 text (wordsIn text table n) _ _ (f .own) (f .member) lo lm (familyBy table n) u v p (fits-found 8 last)))
 
 -- what is asked of the head part
 module _ (text table : List ℕ) (n : ℕ) (ua : Word) (c : HeadClear text table n ua) where
@@ -193,14 +221,15 @@ module _ (text table : List ℕ) (n : ℕ) (ua : Word) (c : HeadClear text table
   pub row4-words : (ub v p : Word) (f : Found) → FoundRow text table n (ua ++ ub) v p f → f .row ≡ 4 → WholeWords text table n (f .word) (f .own) (f .member) ua ub
   row4-words ub v p f h e = words (fits-found text table n (ua ++ ub) v p f h 4 e)
     where
-      words : Fits (wordsIn text table n) (familyBy table n) (cleanRelationPrefix (wordsIn text table n) (ua ++ ub)) (primedWord (wordsIn text table n) (familyBy table n) (ua ++ ub) v) (ua ++ ub) v p 4
+      words : FitsRow text table n (ua ++ ub) v p 4
           → WholeWords text table n (f .word) (f .own) (f .member) ua ub
       words (fits4 k m o q r) =
-          let i = cleanRelationPrefix (wordsIn text table n) (ua ++ ub) in
+          let i = ownWord text table n (ua ++ ub) in
           let lo = lies-own text table n (ua ++ ub) v p f h (c .grouped) 4 e (omega arith) in
           let lm = lies-member text table n (ua ++ ub) v p f h (c .grouped) 4 e (omega arith) in
-          let w = own-word text table n (ua ++ ub) v p f h (c .grouped) 4 e (omega arith) in
-          let a = prefix-past-tail (wordsIn text table n) (rigid-of-c4 (wordsIn text table n) (c .grouped .checked .accepted)) ua ub i (c .clear) (k .there) (xy-of-whole (wordsIn text table n) i (ua ++ ub) q) in
+          let w = own-grouped text table n (ua ++ ub) v p f h (c .grouped) 4 e (omega arith) in
+          let x = xy-of-whole (wordsIn text table n) i (ua ++ ub) q in
+          let a = prefix-past-tail (wordsIn text table n) (rigid-of-c4 (wordsIn text table n) (c .grouped .checked .accepted)) ua ub i (c .clear) (k .there) x in
           let b = whole-within text (wordsIn text table n) i (f .own) lo (ua ++ ub) q in
           let d = length-append ua ub in
           record {

@@ -1,4 +1,5 @@
--- The plan that each row makes, by the sites of the clean relation prefix of u and of the member of its family that v begins with. Those of rows 6 and 7 are made by positions alone (`plan6` and `plan7` of `changes`).
+-- The plan that each row makes, by the sites of the clean relation prefix of u and of the member of its family that v begins with.
+-- Those of rows 6 and 7 are made by positions alone (`plan6` and `plan7` of `changes`).
 use Prim.Native.Nat.{ℕ, _-_, min}
 use mathlib.Core.Bool.{false, cond, _&&_, _||_}
 use mathlib.Core.List.{List}

@@ -1,26 +1,30 @@
--- What loading a book gives: reading (refusals 1 to 6), then 7 over the whole book, then 8 (document 01, "Refusals by number").
-use Prim.Native.Nat.{ℕ, _*_}
+-- What loading a book gives: reading (refusals 1 to 6), then 8 over the whole book (document 01, "Refusals by number").
+use Prim.Native.Nat.{ℕ, _*_, _<_, _≤_}
 use mathlib.Core.List.{List}
 use mathlib.Core.Path.{_≡_}
+use lib.Dec.{eqb}
 use lib.ListN.{length}
+use Rattle.words.specs.Search.{least}
 use Rattle.words.specs.Relations.{relationWords}
+use Rattle.words.specs.Families.{sideWords, familiesAfter, wordsOf, familiesOf}
 use Rattle.overlap.specs.Verdict.{Verdict, judge}
-use Rattle.layout.specs.Places.{textRoom, tableRoom}
-use Rattle.layout.specs.Layout.{Checked, wordsIn}
+use Rattle.limits.specs.Limits.{relationsMost}
+use Rattle.layout.specs.Places.{wordsMost, textRoom, tableRoom}
+use Rattle.layout.specs.Layout.{Laid, wordsIn}
+use Rattle.layout.specs.Families.{sideWordOf, sidesIn, countOf, familiesIn, Grouped}
 use Rattle.pieces.specs.declared.Judged.{Judged}
 use Rattle.pieces.specs.declared.Judged.the-variants as Judges
-use Rattle.pieces.specs.Judging.{verdictOf}
-use Rattle.refusals.specs.declared.Refusal.the-variants.{Repeated, Loose}
+use Rattle.pieces.specs.Judging.{judgedOf}
+use Rattle.refusals.specs.declared.Refusal.the-variants.{Loose}
 use Rattle.format.specs.declared.Reading.{Reading}
 use Rattle.format.specs.declared.Reading.the-variants.{Read, Refused}
 use Rattle.format.specs.Book.{Presentation, BookReading, read, refused, readBook, readingOf}
 use Rattle.format.specs.Bytes.{Within}
 
--- 7 and 8, by the verdict on the relation words
+-- 8, by the verdict on the sides
 abbrev pub byVerdict : Presentation → Verdict → BookReading
 byVerdict presentation Verdict.accepted = read presentation
-byVerdict presentation (Verdict.repeated i) = refused (Repeated i)
-byVerdict presentation (Verdict.loose i) = refused (Loose i)
+byVerdict presentation (Verdict.loose side) = refused (Loose side)
 
 abbrev pub byReading : BookReading → BookReading
 byReading (BookReading.read presentation) = byVerdict presentation (judge (relationWords (presentation .relations)))
@@ -30,27 +34,47 @@ byReading (BookReading.refused r) = refused r
 unfoldable pub loadBook : List ℕ → BookReading
 loadBook book = byReading (readBook book)
 
--- the verdict on n laid relation words; where they are accepted, they are the same words, and checked
-pub record WordsChecked (text table : List ℕ) (n : ℕ) (after : List ℕ) (r : Judged) : Type 0 where
-  pub verdict : verdictOf r ≡ judge (wordsIn text table n)
-  pub checked : r ≡ Judges.Accepted → Checked text after n
-  pub words : r ≡ Judges.Accepted → wordsIn text after n ≡ wordsIn text table n
-  pub long : length after ≡ length table
+-- the words of so many relations are laid, and each side has the number of one of them
+pub record Unchecked (text table : List ℕ) (relations : ℕ) : Type 0 where
+  pub laid : Laid text table (countOf table)
+  pub room : length table ≡ tableRoom
+  pub few : relations ≤ relationsMost
+  pub known : (s : ℕ) → s < 2 * relations → sideWordOf table s < countOf table
 
--- the answer for a book that was read, by the verdict on its relation words
-abbrev pub byJudged : ℕ → ℕ → Judged → Reading
-byJudged letters count Judges.Accepted = Read letters count
-byJudged letters count (Judges.Repeated i) = Refused (Repeated i)
-byJudged letters count (Judges.Loose i) = Refused (Loose i)
+-- the table has cells for so many sides
+pub record Sided (table : List ℕ) (sides : ℕ) : Type 0 where
+  pub room : length table ≡ tableRoom
+  pub few : sides ≤ wordsMost
 
--- the arrays hold the checked relation words of an accepted book's presentation, which has so many letters and relations
+-- the verdict on the laid relation words; where they are accepted, they are the same words, checked and grouped in families; the sides are kept
+pub record WordsChecked (text table : List ℕ) (relations : ℕ) (after : List ℕ) (r : Judged) : Type 0 where
+  pub verdict : r ≡ judgedOf (wordsIn text table (countOf table))
+  pub grouped : r ≡ Judges.Accepted → Grouped text after (countOf table)
+  pub words : r ≡ Judges.Accepted → wordsIn text after (countOf table) ≡ wordsIn text table (countOf table)
+  pub families : r ≡ Judges.Accepted → familiesIn after (countOf table) ≡ familiesAfter (sidesIn table (2 * relations)) (countOf table) relations
+  pub sides : sidesIn after (2 * relations) ≡ sidesIn table (2 * relations)
+  pub counted : countOf after ≡ countOf table
+  pub sided : Sided after (2 * relations)
+
+-- the lowest of the first m sides that has word i, or m
+unfoldable pub firstSide : List ℕ → ℕ → ℕ → ℕ
+firstSide table m i = least m (λ s. eqb (sideWordOf table s) i)
+
+-- the answer for a book that was read, by the verdict on its relation words: a word's refusal is at its lowest side
+abbrev pub byJudged : List ℕ → ℕ → ℕ → Judged → Reading
+byJudged table letters count Judges.Accepted = Read letters count
+byJudged table letters count (Judges.Loose i) = Refused (Loose (firstSide table (2 * count) i))
+
+-- the arrays hold the relation words of an accepted book's presentation, which has so many letters and relations: each word once, checked and grouped in families
 pub record Holding (book : List ℕ) (letters count : ℕ) (text table : List ℕ) : Type 0 where
   pub presentation : Presentation
   pub is : loadBook book ≡ read presentation
   pub lettered : letters ≡ presentation .letters
   pub many : count ≡ length (presentation .relations)
-  pub checked : Checked text table (2 * count)
-  pub words : wordsIn text table (2 * count) ≡ relationWords (presentation .relations)
+  pub grouped : Grouped text table (countOf table)
+  pub words : wordsIn text table (countOf table) ≡ wordsOf (presentation .relations)
+  pub sides : sidesIn table (2 * count) ≡ sideWords (relationWords (presentation .relations))
+  pub families : familiesIn table (countOf table) ≡ familiesOf (presentation .relations)
   pub within : Within presentation
 
 -- the two arrays that a book is loaded into

@@ -1,36 +1,57 @@
-// The checked book (document 01: an accepted book), made once from its bytes: its relation words in one text, with their cuts and their index in one
-// table. Every round and every comparison works on these two arrays.
+// The checked book (document 01: an accepted book), made once from its bytes: its relation words in one text, each once, with their cuts, their families and their
+// index in one table. Every round and every comparison works on these two arrays.
 ghost use mathlib.Core.Path.{_≡_};
-ghost use Rattle.listing.specs.Listing.{Unlisted};
-ghost use Rattle.presentation.specs.Loading.{WordsChecked, byJudged, Memory, BookLoaded};
+ghost use Prim.Native.Nat.{_*_};
+ghost use Rattle.presentation.specs.Loading.{Unchecked, WordsChecked, Sided, firstSide, byJudged, Memory, BookLoaded};
 use format::Reading;
+use layout::count_of;
+use layout::side_word;
 use pieces::Judged;
 use refusals::Refusal;
 
-// Refusals 7 and 8 over laid relation words; those of an accepted book get their cuts and their index.
-fn check_words(text: &[u16], table: &mut [u16], n: usize) -> Judged
-    requires { ⌜ Unlisted (now text) (now table) n ⌝ }
-    ensures { λ r. ⌜ WordsChecked (now (text .entry)) (now (table .entry)) n (now (table .exit)) r ⌝ }
+// Refusal 8 over laid relation words; those of an accepted book get their cuts, their index and their families.
+fn check_words(text: &[u16], table: &mut [u16], relations: usize) -> Judged
+    requires { ⌜ Unchecked (now text) (now table) relations ⌝ }
+    ensures { λ r. ⌜ WordsChecked (now (text .entry)) (now (table .entry)) relations (now (table .exit)) r ⌝ }
 {
+    let n = count_of(table);
     let judged = pieces::judge(text, table, n);
     match judged {
-        Judged::Repeated(_) => judged,
         Judged::Loose(_) => judged,
         Judged::Accepted => {
             listing::make_index(text, table, n);
+            families::group(table, n, relations);
             judged
         }
     }
 }
 
+// The lowest side with this word, or the number of sides.
+fn first_side(table: &[u16], sides: usize, word: usize) -> usize
+    requires { ⌜ Sided (now table) sides ⌝ }
+    ensures { λ r. ⌜ r ≡ firstSide (now (table .entry)) sides word ⌝ }
+{
+    let mut s = 0;
+    while s < sides {
+        if side_word(table, s) == word {
+            return s;
+        }
+        s += 1;
+    }
+    s
+}
+
 // The answer for a book that was read, by the verdict on its relation words.
-fn answer(letters: u8, relations: usize, judged: Judged) -> Reading
-    ensures { λ r. ⌜ r ≡ byJudged letters relations judged ⌝ }
+fn answer(table: &[u16], letters: u8, relations: usize, judged: Judged) -> Reading
+    requires { ⌜ Sided (now table) (2 * relations) ⌝ }
+    ensures { λ r. ⌜ r ≡ byJudged (now (table .entry)) letters relations judged ⌝ }
 {
     match judged {
         Judged::Accepted => Reading::Read(letters, relations),
-        Judged::Repeated(word) => Reading::Refused(Refusal::Repeated(word)),
-        Judged::Loose(word) => Reading::Refused(Refusal::Loose(word)),
+        Judged::Loose(word) => {
+            let side = first_side(table, 2 * relations, word);
+            Reading::Refused(Refusal::Loose(side))
+        }
     }
 }
 
@@ -43,6 +64,6 @@ pub fn load(book: &[u8], text: &mut [u16], table: &mut [u16]) -> Reading
     let Reading::Read(letters, relations) = reading else {
         return reading;
     };
-    let judged = check_words(text, table, 2 * relations);
-    answer(letters, relations, judged)
+    let judged = check_words(text, table, relations);
+    answer(table, letters, relations, judged)
 }

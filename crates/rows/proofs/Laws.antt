@@ -28,7 +28,7 @@ use Rattle.sites.proofs.Sites.{site-in-text}
 use Rattle.sites.proofs.Laws.{spans}
 use Rattle.kin.specs.Asked.{LinkedWord}
 use Rattle.kin.proofs.Tails.{linked-family-room}
-use Rattle.kin.proofs.Laws.{grouped, grouped-checked, grouped-lies}
+use Rattle.kin.proofs.Laws.{grouped, grouped-checked, grouped-linked, grouped-lies}
 use Rattle.rows.specs.declared.Found.{Found}
 use Rattle.rows.specs.Shapes.{rowBy, shapedRow, tailFollows, kinOrNone, CleanWord, FoundRow}
 use Rattle.rows.proofs.Shapes.{shaped}
@@ -102,9 +102,6 @@ pub ruleset kins = (linked-family-room, kin-none, kin-room, kin-here, kin-other,
 
 -- the member that a word begins with
 module _ (text table : List ℕ) (n i : ℕ) (h : GroupedWord text table n i) where
-  pub word-linked : LinkedWord table n i
-  word-linked = let c = h .grouped .checked in record { linked = h .grouped .linked; room = c .indexed .room; few = c .laid .few; there = h .there }
-
   pub member-one : (w : Word) (j : ℕ) → j ≡ relationPrefixAt (wordsIn text table n) w 0 → (r : ℕ) → r ≡ kinOrNone table n i j
       → r ≡ memberOf (wordsIn text table n) (familyBy table n) i w
   unfolding relationPrefixAt kinOrNone
@@ -116,7 +113,9 @@ module _ (text table : List ℕ) (n i : ℕ) (h : GroupedWord text table n i) wh
       rw (lt-leb n j l)
       (by-cases (ℕ-discrete (familyAt table i) (familyAt table j))
       (λ t. rw (eq-eqb (familyAt table i) (familyAt table j) t) (begun-here (wordsIn text table n) rigid (familyBy table n) i w j e c (p ∙ t ∙ sym q)))
-      (λ t. rw (ne-eqb (familyAt table i) (familyAt table j) t) (sym (words-length text table n) ∙ begun-other (wordsIn text table n) rigid (familyBy table n) i w j e (λ z. t (sym p ∙ z ∙ q))))))
+      (λ t.
+      rw (ne-eqb (familyAt table i) (familyAt table j) t)
+      (sym (words-length text table n) ∙ begun-other (wordsIn text table n) rigid (familyBy table n) i w j e (λ z. t (sym p ∙ z ∙ q))))))
       (λ l.
       let b = words-length text table n in
       rw (le-leb n j (omega (arith, l))) (sym b ∙ begun-none (wordsIn text table n) rigid (familyBy table n) i w j e (omega (arith, b, l))))
@@ -124,7 +123,7 @@ module _ (text table : List ℕ) (n i : ℕ) (h : GroupedWord text table n i) wh
       rigid : Facts (wordsIn text table n)
       rigid = rigid-of-c4 (wordsIn text table n) (h .grouped .checked .accepted)
 
-pub ruleset members = (grouped-checked, word-linked, member-one, needs)
+pub ruleset members = (grouped-checked, grouped-linked, member-one, needs)
 
 -- empty words
 pub empty-left : (a b : Word) → 0 < length a → false ≡ isEmpty (a ++ b)

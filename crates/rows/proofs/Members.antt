@@ -1,4 +1,4 @@
--- X and Y of one relation word at most begin a word: so the one that do is the only candidate for the member of a family that the word begins with.
+-- X and Y of one relation word at most begin a word: so that one is the only candidate for the member of a family that the word begins with.
 use Prim.Native.Nat.{ℕ, _≤_, _<_}
 use mathlib.Core.Bool.{false, true≢false, and-eq-true-iff}
 use mathlib.Core.List.{List}

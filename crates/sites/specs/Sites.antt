@@ -16,7 +16,7 @@ pub record SiteInText (text : List ℕ) (s : Site) : Type 0 where
   pub third : s .tail ≤ s .stop
   pub inside : s .stop ≤ length text
 
--- the sites of the two words of a relation lie in the text
+-- the sites of two relation words lie in the text
 pub record SitesInText (text : List ℕ) (s t : Site) : Type 0 where
   pub own : SiteInText text s
   pub other : SiteInText text t

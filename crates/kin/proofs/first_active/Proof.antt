@@ -4,10 +4,10 @@ use Rattle.kin.proofs.first_active.Statement.{statement}
 use Rattle.kin.proofs.first_active.Tie as tie
 
 abbrev Inv-loop : tie.InvT-loop
-Inv-loop text table n given i k j₀ j = Quiet text table n given i k j
+Inv-loop text table n given i k member₀ member = Quiet text table n given i k member
 
 abbrev μ-loop : tie.MeasureT-loop
-μ-loop text table n given i k j₀ j = n - j
+μ-loop text table n given i k member₀ member = n - member
 
 pub first-active-spec : {M : Type 1} → statement M
 first-active-spec =

@@ -15,6 +15,7 @@ mark-in-any-x-spec =
     (tie.spec
     Inv-loop
     μ-loop
+    (λ c. search marksAny)
     (λ c κs. search marksAny)
     (λ c. search marksAny)
     (λ c κs. search marksAny)

@@ -9,6 +9,6 @@ answer-spec =
     (λ c. search answers)
     (λ c. search answers)
     (λ c. search answers)
-    (λ c. search answers)
+    (λ c κs. search answers)
     (λ c. search answers)
     (λ c. search answers))

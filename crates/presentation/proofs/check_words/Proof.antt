@@ -7,12 +7,11 @@ check-words-spec =
     tie.close
     (tie.spec
     (λ c κs. search checks)
-    (λ c. search checks)
-    (λ c. search checks)
-    (λ c. search checks)
     (λ c κs. search checks)
     (λ c. search checks)
     (λ c. search checks)
+    (λ c κs. search checks)
+    (λ c κs. search checks)
     (λ c. search checks)
     (λ c. search checks)
     (λ c. search checks)

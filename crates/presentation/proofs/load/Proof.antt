@@ -5,7 +5,7 @@ use Rattle.presentation.proofs.load.Tie as tie
 -- too much stands before the last return for a search: the law is applied to what the reader and `check_words` ensure
 returns-2 : tie.Need-returns-2
 returns-2 c =
-    let checked = c .before .before .before in
+    let checked = c .before .before .before .before in
     let reading = checked .before .before .before .before in
     let read = reading .before .before .before .before .before .before in
     let start = read .before .before .before .before .before .before in
@@ -16,7 +16,6 @@ load-spec =
     tie.close
     (tie.spec
     (λ c κs. search loads)
-    (λ c. search loads)
     (λ c. search loads)
     (λ c. search loads)
     (λ c. search loads)

@@ -8,7 +8,7 @@ write-accepted-spec =
     (tie.spec
     (λ c. search accepts)
     (λ c κs. search accepts)
-    (λ c. search accepts)
+    (λ c κs. search accepts)
     (λ c κs. search accepts)
     (λ c. search accepts)
     (λ c. search accepts))
