@@ -179,7 +179,7 @@ module _ (sides : List Word) (table : List ℕ) (m : ℕ) (long : length sides �
       let low : firstSide table m i < m = least-below m (λ k. eqb (sideWordOf table k) i) s (omega (arith, a, long)) (eq-eqb (sideWordOf table s) i (side-is s (omega (arith, a, long)) ∙ b)) in
       let word = eqb-true (sideWordOf table (firstSide table m i)) i (least-passes m (λ k. eqb (sideWordOf table k) i) low) in
       let g = firstLooseSide-of-word sides (firstSide table m i) (omega (arith, low, long)) (sym (side-is (firstSide table m i) low) ∙ word ∙ sym f)
-          (λ k l d. true≢false (sym (eq-eqb (sideWordOf table k) i (side-is k (omega (arith, l, low)) ∙ d ∙ f)) ∙ none .none k l)) in
+      (λ k l d. true≢false (sym (eq-eqb (sideWordOf table k) i (side-is k (omega (arith, l, low)) ∙ d ∙ f)) ∙ none .none k l)) in
       rw (lt-ltb (firstLooseSide sides) (length sides) (omega (arith, g, low, long))) (ap Verdict.loose g)
 
 -- a book that is read has a presentation

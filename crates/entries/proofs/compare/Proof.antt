@@ -14,6 +14,7 @@ compare-spec =
     (λ c. search compares)
     (λ c. search compares)
     (λ c κs. search compares)
+    (λ c κs. search compares)
     (λ c. search compares)
     (λ c. search compares)
     (λ c. search compares))

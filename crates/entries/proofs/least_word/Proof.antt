@@ -14,6 +14,7 @@ least-word-spec =
     (λ c. search leasts)
     (λ c. search leasts)
     (λ c κs. search leasts)
+    (λ c κs. search leasts)
     (λ c. search leasts)
     (λ c. search leasts)
     (λ c. search leasts)

@@ -14,6 +14,7 @@ single-round-spec =
     (λ c. search singles)
     (λ c. search singles)
     (λ c κs. search singles)
+    (λ c κs. search singles)
     (λ c. search singles)
     (λ c. search singles)
     (λ c. search singles)
