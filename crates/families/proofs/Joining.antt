@@ -7,13 +7,11 @@ use native.Mathlib.Omega.{arith}
 use native.Mathlib.Decide.{ℕ-discrete}
 use borrow.Author.Needs.{needs}
 use borrow.Author.Tests.{eq-eqb, ne-eqb}
-use lib.ListN.{length, getD}
+use lib.ListN.{getD}
 use lib.Seq.{ext-getD}
-use mir.Val.{Fits}
-use mir.Syntax.{w64}
 use Rattle.words.specs.Families.{numbersBelow, merged, mergedOf, familiesAfter, familyIn}
 use Rattle.words.proofs.Families.{renamed, length-numbers, numbers-at, length-merged, merged-at, lowest-families}
-use Rattle.layout.specs.Places.{sideCell, familyFrom, familyCell, nextFrom}
+use Rattle.layout.specs.Places.{sideCell, familyFrom, nextFrom}
 use Rattle.layout.specs.Families.{sideWordOf, sidesIn, familyAt, familiesIn}
 use Rattle.layout.proofs.Cells.{side-at, families-length, family-at}
 use Rattle.families.specs.Joining.{KeptOutside, Renamable, Renamed, SideKnown, Joinable, Joined, Groupable, Separate, AllJoined}
@@ -21,17 +19,11 @@ use Rattle.families.proofs.Kept.{kept-refl, kept-trans}
 
 -- the family of a side's word
 module _ (table : List ℕ) (s : ℕ) (a : SideKnown table s) where
-  pub side-cell : sideCell s < length table
-  side-cell = omega (arith, a .side, a .room)
-
   module _ (w : ℕ) (e : w ≡ sideWordOf table s) where
-    pub side-word-cell : familyCell w < length table
-    side-word-cell = omega (arith, e, a .word, a .room)
-
     pub side-family : (f : ℕ) → f ≡ familyAt table w → f ≡ familyAt table (sideWordOf table s)
     side-family f d = d ∙ ap (familyAt table) e
 
-pub ruleset sideFamilies = (side-cell, side-word-cell, side-family, needs)
+pub ruleset sideFamilies = (side-family, needs)
 
 -- the larger number may be either
 merged-swap : (a b : ℕ) (F : List ℕ) → merged a b F ≡ merged b a F
@@ -52,6 +44,7 @@ merged-same a b F e =
         (λ d. rw (eq-eqb f (max a b) d) (omega (arith, d, e)))
         (λ d. rw (ne-eqb f (max a b) d))
 
+-- relation r joins its two words, whichever has the smaller number
 module _ (table : List ℕ) (n r : ℕ) (j : Joinable table n r) where
   pub join-left : SideKnown table (2 * r)
   join-left = record { room = j .countable .room; side = omega (arith, j .relation); word = omega (arith, j .left, j .countable .few) }
@@ -59,21 +52,20 @@ module _ (table : List ℕ) (n r : ℕ) (j : Joinable table n r) where
   pub join-right : SideKnown table (2 * r + 1)
   join-right = record { room = j .countable .room; side = omega (arith, j .relation); word = omega (arith, j .right, j .countable .few) }
 
-  pub join-fits : Fits w64 (2 * r)
-  join-fits = omega (arith, j .relation)
-
-  pub join-fits-next : Fits w64 (2 * r + 1)
-  join-fits-next = omega (arith, j .relation)
-
   module _ (a b : ℕ) (e : a ≡ familyAt table (sideWordOf table (2 * r))) (f : b ≡ familyAt table (sideWordOf table (2 * r + 1))) where
+    -- the numbers a and b are those of the two words in the list of families
     of-relation : (F : List ℕ) → F ≡ merged a b (familiesIn table n) → F ≡ mergedOf (familiesIn table n) (sideWordOf table (2 * r)) (sideWordOf table (2 * r + 1))
     of-relation F d = d ∙ rw (family-at table n (sideWordOf table (2 * r)) (j .left), family-at table n (sideWordOf table (2 * r + 1)) (j .right), ← e, ← f)
 
     pub join-up : a < b → Renamable table n a b
-    join-up h = record { countable = j .countable; order = h; known = omega (arith, f, j .right, j .places (sideWordOf table (2 * r + 1)) (j .right)); places = j .places }
+    join-up h =
+        let p = j .places (sideWordOf table (2 * r + 1)) (j .right) in
+        record { countable = j .countable; order = h; known = omega (arith, f, j .right, p); places = j .places }
 
     pub join-down : b < a → Renamable table n b a
-    join-down h = record { countable = j .countable; order = h; known = omega (arith, e, j .left, j .places (sideWordOf table (2 * r)) (j .left)); places = j .places }
+    join-down h =
+        let p = j .places (sideWordOf table (2 * r)) (j .left) in
+        record { countable = j .countable; order = h; known = omega (arith, e, j .left, p); places = j .places }
 
     pub joined-up : (table′ : List ℕ) → Renamed table n a b table′ → Joined table n r table′
     joined-up table′ m = record { kept = m .kept; families = of-relation (familiesIn table′ n) (m .families) }
@@ -85,7 +77,7 @@ module _ (table : List ℕ) (n r : ℕ) (j : Joinable table n r) where
     joined-none h l =
         record { kept = kept-refl _ _ table; families = of-relation (familiesIn table n) (sym (merged-same a b (familiesIn table n) (omega (arith, h, l)))) }
 
-pub ruleset joins = (join-left, join-right, join-fits, join-fits-next, join-up, join-down, joined-up, joined-down, joined-none, needs)
+pub ruleset joins = (join-left, join-right, join-up, join-down, joined-up, joined-down, joined-none, needs)
 
 -- the families after r relations
 pub record Gathering (table₀ : List ℕ) (n relations r : ℕ) (table : List ℕ) : Type 0 where
@@ -107,6 +99,7 @@ module _ (S : List ℕ) (n r : ℕ) (table : List ℕ) (f : familiesIn table n �
       number-is (familyAt table i) (omega (arith, number-low i h, h)) ∙ ap (familyIn (familiesAfter S n r)) (number-is i h)
       ∙ lowest-families S n r .own i ∙ sym (number-is i h)
 
+-- before any relation each word is a family
 pub gather-start : (table : List ℕ) (n relations : ℕ) → Separate table n relations → Gathering table n relations 0 table
 unfolding familiesAfter
 gather-start table n relations a =
@@ -141,6 +134,7 @@ module _ (table₀ : List ℕ) (n relations r : ℕ) (table : List ℕ) (s : Gat
         places = number-low (sidesIn table₀ (2 * relations)) n r table (s .families);
       }
 
+  -- one relation more
   pub gather-more : r < relations → (table′ : List ℕ) → Joined table n r table′ → Gathering table₀ n relations (r + 1) table′
   unfolding familiesAfter
   gather-more h table′ d =

@@ -7,9 +7,11 @@ use lib.ListN.{set, length-set}
 use lib.Seq.{getD-set-other}
 use Rattle.families.specs.Joining.{KeptOutside}
 
+-- nothing has changed
 pub kept-refl : (from to : ℕ) (t : List ℕ) → KeptOutside from to t t
 kept-refl from to t = record { long = refl; before = λ k h. refl; behind = λ k h. refl }
 
+-- one change after another
 pub kept-trans : {from to : ℕ} {t u v : List ℕ} → KeptOutside from to t u → KeptOutside from to u v → KeptOutside from to t v
 kept-trans a b =
     record { long = b .long ∙ a .long; before = λ k h. b .before k h ∙ a .before k h; behind = λ k h. b .behind k h ∙ a .behind k h }

@@ -12,7 +12,7 @@ use Rattle.words.specs.Families.{familiesAfter}
 use Rattle.layout.specs.Places.{sideCell, familyCell, nextFrom, nextCell, firstFrom}
 use Rattle.layout.specs.Families.{sidesIn, familyAt, nextOf}
 use Rattle.layout.proofs.Cells.{sides-same, families-same}
-use Rattle.families.specs.Joining.{KeptOutside, Countable, Alone, Groupable, Separate, AllJoined}
+use Rattle.families.specs.Joining.{KeptOutside, Alone, Groupable, Separate, AllJoined}
 use Rattle.families.specs.Grouping.{linkedAt, Linkable, MembersUnlinked, MembersLinked, GroupsMade}
 use Rattle.families.proofs.Kept.{kept-refl, kept-set, kept-trans, kept-less}
 use Rattle.families.proofs.Joining.{number-low, number-lowest}
@@ -27,6 +27,7 @@ pub record Links (family next : ℕ → ℕ) (n i : ℕ) : Type 0 where
   pub kin : (k : ℕ) → i ≤ k → k < n → next k < n → family (next k) ≡ family k
   pub none : (k m : ℕ) → i ≤ k → k < n → k < m → m < next k → family m ≡ family k → ⊥
 
+-- where no word is linked, every link leads behind the last word
 links-start : (family next : ℕ → ℕ) (n : ℕ) → ((g : ℕ) → g < n → next g ≡ n) → Links family next n n
 links-start family next n e =
     record {
@@ -54,6 +55,7 @@ module _ (family next next′ : ℕ → ℕ) (n j : ℕ) (s : Links family next 
       (λ e. subst P (sym e) a)
       (λ e. b k (omega (arith, e, h)) (same k e (λ d. omega (arith, d, low, e, h))))
 
+  -- the words from j on are linked
   links-more : Links family next′ n j
   links-more =
       record {
@@ -68,7 +70,9 @@ module _ (family next next′ : ℕ → ℕ) (n j : ℕ) (s : Links family next 
             (λ g d h e l. ap family e ∙ s .aheadKin g (omega (arith, h)) (omega (arith, e, l)));
         aheadNone = λ g k h a b f. below (λ g. k < next′ g → family k ≡ g → ⊥)
             (λ e c d. omega (arith, e, c, a))
-            (λ g d h e c f. by-cases (ℕ-discrete k j) (λ z. d (sym f ∙ ap family z)) (λ z. s .aheadNone g k (omega (arith, h)) (omega (arith, a, z)) (omega (arith, e, c)) f))
+            (λ g d h e c f. by-cases (ℕ-discrete k j)
+            (λ z. d (sym f ∙ ap family z))
+            (λ z. s .aheadNone g k (omega (arith, h)) (omega (arith, a, z)) (omega (arith, e, c)) f))
             g h b f;
         later = λ k a. above (λ k. k < n → k < next′ k)
             (λ b. omega (arith, own, s .ahead (family j) (omega (arith, low))))
@@ -86,19 +90,10 @@ module _ (family next next′ : ℕ → ℕ) (n j : ℕ) (s : Links family next 
 
 -- the stores of one word
 module _ (table : List ℕ) (i : ℕ) (a : Linkable table i) where
-  pub link-family : familyCell i < length table
-  link-family = omega (arith, a .word, a .room)
-
-  pub link-small : i < 65536
-  link-small = omega (arith, a .word)
-
   pub link-cell : (v : ℕ) (p : ℕ) → nextCell i < length (set table p v)
   link-cell v p = simp length-set (omega (arith, a .word, a .room))
 
   module _ (f : ℕ) (e : f ≡ familyAt table i) where
-    pub link-next : nextCell f < length table
-    link-next = omega (arith, e, a .family, a .word, a .room)
-
     module _ (x : ℕ) (d : x ≡ nextOf table f) where
       pub link-next-small : x < 65536
       link-next-small = omega (arith, d, ap (nextOf table) e, a .small)
@@ -106,7 +101,7 @@ module _ (table : List ℕ) (i : ℕ) (a : Linkable table i) where
       pub link-stores : (v w : ℕ) → v ≡ i → w ≡ x → set (set table (nextCell f) v) (nextCell i) w ≡ linkedAt table i
       link-stores v w g h = rw (h, g, d, e)
 
-pub ruleset stores = (link-family, link-small, link-cell, link-next, link-next-small, link-stores, needs)
+pub ruleset stores = (link-cell, link-next-small, link-stores, needs)
 
 -- the words from i on are linked
 pub record Linking (table₀ : List ℕ) (n i : ℕ) (table : List ℕ) : Type 0 where
@@ -119,6 +114,7 @@ pub linking-start : (table : List ℕ) (n : ℕ) → MembersUnlinked table n →
 linking-start table n u = record { unlinked = u; upto = omega arith; kept = kept-refl _ _ table; links = links-start _ _ n (u .unlinked) }
 
 module _ (table₀ : List ℕ) (n i : ℕ) (table : List ℕ) (s : Linking table₀ n i table) where
+  -- links leave the numbers of families
   family-kept : (k : ℕ) → k < n → familyAt table k ≡ familyAt table₀ k
   family-kept k h = s .kept .before (familyCell k) (omega (arith, h, s .unlinked .countable .few))
 
@@ -141,6 +137,7 @@ module _ (table₀ : List ℕ) (n i : ℕ) (table : List ℕ) (s : Linking table
           small = omega (arith, s .links .most (familyAt table j) (omega (arith, low, there)), s .unlinked .countable .few);
         }
 
+    -- the two stores do what `links-more` asks
     linking-linked : Linking table₀ n j (linkedAt table j)
     linking-linked =
         let few = s .unlinked .countable .few in
@@ -152,8 +149,11 @@ module _ (table₀ : List ℕ) (n i : ℕ) (table : List ℕ) (s : Linking table
         record {
           unlinked = s .unlinked;
           upto = omega (arith, s .upto);
-          kept = kept-set (nextCell j) _ (kept-set (nextCell f) j (s .kept) (omega arith) (omega (arith, low, there, few))) (omega arith) (omega (arith, there, few));
-          links = links-more (familyAt table₀) (nextOf table) (nextOf (linkedAt table j)) n j (subst (Links (familyAt table₀) (nextOf table) n) z (s .links)) there (s .unlinked .low j there)
+          kept =
+              kept-set (nextCell j) _ (kept-set (nextCell f) j (s .kept) (omega arith) (omega (arith, low, there, few))) (omega arith)
+              (omega (arith, there, few));
+          links = links-more (familyAt table₀) (nextOf table) (nextOf (linkedAt table j)) n j
+              (subst (Links (familyAt table₀) (nextOf table) n) z (s .links)) there (s .unlinked .low j there)
               (getD-set-same first (nextCell j) (nextOf table f) 0 (simp length-set (omega (arith, there, few, room))) ∙ ap (nextOf table) e)
               (λ d. ap (nextOf (linkedAt table j)) (sym e)
               ∙ getD-set-other first (nextCell j) (nextCell f) (nextOf table f) 0 (λ c. d (sym e ∙ omega (arith, c)))
@@ -185,9 +185,6 @@ pub ruleset linkings = (linking-start, linking-word, linking-more, linking-end, 
 
 -- families and links
 module _ (table : List ℕ) (n relations : ℕ) (g : Groupable table n relations) where
-  pub group-countable : Countable table n
-  group-countable = g .countable
-
   module _ (table₁ : List ℕ) (a : Alone table n table₁) where
     pub group-separate : Separate table₁ n relations
     group-separate =
@@ -220,4 +217,4 @@ module _ (table : List ℕ) (n relations : ℕ) (g : Groupable table n relations
             linked = m .linked;
           }
 
-pub ruleset groups = (group-countable, group-separate, group-unlinked, group-made, needs)
+pub ruleset groups = (group-separate, group-unlinked, group-made, needs)

@@ -11,7 +11,7 @@ use lib.ListN.{length, getD, set, length-set}
 use lib.Seq.{getD-set-same, getD-set-other, ext-getD}
 use Rattle.words.specs.Families.{merged}
 use Rattle.words.proofs.Families.{renamed, length-merged, merged-at}
-use Rattle.layout.specs.Places.{familyFrom, familyCell, nextFrom, nextCell, firstFrom}
+use Rattle.layout.specs.Places.{wordsMost, familyFrom, familyCell, nextFrom, nextCell, firstFrom}
 use Rattle.layout.specs.Families.{familyAt, familiesIn, nextOf}
 use Rattle.layout.proofs.Cells.{families-length, family-at}
 use Rattle.families.specs.Joining.{KeptOutside, Countable, Alone, renamedAt, Nameable, Renamable, Renamed}
@@ -30,18 +30,13 @@ start-first table n c =
     record { countable = c; upto = omega arith; kept = kept-refl _ _ table; own = λ k h. absurd (omega (arith, h)); unlinked = λ k h. absurd (omega (arith, h)) }
 
 module _ (table₀ : List ℕ) (n i : ℕ) (table : List ℕ) (s : Starting table₀ n i table) where
-  pub start-small : i < n → i < 65536
-  start-small h = omega (arith, h, s .countable .few)
-
-  pub start-many : i < n → n < 65536
-  start-many h = omega (arith, s .countable .few)
-
-  pub start-cell : i < n → familyCell i < length table
+  start-cell : i < n → familyCell i < length table
   start-cell h = omega (arith, h, s .countable .few, s .countable .room, s .kept .long)
 
   pub start-next : i < n → (v : ℕ) → nextCell i < length (set table (familyCell i) v)
   start-next h v = simp length-set (omega (arith, h, s .countable .few, s .countable .room, s .kept .long))
 
+  -- word i gets its own number, and its link leads to no word
   pub start-more : i < n → (v w : ℕ) → v ≡ i → w ≡ n → Starting table₀ n (i + 1) (set (set table (familyCell i) v) (nextCell i) w)
   start-more h v w e f =
       let few = s .countable .few in
@@ -63,7 +58,7 @@ module _ (table₀ : List ℕ) (n i : ℕ) (table : List ℕ) (s : Starting tabl
   pub start-end : n ≤ i → Alone table₀ n table
   start-end h = record { kept = s .kept; own = λ k l. s .own k (omega (arith, h, l)); unlinked = λ k l. s .unlinked k (omega (arith, h, l)) }
 
-pub ruleset starts = (start-first, start-small, start-many, start-cell, start-next, start-more, start-end, needs)
+pub ruleset starts = (start-first, start-next, start-more, start-end, needs)
 
 -- a cell that gets the number it has
 set-kept : (t : List ℕ) (p : ℕ) → set t p (getD t p 0) ≡ t
@@ -71,13 +66,8 @@ set-kept t p = ext-getD 0 _ _ (length-set t p (getD t p 0)) (λ k h. by-cases (�
     (λ e. rw e (getD-set-same t p (getD t p 0) 0 (omega (arith, length-set t p (getD t p 0), h, e))))
     (λ e. getD-set-other t p k (getD t p 0) 0 e))
 
+-- one word goes over, or stays
 module _ (table : List ℕ) (i low high : ℕ) (a : Nameable table i low) where
-  pub name-cell : familyCell i < length table
-  name-cell = a .inside
-
-  pub name-small : low < 65536
-  name-small = a .small
-
   module _ (f : ℕ) (e : f ≡ familyAt table i) where
     pub name-changed : f ≡ high → (v : ℕ) → v ≡ low → set table (familyCell i) v ≡ renamedAt table i low high
     name-changed h v d = rw (eq-eqb (familyAt table i) high (sym e ∙ h), d)
@@ -85,7 +75,7 @@ module _ (table : List ℕ) (i low high : ℕ) (a : Nameable table i low) where
     pub name-left : (f ≡ high → ⊥) → table ≡ renamedAt table i low high
     name-left h = rw (ne-eqb (familyAt table i) high (λ d. h (e ∙ d))) (sym (set-kept table (familyCell i)))
 
-pub ruleset names = (name-cell, name-small, name-changed, name-left, needs)
+pub ruleset names = (name-changed, name-left, needs)
 
 -- one family of two, as far as word i
 pub record Renaming (table₀ : List ℕ) (n low high i : ℕ) (table : List ℕ) : Type 0 where
@@ -95,6 +85,7 @@ pub record Renaming (table₀ : List ℕ) (n low high i : ℕ) (table : List ℕ
   pub done : (k : ℕ) → k < i → familyAt table k ≡ renamed low high (familyAt table₀ k)
   pub rest : (k : ℕ) → i ≤ k → k < n → familyAt table k ≡ familyAt table₀ k
 
+-- of two numbers in order, the larger and the smaller
 module _ (low high : ℕ) (o : low < high) where
   high-is : max low high ≡ high
   high-is = omega (arith, o)
@@ -106,6 +97,7 @@ module _ (low high : ℕ) (o : low < high) where
   renamed-below : (f : ℕ) → f < high → renamed low high f ≡ f
   renamed-below f h = rw (high-is, ne-eqb f high (λ e. omega (arith, e, h)))
 
+-- the words below the larger number have smaller ones, and keep them
 pub rename-first : (table : List ℕ) (n low high : ℕ) → Renamable table n low high → Renaming table n low high high table
 rename-first table n low high a =
     record {
@@ -117,7 +109,7 @@ rename-first table n low high a =
     }
 
 module _ (table₀ : List ℕ) (n low high i : ℕ) (table : List ℕ) (s : Renaming table₀ n low high i table) where
-  few : n ≤ 64
+  few : n ≤ wordsMost
   few = s .renamable .countable .few
 
   pub rename-name : i < n → Nameable table i low
@@ -127,6 +119,7 @@ module _ (table₀ : List ℕ) (n low high i : ℕ) (table : List ℕ) (s : Rena
         small = omega (arith, s .renamable .order, s .renamable .known, few);
       }
 
+  -- word i has gone over, or stayed
   pub rename-more : i < n → (table′ : List ℕ) → table′ ≡ renamedAt table i low high → Renaming table₀ n low high (i + 1) table′
   rename-more h table′ e = rw e
       (record {
@@ -140,6 +133,7 @@ module _ (table₀ : List ℕ) (n low high i : ℕ) (table : List ℕ) (s : Rena
         rest = λ k l b. getD-set-other table (familyCell i) (familyCell k) _ 0 (λ c. omega (arith, c, l)) ∙ s .rest k (omega (arith, l)) b;
       })
 
+  -- all words have: the list is that of the definition
   pub rename-end : n ≤ i → Renamed table₀ n low high table
   rename-end h =
       record {

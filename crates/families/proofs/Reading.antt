@@ -51,6 +51,7 @@ module _ (t u : List ℕ) (g : KeptOutside familyFrom firstFrom t u) where
     order-kept : (j : ℕ) → orderOf u j ≡ orderOf t j
     order-kept j = g .behind (orderCell j) (omega arith)
 
+    -- the index stands behind the families
     indexed-kept : Indexed text t n → Indexed text u n
     indexed-kept x =
         record {

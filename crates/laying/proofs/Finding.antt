@@ -19,18 +19,17 @@ use Rattle.words.proofs.Prefixes.{prefix-at, at-prefix}
 use Rattle.words.proofs.Tests.{false-of}
 use Rattle.words.proofs.Searching.{NoneBelow, none-start, none-more, least-is, least-none, least-same}
 use Rattle.numbers.specs.Widths.{Widened}
-use Rattle.layout.specs.Places.{startCell, endCell}
 use Rattle.layout.specs.Layout.{startOf, endOf, wordsIn, Laid, KnownWord}
-use Rattle.layout.proofs.Placed.{start-bound, words-length, word-part, row-inside, word-span}
+use Rattle.layout.proofs.Placed.{start-bound, words-length, word-part, word-span}
 use Rattle.laying.specs.Sides.{isWordAt}
 
--- the letters of two words
-
+-- letters are compared as numbers of one width
 pub letters-differ : (u v : Word) (k x y : ℕ) → Widened 65536 (getD u k 0) x → Widened 256 (getD v k 0) y → not (eqb x y) ≡ not (eqb (getD u k 0) (getD v k 0))
 letters-differ u v k x y a b = rw (a .same, b .same)
 
 pub ruleset letters = (letters-differ, needs)
 
+-- two words agree as far as place k
 pub record Agreeing (u v : Word) (k : ℕ) : Type 0 where
   pub long : length u ≡ length v
   pub upto : k ≤ length u
@@ -40,9 +39,6 @@ pub agree-start : (u v : Word) → length u ≡ length v → Agreeing u v 0
 agree-start u v e = record { long = e; upto = omega arith; same = λ j h. absurd (omega (arith, h)) }
 
 module _ (u v : Word) (k : ℕ) (s : Agreeing u v k) where
-  pub agree-inside : k < length u → (k < length u) × (k < length v)
-  agree-inside h = omega (arith, h, s .long)
-
   module _ (h : k < length u) (r : Bool) (e : r ≡ not (eqb (getD u k 0) (getD v k 0))) where
     pub agree-more : r ≡ false → Agreeing u v (k + 1)
     agree-more t =
@@ -61,8 +57,9 @@ module _ (u v : Word) (k : ℕ) (s : Agreeing u v k) where
   pub agree-end : length u ≤ k → true ≡ isPrefix u v
   agree-end h = let l = s .long in sym (at-prefix u v (omega (arith, l)) (λ j i. s .same j (omega (arith, h, i))))
 
-pub ruleset agreeing = (agree-start, agree-inside, agree-more, agree-differ, agree-end, needs)
+pub ruleset agreeing = (agree-start, agree-more, agree-differ, agree-end, needs)
 
+-- words of one length are equal where their letters are
 module _ (u v : Word) where
   pub equal-letters : (r : Bool) → length u ≡ length v → r ≡ isPrefix u v → r ≡ sameWord u v
   unfolding sameWord
@@ -76,12 +73,6 @@ pub ruleset equals = (equal-letters, unequal-lengths, needs)
 
 -- a word of the text
 module _ (text table : List ℕ) (i : ℕ) (g : KnownWord text table i) where
-  pub known-row : endCell i < length table
-  known-row = row-inside text table (g .number) (g .laid) i (g .known)
-
-  pub known-cell : startCell i < length table
-  known-cell = let r = known-row in omega (arith, r)
-
   pub known-scaled : (s : ℕ) → s ≡ startOf table i → Fits w64 (s * 2)
   known-scaled s d = omega (arith, d, start-bound text table (g .number) (g .laid) i (omega (arith, g .known)), g .known, g .laid .few)
 
@@ -91,14 +82,14 @@ module _ (text table : List ℕ) (i : ℕ) (g : KnownWord text table i) where
   pub known-inside : (e : ℕ) → e ≡ endOf table i → e ≤ length text
   known-inside e f = let w = word-span text table (g .number) (g .laid) i (g .known) in omega (arith, f, w .inside)
 
+-- the part of the text between its start and its end is relation word i
 pub known-word : (word text table : List ℕ) (i a b : ℕ) (r : Bool) → a ≡ startOf table i → b ≡ endOf table i → r ≡ sameWord (part text a b) word
     → r ≡ isWordAt word text table i
 known-word word text table i a b r e f h = h ∙ rw (e, f)
 
-pub ruleset knowns = (known-row, known-cell, known-scaled, known-upwards, known-inside, known-word, needs)
+pub ruleset knowns = (known-scaled, known-upwards, known-inside, known-word, needs)
 
--- the loop over the words that are laid
-
+-- none of the first i words is the one that is sought
 pub record Finding (word text table : List ℕ) (n i : ℕ) : Type 0 where
   pub laid : Laid text table n
   pub upto : i ≤ n
@@ -108,15 +99,13 @@ pub find-start : (word text table : List ℕ) (n : ℕ) → Laid text table n �
 find-start word text table n f = record { laid = f; upto = omega arith; none = none-start _ }
 
 module _ (word text table : List ℕ) (n i : ℕ) (s : Finding word text table n i) where
+  -- the search by positions is the search in the list of words
   place-there : least n (isWordAt word text table) ≡ placeOf word (wordsIn text table n)
   unfolding placeOf
   place-there =
       rw (words-length text table n)
       (least-same n (isWordAt word text table) (λ j. sameWord (getD (wordsIn text table n) j []) word)
       (λ j h. ap (λ (w : Word). sameWord w word) (sym (word-part text table n j h))))
-
-  pub find-known : i < n → KnownWord text table i
-  find-known h = record { number = n; laid = s .laid; known = h }
 
   module _ (h : i < n) (r : Bool) (e : r ≡ isWordAt word text table i) where
     pub find-more : r ≡ false → Finding word text table n (i + 1)
@@ -130,4 +119,4 @@ module _ (word text table : List ℕ) (n i : ℕ) (s : Finding word text table n
       let e : i ≡ n = omega (arith, h, s .upto) in
       e ∙ sym (least-none n (isWordAt word text table) (subst (λ (k : ℕ). NoneBelow (isWordAt word text table) k) e (s .none))) ∙ place-there
 
-pub ruleset finding = (find-start, find-known, find-more, find-found, find-end, needs)
+pub ruleset finding = (find-start, find-more, find-found, find-end, needs)

@@ -6,8 +6,6 @@ use native.Mathlib.Omega.{arith}
 use borrow.Author.Needs.{needs}
 use lib.ListN.{length, getD, set, length-set}
 use lib.Seq.{getD-set-same, getD-set-other}
-use mir.Val.{Fits}
-use mir.Syntax.{w64}
 use Rattle.words.specs.Words.{Word}
 use Rattle.words.specs.Families.{placeOf}
 use Rattle.words.proofs.Distinct.{place-bound, including-there, including-new}
@@ -18,11 +16,9 @@ use Rattle.layout.proofs.Cells.{sides-more}
 use Rattle.laying.specs.Appending.{WordRoom, Appended}
 use Rattle.laying.specs.Sides.{SideRoom, SideAppended}
 
+-- side s, whose word may be one of the n that are laid
 module _ (word text table : List ℕ) (n s : ℕ) (r : SideRoom word text table n s) where
-  pub side-laid : Laid text table n
-  side-laid = r .laid
-
-  pub side-cell : sideCell s < length table
+  side-cell : sideCell s < length table
   side-cell = omega (arith, r .more, r .arrays .tableLong)
 
   module _ (i : ℕ) (e : i ≡ placeOf word (wordsIn text table n)) where
@@ -52,6 +48,7 @@ module _ (word text table : List ℕ) (n s : ℕ) (r : SideRoom word text table 
       side-number : getD table₁ (sideCell s) 0 ≡ placeOf word (wordsIn text table n)
       side-number = getD-set-same table (sideCell s) v 0 side-cell ∙ f ∙ e
 
+      -- its word is there
       pub side-there : i < n → SideAppended word text table n s text table₁ n
       side-there h =
           record {
@@ -74,6 +71,7 @@ module _ (word text table : List ℕ) (n s : ℕ) (r : SideRoom word text table 
             arrays = record { textLong = r .arrays .textLong; tableLong = length-set table (sideCell s) v ∙ r .arrays .tableLong };
           }
 
+      -- its word is new, and is laid behind the others
       pub side-new : n ≤ i → (text′ table′ : List ℕ) → Appended word text table₁ n text′ table′ → SideAppended word text table n s text′ table′ (n + 1)
       side-new h text′ table′ a =
           record {
@@ -91,7 +89,4 @@ module _ (word text table : List ℕ) (n s : ℕ) (r : SideRoom word text table 
   pub side-long : (v : ℕ) (text′ table′ : List ℕ) → Appended word text (set table (sideCell s) v) n text′ table′ → length table′ ≡ length table
   side-long v text′ table′ a = a .tableLong ∙ length-set table (sideCell s) v
 
-  pub side-count : Fits w64 (n + 1)
-  side-count = omega (arith, r .laid .few)
-
-pub ruleset sideRooms = (side-laid, side-cell, side-small, side-there, side-room, side-new, side-long, side-count, needs)
+pub ruleset sideRooms = (side-small, side-there, side-room, side-new, side-long, needs)

@@ -15,6 +15,7 @@ unfoldable pub cells : List ℕ → ℕ → ℕ → List ℕ
 cells table from zero = []
 cells table from (suc n) = cells table from n ++ (getD table (from + n) 0 ∷ [])
 
+-- sides and families are such lists
 pub sides-cells : (table : List ℕ) (m : ℕ) → sidesIn table m ≡ cells table sideFrom m
 unfolding sidesIn cells
 sides-cells table zero = refl
@@ -25,6 +26,7 @@ unfolding familiesIn cells
 families-cells table zero = refl
 families-cells table (suc n) = rw (families-cells table n)
 
+-- there are n of them
 pub cells-length : (table : List ℕ) (from n : ℕ) → length (cells table from n) ≡ n
 unfolding cells
 cells-length table from zero = refl
@@ -42,18 +44,17 @@ cells-at table from (suc n) i h =
     (λ e. List·getD-append (cells table from n) (getD table (from + n) 0 ∷ []) 0 i (omega (arith, l, e, h)) ∙ cells-at table from n i (omega (arith, e, h)))
 
 -- the same cells give the same numbers
-pub cells-same : (table table′ : List ℕ) (from n : ℕ) → ((k : ℕ) → from ≤ k → k < from + n → getD table′ k 0 ≡ getD table k 0) → cells table′ from n ≡ cells table from n
+pub cells-same : (table table′ : List ℕ) (from n : ℕ) → ((k : ℕ) → from ≤ k → k < from + n → getD table′ k 0 ≡ getD table k 0)
+    → cells table′ from n ≡ cells table from n
 unfolding cells
 cells-same table table′ from zero f = refl
 cells-same table table′ from (suc n) f = rw (cells-same table table′ from n (λ k a b. f k a (omega arith)), f (from + n) (omega arith) (omega arith))
 
-pub sides-length : (table : List ℕ) (m : ℕ) → length (sidesIn table m) ≡ m
-sides-length table m = rw (sides-cells table m) (cells-length table sideFrom m)
-
 pub side-at : (table : List ℕ) (m s : ℕ) → s < m → getD (sidesIn table m) s 0 ≡ sideWordOf table s
 side-at table m s h = rw (sides-cells table m) (cells-at table sideFrom m s h)
 
-pub sides-same : (table table′ : List ℕ) (m : ℕ) → ((k : ℕ) → sideFrom ≤ k → k < sideCell m → getD table′ k 0 ≡ getD table k 0) → sidesIn table′ m ≡ sidesIn table m
+pub sides-same : (table table′ : List ℕ) (m : ℕ) → ((k : ℕ) → sideFrom ≤ k → k < sideCell m → getD table′ k 0 ≡ getD table k 0)
+    → sidesIn table′ m ≡ sidesIn table m
 sides-same table table′ m f = rw (sides-cells table m, sides-cells table′ m) (cells-same table table′ sideFrom m f)
 
 -- a side more
@@ -71,5 +72,6 @@ families-length table n = rw (families-cells table n) (cells-length table family
 pub family-at : (table : List ℕ) (n i : ℕ) → i < n → getD (familiesIn table n) i 0 ≡ familyAt table i
 family-at table n i h = rw (families-cells table n) (cells-at table familyFrom n i h)
 
-pub families-same : (table table′ : List ℕ) (n : ℕ) → ((k : ℕ) → familyFrom ≤ k → k < familyCell n → getD table′ k 0 ≡ getD table k 0) → familiesIn table′ n ≡ familiesIn table n
+pub families-same : (table table′ : List ℕ) (n : ℕ) → ((k : ℕ) → familyFrom ≤ k → k < familyCell n → getD table′ k 0 ≡ getD table k 0)
+    → familiesIn table′ n ≡ familiesIn table n
 families-same table table′ n f = rw (families-cells table n, families-cells table′ n) (cells-same table table′ familyFrom n f)

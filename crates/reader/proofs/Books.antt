@@ -122,23 +122,24 @@ unfolding relationWords
 sides-more [] r = refl
 sides-more (d ∷ done) r = ap (λ l. d .left ∷ d .right ∷ l) (sides-more done r)
 
+-- their words are included one after the other
 distinct-more : (done : List Relation) (r : Relation) → wordsOf (done ++ (r ∷ [])) ≡ includingBoth (wordsOf done) r
 distinct-more done r =
     rw (sides-more done r, distinct-last (relationWords done ++ (r .left ∷ [])) (r .right), distinct-last (relationWords done) (r .left))
 
+-- and each has the place of its word in the words so far
 numbers-more : (done : List Relation) (r : Relation) → sideWords (relationWords (done ++ (r ∷ []))) ≡ sideWords (relationWords done) ++ bothPlaces (wordsOf done) r
 numbers-more done r =
-    rw (sides-more done r, side-words-last (relationWords done ++ (r .left ∷ [])) (r .right), side-words-last (relationWords done) (r .left), distinct-last (relationWords done) (r .left))
+    let left = side-words-last (relationWords done) (r .left) in
+    let right = side-words-last (relationWords done ++ (r .left ∷ [])) (r .right) in
+    rw (sides-more done r, right, left, distinct-last (relationWords done) (r .left))
     (append-assoc (sideWords (relationWords done)) _ _)
 
 module _ (book text₀ : List ℕ) (letters at count n : ℕ) (text table : List ℕ) (g : Going book text₀ letters at count n text table) where
-  pub going-count : count ≤ 32
+  going-count : count ≤ 32
   going-count = omega (arith, g .counted, g .within .fewRelations)
 
-  pub going-small : n < 65536
-  going-small = omega (arith, g .laid .few)
-
-  pub going-cell : countCell < length table
+  going-cell : countCell < length table
   going-cell = omega (arith, g .arrays .tableLong)
 
   pub going-long : (v : ℕ) (table₀ : List ℕ) → Arrays text₀ table₀ → length (set table countCell v) ≡ length table₀
@@ -237,4 +238,4 @@ module _ (book text₀ : List ℕ) (letters at count n : ℕ) (text table : List
             arrays = record { textLong = omega (arith, a .textLong, g .arrays .textLong); tableLong = a .tableLong ∙ g .arrays .tableLong };
           }
 
-pub ruleset goings = (head-refused, going-start, going-small, going-cell, going-long, going-end, going-refused, going-less, going-room, going-more, going-count, needs)
+pub ruleset goings = (head-refused, going-start, going-long, going-end, going-refused, going-less, going-room, going-more, needs)

@@ -1,5 +1,5 @@
 -- At most one relation word's X and Y begin a word, clean or not: so the one that does is the only candidate for a clean relation prefix.
-use Prim.Native.Nat.{ℕ, _+_, _-_, _≤_, _<_}
+use Prim.Native.Nat.{ℕ, _+_, _≤_, _<_}
 use mathlib.Core.Bool.{Bool, true, false, _&&_, not}
 use mathlib.Core.Logic.{by-cases}
 use mathlib.Core.List.{List}

@@ -1,4 +1,4 @@
-use Rattle.presentation.proofs.Laws.{answers}
+use Rattle.presentation.proofs.Checking.{answers}
 use Rattle.presentation.proofs.answer.Statement.{statement}
 use Rattle.presentation.proofs.answer.Tie as tie
 

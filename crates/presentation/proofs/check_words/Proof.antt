@@ -1,4 +1,4 @@
-use Rattle.presentation.proofs.Laws.{checks, checks-accepted}
+use Rattle.presentation.proofs.Checking.{checks, checks-accepted}
 use Rattle.presentation.proofs.check_words.Statement.{statement}
 use Rattle.presentation.proofs.check_words.Tie as tie
 

@@ -1,5 +1,5 @@
 use Prim.Native.Nat.{_-_}
-use Rattle.presentation.proofs.Laws.{Siding, sidings}
+use Rattle.presentation.proofs.Checking.{Siding, sidings}
 use Rattle.presentation.proofs.first_side.Statement.{statement}
 use Rattle.presentation.proofs.first_side.Tie as tie
 
