@@ -85,7 +85,7 @@ starred =
     ∷ compared bookQ (0 ∷ 1 ∷ 3 ∷ 2 ∷ 0 ∷ 3 ∷ []) (2 ∷ 0 ∷ 3 ∷ 1 ∷ 0 ∷ 3 ∷ []) (same 2)
     -- cadbadb, abdabdc: same 3
     ∷ compared bookQ (2 ∷ 0 ∷ 3 ∷ 1 ∷ 0 ∷ 3 ∷ 1 ∷ []) (0 ∷ 1 ∷ 3 ∷ 0 ∷ 1 ∷ 3 ∷ 2 ∷ []) (same 3)
-    -- not starred: families, worked out by hand
+    -- books that share a word, and a mark in the other word's X
     -- ad = c, c = aea: accepted, cuts 1 1 0, 0 1 0, 0 1 0, 1 1 1
     ∷ book (rule (0 ∷ 3 ∷ []) (2 ∷ []) ∷ rule (2 ∷ []) (0 ∷ 4 ∷ 0 ∷ []) ∷ []) Verdict.accepted ((1, 1, 0) ∷ (0, 1, 0) ∷ (0, 1, 0) ∷ (1, 1, 1) ∷ [])
     -- under it cea, cd: same 2; row 4 goes on with the tail of aea, the first other member for which ea is active, and not with that of ad, the first other one
