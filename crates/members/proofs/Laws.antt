@@ -11,13 +11,14 @@ use Rattle.words.specs.Words.{Word, isPrefix, part}
 use Rattle.overlap.proofs.Facts.{rigid-of-c4}
 use Rattle.least.specs.Order.{houseRank}
 use Rattle.least.specs.Writing.{firstMember}
+use Rattle.layout.specs.Places.{nextCell}
 use Rattle.layout.specs.Layout.{wordsIn}
 use Rattle.layout.specs.Families.{familyAt, familyBy, nextOf, GroupedWord}
 use Rattle.layout.proofs.Placed.{words-length}
 use Rattle.sites.specs.declared.Site.{Site}
 use Rattle.sites.specs.Sites.{siteOf, SiteInText, SitesInText}
 use Rattle.sites.proofs.Sites.{Lies, site-in-text}
-use Rattle.kin.proofs.Laws.{grouped, grouped-room, grouped-lies, grouped-site, grouped-other}
+use Rattle.kin.proofs.Laws.{grouped, grouped-room, grouped-next-room, grouped-lies, grouped-site, grouped-other}
 use Rattle.moves.specs.declared.Mark.{Mark}
 use Rattle.moves.specs.State.{placedMark}
 use Rattle.members.specs.Members.{firstAt, beats, better, settled}
@@ -60,6 +61,14 @@ module _ (text table : List ℕ) (n : ℕ) (p : Word) (best j : ℕ) (h : Groupe
           unfolding better
           better-old hy = rw (compared, hy)
 
+-- where there is no best one yet
+module _ (text table : List ℕ) (n : ℕ) (p : Word) (j : ℕ) (h : GroupedWord text table n j) (s : Site) (e : s ≡ siteOf table j)
+    (x : Bool) (ex : x ≡ isPrefix p (part text (s .start) (s .middle))) where
+  pub better-first : x ≡ true → j ≡ better (wordsIn text table n) p n j
+  better-first hx = better-only text table n p n j h s e x ex hx (omega arith)
+
+pub ruleset markeds = (grouped, better-not, better-first, needs)
+
 pub ruleset betters = (grouped, better-not, better-only, better-sites, better-new, better-old, needs)
 
 -- the first member
@@ -73,8 +82,15 @@ module _ (text table : List ℕ) (n i : ℕ) (m : Mark) (h : MarkAsked text tabl
   pub mark-inside : m .to ≤ length text
   mark-inside = h .mark .inside
 
-  pub best-start : (f : ℕ) → f ≡ familyAt table i → BestSoFar (wordsIn text table n) table n i (placedMark text m) n f
-  best-start f e = rw e (none-yet (wordsIn text table n) table n (words-length text table n) (h .word .grouped .linked) i (h .word .there) (placedMark text m))
+  -- it begins with the lowest member
+  low-there : (f : ℕ) → f ≡ familyAt table i → f < n
+  low-there f e = let a = h .word .grouped .linked .low i (h .word .there) in let b = h .word .there in omega (arith, a, b, e)
+
+  pub low-word : (f : ℕ) → f ≡ familyAt table i → GroupedWord text table n f
+  low-word f e = grouped-other text table n i (h .word) f (low-there f e)
+
+  pub low-next-room : (f : ℕ) → f ≡ familyAt table i → nextCell f < length table
+  low-next-room f e = grouped-next-room text table n f (low-word f e)
 
   module _ (best j : ℕ) (u : BestSoFar (wordsIn text table n) table n i (placedMark text m) best j) where
     module _ (l : j < n) where
@@ -101,7 +117,13 @@ module _ (text table : List ℕ) (n i : ℕ) (m : Mark) (h : MarkAsked text tabl
         best-is-first (wordsIn text table n) table n (words-length text table n) (h .word .grouped .linked) i (h .word .there) (placedMark text m) best j u
         (rigid-of-c4 (wordsIn text table n) (h .word .grouped .checked .accepted)) l
 
-pub ruleset firstMembers = (mark-word, mark-up, mark-inside, best-start, best-word, grouped, best-next, best-later, best-end, needs)
+  pub best-start : (f : ℕ) → f ≡ familyAt table i → (r : ℕ) → r ≡ better (wordsIn text table n) (placedMark text m) n f → (k : ℕ) → k ≡ nextOf table f
+      → BestSoFar (wordsIn text table n) table n i (placedMark text m) r k
+  best-start f e r g k q =
+      let u = none-yet (wordsIn text table n) table n (words-length text table n) (h .word .grouped .linked) i (h .word .there) (placedMark text m) in
+      best-next n f (rw e u) (low-there f e) r g k q
+
+pub ruleset firstMembers = (mark-word, mark-up, mark-inside, low-word, low-next-room, best-word, grouped, best-next, best-later, best-end, needs)
 
 -- the member, where the first one is another than i
 module _ (text table : List ℕ) (n i : ℕ) (m : Mark) (t : ℕ) (b : Bool) where

@@ -6,7 +6,7 @@ use mathlib.Core.List.{List, [], append-nil}
 use mathlib.Core.Path.{_≡_, refl, sym, ap, _∙_, subst}
 use native.Mathlib.Omega.{arith}
 use native.Mathlib.Decide.{ℕ-discrete, decLt}
-use borrow.Author.Tests.{eq-eqb, ne-eqb, eqb-true, lt-ltb, le-ltb}
+use borrow.Author.Tests.{eq-eqb, ne-eqb, lt-ltb, le-ltb}
 use lib.Dec.{eqb}
 use lib.ListN.{length}
 use Rattle.words.specs.Search.{least}
@@ -27,13 +27,10 @@ use Rattle.least.proofs.Choice.{first-is-first, none-is-marked}
 use Rattle.members.specs.Members.{activeApart, otherCarrier}
 
 module _ (B : List Word) (fam : ℕ → ℕ) (i : ℕ) (p : Word) where
-  -- the first member is of i's family, and has the mark in its X
-  pub first-fits : firstMember B fam houseRank i p < length B
-      → (fam i ≡ fam (firstMember B fam houseRank i p)) × (isPrefix p (xOf B (firstMember B fam houseRank i p)) ≡ true)
+  -- the first member has the mark in its X
+  pub first-fits : firstMember B fam houseRank i p < length B → isPrefix p (xOf B (firstMember B fam houseRank i p)) ≡ true
   unfolding marked
-  first-fits l =
-      let a = simp and-eq-true-iff at (first-is-first house-injective B fam i p l .0) in
-      (eqb-true (fam i) (fam (firstMember B fam houseRank i p)) (a .0), a .1)
+  first-fits l = (simp and-eq-true-iff at (first-is-first house-injective B fam i p l .0)) .1
 
   -- a member with the mark in its X before which no other such comes is the first: XY of different words differ
   pub member-first : Facts B → (j : ℕ) → j < length B → marked B fam i p j ≡ true
@@ -73,22 +70,19 @@ module _ (B : List Word) (fam : ℕ → ℕ) (i : ℕ) (p s : Word) where
     unfolding chosenMember
     chosen-none f = rw (ne-eqb (firstMember B fam houseRank i p) i d, e, f)
 
-  -- it is of i's family, has the mark in its X, and is another than i only where Z of i is possible
+  -- it has the mark in its X, and is another than i only where Z of i is possible
   pub record ChosenFits (j : ℕ) : Type 0 where
-    pub kin : fam i ≡ fam j
     pub inX : isPrefix p (xOf B j) ≡ true
     pub reached : (j ≡ i → ⊥) → possible B fam (zOf B i) s ≡ true
 
   pub chosen-fits : (j : ℕ) → j ≡ chosenMember B fam houseRank i p s → j < length B → ChosenFits j
   chosen-fits j q l = by-cases (ℕ-discrete (firstMember B fam houseRank i p) i)
       (λ e. let c = sym (q ∙ chosen-own e) in
-      subst ChosenFits c (record { kin = refl; inX = subst (λ (k : ℕ). isPrefix p (xOf B k) ≡ true) e (first-fits B fam i p (omega (arith, e, c, l)) .1); reached = λ n. absurd (n refl) }))
+      subst ChosenFits c (record { inX = subst (λ (k : ℕ). isPrefix p (xOf B k) ≡ true) e (first-fits B fam i p (omega (arith, e, c, l))); reached = λ n. absurd (n refl) }))
       (λ e. ⊎-elim
-      (λ y. let c = sym (q ∙ chosen-first y) in
-      let f = first-fits B fam i p (omega (arith, c, l)) in
-      subst ChosenFits c (record { kin = f .0; inX = f .1; reached = λ n. y }))
+      (λ y. let c = sym (q ∙ chosen-first y) in subst ChosenFits c (record { inX = first-fits B fam i p (omega (arith, c, l)); reached = λ n. y }))
       (λ y. ⊎-elim
-      (λ x. let c = sym (q ∙ chosen-back e y x) in subst ChosenFits c (record { kin = refl; inX = x; reached = λ n. absurd (n refl) }))
+      (λ x. let c = sym (q ∙ chosen-back e y x) in subst ChosenFits c (record { inX = x; reached = λ n. absurd (n refl) }))
       (λ x. let c = q ∙ chosen-none e y x in absurd (omega (arith, c, l)))
       (true-or-false (isPrefix p (xOf B i))))
       (true-or-false (possible B fam (zOf B i) s)))

@@ -1,9 +1,11 @@
 -- Dictionary order by the first difference, and a law for each way that the comparison of two X and Y can go.
-use Prim.Native.Nat.{ℕ, _+_, _-_, _≤_, _<_}
+use Prim.Native.Nat.{ℕ, _+_, _-_, _%_, _≤_, _<_}
 use mathlib.Core.Bool.{Bool, true, false}
 use mathlib.Core.List.{List, [], _∷_}
-use mathlib.Core.Path.{_≡_, refl, sym}
+use mathlib.Core.Logic.{by-cases}
+use mathlib.Core.Path.{_≡_, refl, sym, ap, _∙_}
 use native.Mathlib.Omega.{arith}
+use native.Mathlib.Decide.{decLt}
 use borrow.Author.Needs.{needs}
 use borrow.Author.Tests.{lt-ltb, le-ltb}
 use mir.Syntax.{w64}
@@ -12,6 +14,7 @@ use lib.Dec.{eqb, ltb}
 use lib.ListN.{length, getD}
 use Rattle.words.specs.Words.{Word, commonPrefix, part}
 use Rattle.words.proofs.Parts.{part-length, part-at}
+use Rattle.words.proofs.Commons.{common-is, common-most}
 use Rattle.congruence.specs.Rows.{choose}
 use Rattle.least.specs.Order.{before, houseRank}
 use Rattle.joined.specs.Joined.{Agreed}
@@ -20,19 +23,17 @@ use Rattle.sites.specs.Sites.{SitesInText}
 use Rattle.members.specs.Members.{firstAt}
 
 -- the rank of a letter
-pub rank-low : (c : ℕ) → c < 32 → c + 32 ≡ houseRank c
+pub rank-near : (c : ℕ) → c < 64 → (c + 32) % 64 ≡ houseRank c
 unfolding houseRank
-rank-low c h = rw (lt-ltb c 32 h)
+rank-near c h = by-cases (decLt c 32)
+    (λ l. rw (lt-ltb c 32 l) (omega (arith, l)))
+    (λ l. rw (le-ltb c 32 (omega (arith, l)), lt-ltb c 64 h) (omega (arith, l, h)))
 
-pub rank-high : (c : ℕ) → 32 ≤ c → c < 64 → c - 32 ≡ houseRank c
+pub rank-far : (c : ℕ) → 64 ≤ c → c ≡ houseRank c
 unfolding houseRank
-rank-high c h l = rw (le-ltb c 32 h, lt-ltb c 64 l)
+rank-far c h = rw (le-ltb c 32 (omega (arith, h)), le-ltb c 64 h)
 
-pub rank-far : (c : ℕ) → 32 ≤ c → 64 ≤ c → c ≡ houseRank c
-unfolding houseRank
-rank-far c h l = rw (le-ltb c 32 h, le-ltb c 64 l)
-
-pub ruleset ranks = (rank-low, rank-high, rank-far, needs)
+pub ruleset ranks = (rank-near, rank-far, needs)
 
 -- the second word ends first, or both end
 before-ended : (rank : ℕ → ℕ) (u v : Word) → length v ≤ commonPrefix u v → before rank u v ≡ false
@@ -74,28 +75,63 @@ before-differ rank (x ∷ u) (y ∷ v) h l = go (eqb x y) refl (λ a b. before-d
 
 -- the comparison of two X and Y
 module _ (text : List ℕ) (s t : Site) (h : SitesInText text s t) where
-  own-up : (s .start ≤ s .tail) × (s .tail ≤ length text)
+  own-up : (s .start < s .tail) × (s .tail ≤ length text)
   own-up = let a = h .own in (omega (arith, a .first, a .second), omega (arith, a .third, a .inside))
 
-  other-up : (t .start ≤ t .tail) × (t .tail ≤ length text)
+  other-up : (t .start < t .tail) × (t .tail ≤ length text)
   other-up = let a = h .other in (omega (arith, a .first, a .second), omega (arith, a .third, a .inside))
 
+  longs : (length (part text (s .start) (s .tail)) ≡ s .tail - s .start) × (length (part text (t .start) (t .tail)) ≡ t .tail - t .start)
+  longs = (part-length text (s .start) (s .tail) (own-up .1), part-length text (t .start) (t .tail) (other-up .1))
+
   pub first-up : s .start ≤ s .tail
-  first-up = own-up .0
+  first-up = let a = own-up in omega (arith, a .0)
 
   pub first-other-up : t .start ≤ t .tail
-  first-other-up = other-up .0
+  first-other-up = let a = other-up in omega (arith, a .0)
 
   pub first-inside : t .tail ≤ length text
   first-inside = other-up .1
 
-  pub first-agreed : Agreed text (s .start) (s .tail) (part text (t .start) (t .tail)) 0 0
-  first-agreed = record { span = record { upwards = own-up .0; inside = own-up .1 }; passed = omega arith }
+  -- Y has a letter, so both begin with one
+  pub first-letter : s .start < length text
+  first-letter = let a = own-up in omega (arith, a .0, a .1)
+
+  pub first-other-letter : t .start < length text
+  first-other-letter = let a = other-up in omega (arith, a .0, a .1)
+
+  letter-own : getD (part text (s .start) (s .tail)) 0 0 ≡ getD text (s .start) 0
+  letter-own = let a = own-up in part-at text (s .start) (s .tail) 0 (omega (arith, a .0)) ∙ ap (λ k. getD text k 0) {x = s .start + 0} {y = s .start} (omega arith)
+
+  letter-other : getD (part text (t .start) (t .tail)) 0 0 ≡ getD text (t .start) 0
+  letter-other = let a = other-up in part-at text (t .start) (t .tail) 0 (omega (arith, a .0)) ∙ ap (λ k. getD text k 0) {x = t .start + 0} {y = t .start} (omega arith)
+
+  -- these letters differ
+  pub first-apart : (getD text (s .start) 0 ≡ getD text (t .start) 0 → ⊥) → (x y : ℕ) → x ≡ houseRank (getD text (s .start) 0) → y ≡ houseRank (getD text (t .start) 0) → ltb x y ≡ firstAt text s t
+  unfolding firstAt
+  first-apart d x y f g =
+      let a = own-up in
+      let b = other-up in
+      let l = longs in
+      let c = common-is (part text (s .start) (s .tail)) (part text (t .start) (t .tail)) 0 (omega arith) (omega arith) (λ k z. absurd (omega (arith, z)))
+          (λ _ _ z. d (sym letter-own ∙ z ∙ letter-other)) in
+      let r = before-differ houseRank (part text (s .start) (s .tail)) (part text (t .start) (t .tail)) (omega (arith, c, a .0, l .0)) (omega (arith, c, b .0, l .1)) in
+      rw (f, g) (sym (rw (c, letter-own, letter-other) at r))
+
+  -- or agree
+  pub first-agreed : getD text (s .start) 0 ≡ getD text (t .start) 0 → Agreed text (s .start) (s .tail) (part text (t .start) (t .tail)) 0 1
+  first-agreed e =
+      let a = own-up in
+      let b = other-up in
+      let l = longs in
+      record {
+        span = record { upwards = first-up; inside = a .1 };
+        passed = common-most (part text (s .start) (s .tail)) (part text (t .start) (t .tail)) 1 (omega (arith, a .0, l .0)) (omega (arith, b .0, l .1)) (λ k z.
+            let k0 : k ≡ 0 = omega (arith, z) in
+            rw k0 (letter-own ∙ e ∙ sym letter-other));
+      }
 
   module _ (m : ℕ) (e : m ≡ commonPrefix (part text (s .start) (s .tail)) (part text (t .start) (t .tail))) where
-    longs : (length (part text (s .start) (s .tail)) ≡ s .tail - s .start) × (length (part text (t .start) (t .tail)) ≡ t .tail - t .start)
-    longs = (part-length text (s .start) (s .tail) (own-up .1), part-length text (t .start) (t .tail) (other-up .1))
-
     pub first-ended : t .tail - t .start ≤ m → false ≡ firstAt text s t
     unfolding firstAt
     first-ended l = let b = longs in sym (before-ended houseRank (part text (s .start) (s .tail)) (part text (t .start) (t .tail)) (omega (arith, b .1, e, l)))
@@ -126,4 +162,4 @@ module _ (text : List ℕ) (s t : Site) (h : SitesInText text s t) where
             let d′ = rw (← e, part-at text (s .start) (s .tail) m l, part-at text (t .start) (t .tail) m k) at d in
             rw (f, g) (sym d′)
 
-pub ruleset firsts = (first-up, first-other-up, first-inside, first-agreed, first-ended, first-shorter, first-place, first-other-place, first-fits, first-other-fits, first-differ, needs)
+pub ruleset firsts = (first-up, first-other-up, first-inside, first-letter, first-other-letter, first-apart, first-agreed, first-ended, first-shorter, first-place, first-other-place, first-fits, first-other-fits, first-differ, needs)

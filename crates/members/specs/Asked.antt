@@ -8,7 +8,7 @@ use Rattle.words.specs.Words.{Word}
 use Rattle.overlap.specs.Cuts.{zOf}
 use Rattle.congruence.specs.Rows.{active}
 use Rattle.layout.specs.Layout.{wordsIn, Checked, Span}
-use Rattle.layout.specs.Families.{familyBy, GroupedWord}
+use Rattle.layout.specs.Families.{GroupedWord}
 use Rattle.kin.specs.Asked.{RestAsked}
 use Rattle.moves.specs.declared.PlacedWord.{PlacedWord}
 use Rattle.moves.specs.declared.Mark.{Mark}
@@ -26,10 +26,9 @@ pub record MarkAsked (text table : List ℕ) (n i : ℕ) (m : Mark) : Type 0 whe
   pub word : GroupedWord text table n i
   pub mark : MarkFits text m
 
--- relation word i, and a member j of its family for whose Z the given word from k on is not active
+-- relation word i, and one j for whose Z the given word from k on is not active
 pub record IdleAsked (text table : List ℕ) (n : ℕ) (given : Word) (i j k : ℕ) : Type 0 where
   pub rest : RestAsked text table n given i k
-  pub kin : familyBy table n i ≡ familyBy table n j
   pub idle : (x : Bool) → x ≡ active (wordsIn text table n) (zOf (wordsIn text table n) j) (drop k given) → x ≡ false
 
 -- text[at..to] and a place of the given word

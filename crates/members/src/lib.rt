@@ -20,24 +20,24 @@ use sites::Site;
 fn rank(letter: u16) -> u16
     ensures { λ r. ⌜ r ≡ houseRank letter ⌝ }
 {
-    if letter < 32 {
-        return letter + 32;
-    }
     if letter < 64 {
-        return letter - 32;
+        return (letter + 32) % 64;
     }
     letter
 }
 
-// Whether the X and Y at s come before those at t.
+// Whether the X and Y at s come before those at t. Mostly their first letters tell it.
 fn comes_first(text: &[u16], s: Site, t: Site) -> bool
     requires { ⌜ SitesInText (now text) s t ⌝ }
     ensures { λ r. ⌜ r ≡ firstAt (now (text .entry)) s t ⌝ }
 {
     let from = s.start;
     let at = t.start;
+    if text[from] != text[at] {
+        return rank(text[from]) < rank(text[at]);
+    }
     let to = t.tail;
-    let m = joined::common_prefix_in(text, from, s.tail, &text[at..to], 0, 0);
+    let m = joined::common_prefix_in(text, from, s.tail, &text[at..to], 0, 1);
     if to - at <= m {
         return false;
     }
@@ -66,6 +66,18 @@ fn better_of(text: &[u16], table: &[u16], n: usize, p: &[u16], best: usize, j: u
     best
 }
 
+// Member j where p is a prefix of its X, or n.
+fn marked_member(text: &[u16], table: &[u16], n: usize, p: &[u16], j: usize) -> usize
+    requires { ⌜ GroupedWord (now text) (now table) n j ⌝ }
+    ensures { λ r. ⌜ r ≡ better (wordsIn (now (text .entry)) (now (table .entry)) n) (now (p .entry)) n j ⌝ }
+{
+    let s = sites::read_site(table, j);
+    if sites::mark_in_x(text, s, p) {
+        return j;
+    }
+    n
+}
+
 // Of the members of i's family, the first in the dictionary whose X the mark begins, or n.
 pub fn first_member(text: &[u16], table: &[u16], n: usize, i: usize, mark: Mark) -> usize
     requires { ⌜ MarkAsked (now text) (now table) n i mark ⌝ }
@@ -73,8 +85,9 @@ pub fn first_member(text: &[u16], table: &[u16], n: usize, i: usize, mark: Mark)
 {
     let at = mark.at;
     let to = mark.to;
-    let mut best = n;
-    let mut j = layout::family_of(table, i);
+    let low = layout::family_of(table, i);
+    let mut best = marked_member(text, table, n, &text[at..to], low);
+    let mut j = layout::next_of(table, low);
     while j < n {
         best = better_of(text, table, n, &text[at..to], best, j);
         j = layout::next_of(table, j);

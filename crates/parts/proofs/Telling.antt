@@ -114,7 +114,7 @@ module _ (text table : List ℕ) (n : ℕ) (given : Word) (s : LeastState) (i k 
       (λ e.
       let b = words-length text table n in
       let h = f .asked .there in
-      let x = first-fits (wordsIn text table n) (familyBy table n) i (placedMark text (s .mark)) (omega (arith, e, b, h)) .1 in
+      let x = first-fits (wordsIn text table n) (familyBy table n) i (placedMark text (s .mark)) (omega (arith, e, b, h)) in
       absurd (true≢false (sym (subst (λ (m : ℕ). isPrefix (placedMark text (s .mark)) (xOf (wordsIn text table n) m) ≡ true) e x) ∙ q)))
       (λ e. sym (chosen-none (wordsIn text table n) (familyBy table n) i (placedMark text (s .mark)) (drop k given) e g q ∙ words-length text table n)))
 

@@ -30,7 +30,7 @@ use Rattle.parts.specs.Choices.{sourceBehind, tailState}
 use Rattle.kin.specs.Asked.{RestAsked}
 use Rattle.members.specs.Asked.{IdleAsked}
 use Rattle.parts.specs.Asked.{PlacesSmall, WholeFound}
-use Rattle.parts.proofs.Standing.{go-makes, found-fits, empty-mark, site-lies, tail-stands, tail-letters, tail-mark, found-checked, found-lies, found-small, found-written, found-source, found-lighter}
+use Rattle.parts.proofs.Standing.{go-makes, empty-mark, site-lies, tail-stands, tail-letters, tail-mark, found-checked, found-lies, found-small, found-written, found-source, found-lighter}
 
 module _ (text table : List ℕ) (n : ℕ) (given : Word) (s : LeastState) (i j k : ℕ) (f : WholeFound text table n given s i j k) where
   -- Z lies in the given word
@@ -51,7 +51,7 @@ module _ (text table : List ℕ) (n : ℕ) (given : Word) (s : LeastState) (i j 
 
   -- the carrier is looked for where Z of j is not active
   pub whole-idle : (x : Bool) → x ≡ active (wordsIn text table n) (zOf (wordsIn text table n) j) (drop k given) → x ≡ false → IdleAsked text table n given i j k
-  whole-idle x e h = record { rest = whole-rest-own; kin = found-fits text table n given s i (f .before) j (f .chosen) .kin; idle = λ y q. q ∙ sym e ∙ h }
+  whole-idle x e h = record { rest = whole-rest-own; idle = λ y q. q ∙ sym e ∙ h }
 
   pub whole-room : endCell j < length table
   whole-room = row-inside text table n (f .chosen .found .asked .ready .ready .grouped .checked .laid) j (f .chosen .known)

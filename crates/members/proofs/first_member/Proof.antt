@@ -2,15 +2,15 @@ use Prim.Native.Nat.{_-_}
 use Rattle.words.specs.Words.{part}
 use Rattle.layout.specs.Layout.{wordsIn}
 use Rattle.members.proofs.Best.{BestSoFar}
-use Rattle.members.proofs.Laws.{firstMembers}
+use Rattle.members.proofs.Laws.{best-start, firstMembers}
 use Rattle.members.proofs.first_member.Statement.{statement}
 use Rattle.members.proofs.first_member.Tie as tie
 
 abbrev Inv-loop : tie.InvT-loop
-Inv-loop text table n i at to best₀ j₀ best j = BestSoFar (wordsIn text table n) table n i (part text at to) best j
+Inv-loop text table n i at to low best₀ j₀ best j = BestSoFar (wordsIn text table n) table n i (part text at to) best j
 
 abbrev μ-loop : tie.MeasureT-loop
-μ-loop text table n i at to best₀ j₀ best j = n - j
+μ-loop text table n i at to low best₀ j₀ best j = n - j
 
 pub first-member-spec : {M : Type 1} → statement M
 first-member-spec =
@@ -20,6 +20,12 @@ first-member-spec =
     μ-loop
     (λ c κs. search firstMembers)
     (λ c. search firstMembers)
+    (λ c. search firstMembers)
+    (λ c. search firstMembers)
+    (λ c. search firstMembers)
+    (λ c κs. search firstMembers)
+    (λ c κs. search firstMembers)
+    (λ c. search (best-start, firstMembers))
     (λ c. search firstMembers)
     (λ c. search firstMembers)
     (λ c. search firstMembers)

@@ -8,5 +8,4 @@ rank-spec =
     (tie.spec
     (λ c. search ranks)
     (λ c. search ranks)
-    (λ c. search ranks)
     (λ c. search ranks))
