@@ -114,7 +114,7 @@ module _ (text : List ℕ) (s t : Site) (h : SitesInText text s t) where
       let b = other-up in
       let l = longs in
       let c = common-is (part text (s .start) (s .tail)) (part text (t .start) (t .tail)) 0 (omega arith) (omega arith) (λ k z. absurd (omega (arith, z)))
-          (λ _ _ z. d (sym letter-own ∙ z ∙ letter-other)) in
+      (λ _ _ z. d (sym letter-own ∙ z ∙ letter-other)) in
       let r = before-differ houseRank (part text (s .start) (s .tail)) (part text (t .start) (t .tail)) (omega (arith, c, a .0, l .0)) (omega (arith, c, b .0, l .1)) in
       rw (f, g) (sym (rw (c, letter-own, letter-other) at r))
 
