@@ -170,12 +170,25 @@ static uint8_t step_by_step(unsigned side, unsigned place)
     return (uint8_t)((side + (place % 2 == 1 ? (place + 1) / 2 : 64 - place / 2)) % 64);
 }
 
-/* a front and an end of 30 steps in common, and four steps between, of which no two stand together in another side: four pieces */
-static uint8_t shared_step(unsigned side, unsigned place)
+/* the four steps of a side of which no two stand together in another */
+static uint8_t own_step(unsigned side, unsigned place)
 {
     unsigned step = 1 + 3 * (side / 62);
     const unsigned own[] = {side, side + step, side + 2 * step + 1, side + 3 * step + 3};
-    return place < 30 ? 0 : place < 34 ? (uint8_t)(2 + own[place - 30] % 62) : 1;
+    return (uint8_t)(2 + own[place] % 62);
+}
+
+/* a front and an end of 30 steps in common, and the own steps between: four pieces */
+static uint8_t shared_step(unsigned side, unsigned place)
+{
+    return place < 30 ? 0 : place < 34 ? own_step(side, place - 30) : 1;
+}
+
+/* one step over and over, and the own steps at a place of each side's own: tails and fronts overlap as far as they can */
+static uint8_t repeated_step(unsigned side, unsigned place)
+{
+    unsigned at = side % 61;
+    return place < at || at + 4 <= place ? 0 : own_step(side, place - at);
 }
 
 int main(void)
@@ -193,5 +206,7 @@ int main(void)
     differ |= measure_all("a full book of 64 pieces a side, runs of 4,096");
     full_book(shared_step);
     differ |= measure_all("a full book with long pieces, runs of 4,096");
+    full_book(repeated_step);
+    differ |= measure_all("a full book of one step over and over, runs of 4,096");
     return differ;
 }

@@ -22,7 +22,7 @@ use Rattle.layout.specs.Families.{familyAt, familyBy, nextOf}
 use Rattle.layout.proofs.Placed.{words-length}
 use Rattle.layout.proofs.Cells.{family-at}
 use Rattle.layout.proofs.Links.{kinTest, Along, along-start, along-next, along-first, along-no-first}
-use Rattle.kin.specs.Asked.{LinkedWord, RestAsked, twoAtMost, activeOther}
+use Rattle.kin.specs.Asked.{LinkedWord, RestAsked, IdleRest, twoAtMost, activeOther}
 use Rattle.kin.proofs.Laws.{grouped, grouped-linked, rest-word}
 
 -- the other members of a family by their cells
@@ -201,66 +201,64 @@ module _ (text table : List ℕ) (n : ℕ) (given : Word) (i k : ℕ) (a : RestA
 
 pub ruleset quiets = (rest-word, grouped, rest-of-other, quiet-start, quiet-stop, quiet-next, quiet-end, quiet-later, needs)
 
--- the member whose tail is taken
-module _ (text table : List ℕ) (n : ℕ) (given : Word) (i k : ℕ) (a : RestAsked text table n given i k) where
+-- the member whose tail is taken where the own one is not active
+module _ (text table : List ℕ) (n : ℕ) (given : Word) (i k : ℕ) (a : IdleRest text table n given i k) where
+  pub tail-rest : RestAsked text table n given i k
+  tail-rest = a .rest
+
   pub tail-linked : LinkedWord table n i
-  tail-linked = grouped-linked text table n i (a .word)
+  tail-linked = grouped-linked text table n i (a .rest .word)
 
-  module _ (x : Bool) (ex : x ≡ active (wordsIn text table n) (zOf (wordsIn text table n) i) (drop k given)) where
-    pub tail-own : x ≡ true → i ≡ tailMember (wordsIn text table n) (familyBy table n) i (drop k given)
+  module _ (o : ℕ) (eo : o ≡ least n (isOther (familyBy table n) i)) where
+    -- a member for which the rest is active is another member, and so not before the first one
+    active-other : (f : ℕ) → f ≡ firstActive (wordsIn text table n) (familyBy table n) i (drop k given) → f < n → isOther (familyBy table n) i f ≡ true
+    unfolding firstActive
+    active-other f e l =
+        let B = wordsIn text table n in
+        let w = words-length text table n in
+        let q : ℕ → Bool = λ j. isOther (familyBy table n) i j && active B (zOf B j) (drop k given) in
+        let r = least-passes (length B) q (omega (arith, l, e, w)) in
+        let y : q f ≡ true = rw e r in
+        (simp and-eq-true-iff at y) .0
+
+    active-after : (f : ℕ) → f ≡ firstActive (wordsIn text table n) (familyBy table n) i (drop k given) → f < n → o ≤ f
+    active-after f e l = by-cases (decLe o f) (λ z. z) (λ z.
+        absurd (true≢false (sym (active-other f e l) ∙ least-first n (isOther (familyBy table n) i) .none f (omega (arith, z, eo)))))
+
+    -- the first active other member, where there is one
+    pub tail-active : (f : ℕ) → f ≡ firstActive (wordsIn text table n) (familyBy table n) i (drop k given) → f < n
+        → f ≡ tailMember (wordsIn text table n) (familyBy table n) i (drop k given)
     unfolding tailMember
-    tail-own t = rw (← ex, t)
+    tail-active f e l =
+        let q : ltb f n ≡ true = lt-ltb f n l in
+        rw (a .idle, ← e, words-length text table n, q)
 
-    module _ (t : x ≡ false) (o : ℕ) (eo : o ≡ least n (isOther (familyBy table n) i)) where
-      -- a member for which the rest is active is another member, and so not before the first one
-      active-other : (f : ℕ) → f ≡ firstActive (wordsIn text table n) (familyBy table n) i (drop k given) → f < n → isOther (familyBy table n) i f ≡ true
-      unfolding firstActive
-      active-other f e l =
-          let B = wordsIn text table n in
-          let w = words-length text table n in
-          let q : ℕ → Bool = λ j. isOther (familyBy table n) i j && active B (zOf B j) (drop k given) in
-          let r = least-passes (length B) q (omega (arith, l, e, w)) in
-          let y : q f ≡ true = rw e r in
-          (simp and-eq-true-iff at y) .0
+    -- else the first other member
+    pub tail-quiet : (f : ℕ) → f ≡ firstActive (wordsIn text table n) (familyBy table n) i (drop k given) → n ≤ f → o < n
+        → o ≡ tailMember (wordsIn text table n) (familyBy table n) i (drop k given)
+    unfolding tailMember firstOther
+    tail-quiet f e l h =
+        let q : ltb f n ≡ false = le-ltb f n l in
+        let r : ltb o n ≡ true = lt-ltb o n h in
+        rw (a .idle, ← e, words-length text table n, q, ← eo, r)
 
-      active-after : (f : ℕ) → f ≡ firstActive (wordsIn text table n) (familyBy table n) i (drop k given) → f < n → o ≤ f
-      active-after f e l = by-cases (decLe o f) (λ z. z) (λ z.
-          absurd (true≢false (sym (active-other f e l) ∙ least-first n (isOther (familyBy table n) i) .none f (omega (arith, z, eo)))))
+    -- else i
+    pub tail-none : n ≤ o → i ≡ tailMember (wordsIn text table n) (familyBy table n) i (drop k given)
+    unfolding tailMember firstOther
+    tail-none l =
+        let f = firstActive (wordsIn text table n) (familyBy table n) i (drop k given) in
+        let g : n ≤ f = by-cases (decLe n f) (λ z. z) (λ z. let y = active-after f refl (omega (arith, z)) in absurd (omega (arith, y, z, l))) in
+        let q : ltb f n ≡ false = le-ltb f n g in
+        let r : ltb o n ≡ false = le-ltb o n l in
+        rw (a .idle, words-length text table n, q, ← eo, r)
 
-      -- the first active other member, where there is one
-      pub tail-active : (f : ℕ) → f ≡ firstActive (wordsIn text table n) (familyBy table n) i (drop k given) → f < n
-          → f ≡ tailMember (wordsIn text table n) (familyBy table n) i (drop k given)
-      unfolding tailMember
-      tail-active f e l =
-          let q : ltb f n ≡ true = lt-ltb f n l in
-          rw (← ex, t, ← e, words-length text table n, q)
+    -- the one other member is the first active one where there is an active one
+    pub tail-one : o < n → (b : Bool) → b ≡ twoAtMost table n i → b ≡ true → o ≡ tailMember (wordsIn text table n) (familyBy table n) i (drop k given)
+    tail-one l b eb g =
+        let f = firstActive (wordsIn text table n) (familyBy table n) i (drop k given) in
+        let p : isOther (familyBy table n) i o ≡ true = rw eo (least-passes n (isOther (familyBy table n) i) (omega (arith, l, eo))) in
+        by-cases (decLt f n)
+        (λ z. one-other table n i tail-linked (sym eb ∙ g) o f l z p (active-other f refl z) ∙ tail-active f refl z)
+        (λ z. tail-quiet f refl (omega (arith, z)) l)
 
-      -- else the first other member
-      pub tail-quiet : (f : ℕ) → f ≡ firstActive (wordsIn text table n) (familyBy table n) i (drop k given) → n ≤ f → o < n
-          → o ≡ tailMember (wordsIn text table n) (familyBy table n) i (drop k given)
-      unfolding tailMember firstOther
-      tail-quiet f e l h =
-          let q : ltb f n ≡ false = le-ltb f n l in
-          let r : ltb o n ≡ true = lt-ltb o n h in
-          rw (← ex, t, ← e, words-length text table n, q, ← eo, r)
-
-      -- else i
-      pub tail-none : n ≤ o → i ≡ tailMember (wordsIn text table n) (familyBy table n) i (drop k given)
-      unfolding tailMember firstOther
-      tail-none l =
-          let f = firstActive (wordsIn text table n) (familyBy table n) i (drop k given) in
-          let g : n ≤ f = by-cases (decLe n f) (λ z. z) (λ z. let y = active-after f refl (omega (arith, z)) in absurd (omega (arith, y, z, l))) in
-          let q : ltb f n ≡ false = le-ltb f n g in
-          let r : ltb o n ≡ false = le-ltb o n l in
-          rw (← ex, t, words-length text table n, q, ← eo, r)
-
-      -- the one other member is the first active one where there is an active one
-      pub tail-one : o < n → (b : Bool) → b ≡ twoAtMost table n i → b ≡ true → o ≡ tailMember (wordsIn text table n) (familyBy table n) i (drop k given)
-      tail-one l b eb g =
-          let f = firstActive (wordsIn text table n) (familyBy table n) i (drop k given) in
-          let p : isOther (familyBy table n) i o ≡ true = rw eo (least-passes n (isOther (familyBy table n) i) (omega (arith, l, eo))) in
-          by-cases (decLt f n)
-          (λ z. one-other table n i tail-linked (sym eb ∙ g) o f l z p (active-other f refl z) ∙ tail-active f refl z)
-          (λ z. tail-quiet f refl (omega (arith, z)) l)
-
-pub ruleset tails = (tail-linked, tail-own, tail-none, tail-one, tail-active, tail-quiet, needs)
+pub ruleset tails = (tail-rest, tail-linked, tail-none, tail-one, tail-active, tail-quiet, needs)

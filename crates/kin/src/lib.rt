@@ -8,7 +8,7 @@ ghost use Rattle.overlap.specs.Cuts.{xOf, zOf};
 ghost use Rattle.congruence.specs.Rows.{active, markedByAny, isOther, firstActive, tailMember};
 ghost use Rattle.layout.specs.Layout.{wordsIn};
 ghost use Rattle.layout.specs.Families.{familyBy, GroupedWord};
-ghost use Rattle.kin.specs.Asked.{LinkedWord, RestAsked, twoAtMost, activeOther};
+ghost use Rattle.kin.specs.Asked.{LinkedWord, RestAsked, IdleRest, twoAtMost, activeOther};
 
 // Whether p is a prefix of the X of relation word j.
 fn mark_in_word(text: &[u16], table: &[u16], n: usize, j: usize, p: &[u16]) -> bool
@@ -58,7 +58,7 @@ pub fn active_behind(
 }
 
 // The first other member of relation word i's family, or n: the lowest member, which is the family's number, or the next one where i is the lowest itself.
-fn first_other(table: &[u16], n: usize, i: usize) -> usize
+pub fn first_other(table: &[u16], n: usize, i: usize) -> usize
     requires { ⌜ LinkedWord (now table) n i ⌝ }
     ensures { λ r. ⌜ r ≡ least n (isOther (familyBy (now (table .entry)) n) i) ⌝ }
 {
@@ -74,7 +74,7 @@ fn first_other(table: &[u16], n: usize, i: usize) -> usize
 }
 
 // Whether relation word i's family has two members or i alone.
-fn two_at_most(table: &[u16], n: usize, i: usize) -> bool
+pub fn two_at_most(table: &[u16], n: usize, i: usize) -> bool
     requires { ⌜ LinkedWord (now table) n i ⌝ }
     ensures { λ r. ⌜ r ≡ twoAtMost (now (table .entry)) n i ⌝ }
 {
@@ -119,22 +119,12 @@ fn first_active(text: &[u16], table: &[u16], n: usize, given: &[u16], i: usize, 
     n
 }
 
-// The member of relation word i's family whose Z row 4 goes on with, where the given word from place k on is the rest of u. Where only one other member is there,
-// it is that one, whether the rest is active for it or not.
-pub fn tail_member(
-    text: &[u16],
-    table: &[u16],
-    n: usize,
-    given: &[u16],
-    i: usize,
-    k: usize,
-) -> usize
-    requires { ⌜ RestAsked (now text) (now table) n (now given) i k ⌝ }
+// The member of relation word i's family whose Z row 4 goes on with, where the given word from place k on is the rest of u and is not active for Z of i. Where only
+// one other member is there, it is that one, whether the rest is active for it or not.
+pub fn other_tail(text: &[u16], table: &[u16], n: usize, given: &[u16], i: usize, k: usize) -> usize
+    requires { ⌜ IdleRest (now text) (now table) n (now given) i k ⌝ }
     ensures { λ r. ⌜ r ≡ tailMember (wordsIn (now (text .entry)) (now (table .entry)) n) (familyBy (now (table .entry)) n) i (drop k (now (given .entry))) ⌝ }
 {
-    if active_behind(text, table, n, given, i, k) {
-        return i;
-    }
     let other = first_other(table, n, i);
     if n <= other {
         return i;

@@ -123,7 +123,7 @@ module _ (text table : List ℕ) (n i : ℕ) (m : Mark) (h : MarkAsked text tabl
       let u = none-yet (wordsIn text table n) table n (words-length text table n) (h .word .grouped .linked) i (h .word .there) (placedMark text m) in
       best-next n f (rw e u) (low-there f e) r g k q
 
-pub ruleset firstMembers = (mark-word, mark-up, mark-inside, low-word, low-next-room, best-word, grouped, best-next, best-later, best-end, needs)
+pub ruleset firstMembers = (mark-word, mark-up, mark-inside, low-word, low-next-room, best-word, grouped, best-later, best-end, needs)
 
 -- the member, where the first one is another than i
 module _ (text table : List ℕ) (n i : ℕ) (m : Mark) (t : ℕ) (b : Bool) where

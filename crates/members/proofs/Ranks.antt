@@ -14,7 +14,7 @@ use lib.Dec.{eqb, ltb}
 use lib.ListN.{length, getD}
 use Rattle.words.specs.Words.{Word, commonPrefix, part}
 use Rattle.words.proofs.Parts.{part-length, part-at}
-use Rattle.words.proofs.Commons.{common-is, common-most}
+use Rattle.words.proofs.Commons.{common-is}
 use Rattle.congruence.specs.Rows.{choose}
 use Rattle.least.specs.Order.{before, houseRank}
 use Rattle.joined.specs.Joined.{Agreed}
@@ -93,6 +93,9 @@ module _ (text : List ℕ) (s t : Site) (h : SitesInText text s t) where
   pub first-inside : t .tail ≤ length text
   first-inside = other-up .1
 
+  pub first-agreed : Agreed text (s .start) (s .tail) (part text (t .start) (t .tail)) 0 0
+  first-agreed = record { span = record { upwards = first-up; inside = own-up .1 }; passed = omega arith }
+
   -- Y has a letter, so both begin with one
   pub first-letter : s .start < length text
   first-letter = let a = own-up in omega (arith, a .0, a .1)
@@ -106,7 +109,7 @@ module _ (text : List ℕ) (s t : Site) (h : SitesInText text s t) where
   letter-other : getD (part text (t .start) (t .tail)) 0 0 ≡ getD text (t .start) 0
   letter-other = let a = other-up in part-at text (t .start) (t .tail) 0 (omega (arith, a .0)) ∙ ap (λ k. getD text k 0) {x = t .start + 0} {y = t .start} (omega arith)
 
-  -- these letters differ
+  -- and where these differ they decide
   pub first-apart : (getD text (s .start) 0 ≡ getD text (t .start) 0 → ⊥) → (x y : ℕ) → x ≡ houseRank (getD text (s .start) 0) → y ≡ houseRank (getD text (t .start) 0) → ltb x y ≡ firstAt text s t
   unfolding firstAt
   first-apart d x y f g =
@@ -117,19 +120,6 @@ module _ (text : List ℕ) (s t : Site) (h : SitesInText text s t) where
       (λ _ _ z. d (sym letter-own ∙ z ∙ letter-other)) in
       let r = before-differ houseRank (part text (s .start) (s .tail)) (part text (t .start) (t .tail)) (omega (arith, c, a .0, l .0)) (omega (arith, c, b .0, l .1)) in
       rw (f, g) (sym (rw (c, letter-own, letter-other) at r))
-
-  -- or agree
-  pub first-agreed : getD text (s .start) 0 ≡ getD text (t .start) 0 → Agreed text (s .start) (s .tail) (part text (t .start) (t .tail)) 0 1
-  first-agreed e =
-      let a = own-up in
-      let b = other-up in
-      let l = longs in
-      record {
-        span = record { upwards = first-up; inside = a .1 };
-        passed = common-most (part text (s .start) (s .tail)) (part text (t .start) (t .tail)) 1 (omega (arith, a .0, l .0)) (omega (arith, b .0, l .1)) (λ k z.
-            let k0 : k ≡ 0 = omega (arith, z) in
-            rw k0 (letter-own ∙ e ∙ sym letter-other));
-      }
 
   module _ (m : ℕ) (e : m ≡ commonPrefix (part text (s .start) (s .tail)) (part text (t .start) (t .tail))) where
     pub first-ended : t .tail - t .start ≤ m → false ≡ firstAt text s t
@@ -162,4 +152,6 @@ module _ (text : List ℕ) (s t : Site) (h : SitesInText text s t) where
             let d′ = rw (← e, part-at text (s .start) (s .tail) m l, part-at text (t .start) (t .tail) m k) at d in
             rw (f, g) (sym d′)
 
-pub ruleset firsts = (first-up, first-other-up, first-inside, first-letter, first-other-letter, first-apart, first-agreed, first-ended, first-shorter, first-place, first-other-place, first-fits, first-other-fits, first-differ, needs)
+pub ruleset letters = (first-letter, first-other-letter, first-apart, needs)
+
+pub ruleset firsts = (first-up, first-other-up, first-inside, first-agreed, first-ended, first-shorter, first-place, first-other-place, first-fits, first-other-fits, first-differ, needs)

@@ -26,18 +26,15 @@ fn rank(letter: u16) -> u16
     letter
 }
 
-// Whether the X and Y at s come before those at t. Mostly their first letters tell it.
-fn comes_first(text: &[u16], s: Site, t: Site) -> bool
+// Whether the X and Y at s come before those at t, by the first place where they differ.
+fn differs_first(text: &[u16], s: Site, t: Site) -> bool
     requires { ⌜ SitesInText (now text) s t ⌝ }
     ensures { λ r. ⌜ r ≡ firstAt (now (text .entry)) s t ⌝ }
 {
     let from = s.start;
     let at = t.start;
-    if text[from] != text[at] {
-        return rank(text[from]) < rank(text[at]);
-    }
     let to = t.tail;
-    let m = joined::common_prefix_in(text, from, s.tail, &text[at..to], 0, 1);
+    let m = joined::common_prefix_in(text, from, s.tail, &text[at..to], 0, 0);
     if to - at <= m {
         return false;
     }
@@ -45,6 +42,19 @@ fn comes_first(text: &[u16], s: Site, t: Site) -> bool
         return true;
     }
     rank(text[from + m]) < rank(text[at + m])
+}
+
+// Whether the X and Y at s come before those at t. Mostly their first letters tell it.
+fn comes_first(text: &[u16], s: Site, t: Site) -> bool
+    requires { ⌜ SitesInText (now text) s t ⌝ }
+    ensures { λ r. ⌜ r ≡ firstAt (now (text .entry)) s t ⌝ }
+{
+    let from = s.start;
+    let at = t.start;
+    if text[from] == text[at] {
+        return differs_first(text, s, t);
+    }
+    rank(text[from]) < rank(text[at])
 }
 
 // Of member j, where p is a prefix of its X, and the best member so far, the one whose X and Y come first. There is no best member yet where that is n.
@@ -225,7 +235,7 @@ fn carries_first(
     kin::active_behind(text, table, n, given, i, k)
 }
 
-// The first member of i's family for whose Z the given word from k on is active, or i; it is not active for Z of the member j. Where it is active for no other member,
+// The first member of i's family for whose Z the given word from k on is active, or i; it is not active for Z of j. Where it is active for no other member,
 // this is i, whether active or not.
 pub fn find_carrier(
     text: &[u16],

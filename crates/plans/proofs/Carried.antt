@@ -5,14 +5,14 @@ use mathlib.Core.List.{List, [], _∷_, _++_, append-nil}
 use mathlib.Core.Path.{_≡_, refl, sym, ap, _∙_}
 use native.Mathlib.Omega.{arith}
 use lib.ListN.{length, take, drop, length-drop}
-use lib.Seq.{length-take-le, drop-length, drop-drop}
+use lib.Seq.{length-take-le, drop-length, drop-drop, drop-append-le}
 use Rattle.words.specs.Words.{Word, isEmpty, isPrefix, commonSuffix, part}
-use Rattle.words.proofs.Prefixes.{prefix-length}
+use Rattle.words.proofs.Prefixes.{prefix-length, prefix-split}
 use Rattle.words.proofs.Tests.{cond-both}
 use Rattle.words.proofs.Parts.{part-length, part-take, part-drop}
 use Rattle.overlap.specs.Pieces.{word}
 use Rattle.overlap.specs.Cuts.{len, xylen, xOf, xyOf, zOf}
-use Rattle.congruence.specs.Rows.{choose, alike, tailMember, row2, row4, row5, row6, row7, row8}
+use Rattle.congruence.specs.Rows.{choose, alike, hasRelationPrefixBetween, active, tailMember, row2, row4, row5, row6, row7, row8}
 use Rattle.congruence.specs.Rows.Next.{end, go}
 use Rattle.overlap.proofs.Facts.{length-xy}
 use Rattle.words.proofs.CommonSuffixes.{suffix-within}
@@ -26,6 +26,7 @@ use Rattle.plans.specs.Plans.PlanFit.{ends, goes}
 use Rattle.changes.specs.Changes.{cutBy, tailBy, putBoth, markAfter, plan6, plan7, plan8, restAt, sharedSuffix}
 use Rattle.plans.specs.RowPlans.{dropOne, markDrop, plan2, plan4, plan5, plan8Of}
 use Rattle.sites.proofs.Sites.{Lies}
+use Rattle.sites.proofs.CleanPrefixes.{between-drop}
 
 -- changes that fit
 pub cut-fits : (text : List ℕ) (B : List Word) (w : Word) (m : ℕ) → m ≤ length w → Fit text B w (cutBy m)
@@ -44,6 +45,29 @@ cut-applied text m w = refl
 module _ (text : List ℕ) (B : List Word) (i : ℕ) (s : Site) (l : Lies text B i s) where
   z-length : length (zOf B i) ≡ s .stop - s .tail
   z-length = ap length (l .z) ∙ part-length text (s .tail) (s .stop) (l .inside)
+
+  -- behind XY of a word that begins with the relation word stands its Z and what follows the relation word
+  rest-of-whole : (w : Word) → isPrefix (word B i) w ≡ true → zOf B i ++ drop (len B i) w ≡ drop (xylen B i) w
+  rest-of-whole w e =
+      let b = l .long in
+      let d = l .longXY in
+      let t = l .third in
+      sym (drop-append-le (xylen B i) (word B i) (drop (len B i) w) (omega arith)) ∙ ap (drop (xylen B i)) (prefix-split (word B i) w e)
+
+  -- what follows the relation word is active for its Z where an XY stands in the word at a place of that Z
+  pub active-between : (w : Word) → isPrefix (word B i) w ≡ true
+      → active B (zOf B i) (drop (s .stop - s .start) w) ≡ hasRelationPrefixBetween B w (s .tail - s .start) (s .stop - s .start)
+  unfolding active
+  active-between w e =
+      let a = l .first in
+      let b = l .second in
+      let c = l .third in
+      let d = l .longXY in
+      let z = z-length in
+      let m : xylen B i + length (zOf B i) ≡ s .stop - s .start = omega arith in
+      ap (λ k. hasRelationPrefixBetween B (zOf B i ++ drop k w) 0 (length (zOf B i))) (sym (l .long))
+      ∙ ap (λ x. hasRelationPrefixBetween B x 0 (length (zOf B i))) (rest-of-whole w e) ∙ between-drop B w (xylen B i) (length (zOf B i))
+      ∙ ap (λ k. hasRelationPrefixBetween B w k (xylen B i + length (zOf B i))) d ∙ ap (hasRelationPrefixBetween B w (s .tail - s .start)) m
 
   -- a word that begins with XY, or with all of the relation word, is as long
   xy-within : (w : Word) → isPrefix (xyOf B i) w ≡ true → s .tail - s .start ≤ length w

@@ -233,7 +233,9 @@ module _ (text table : List ℕ) (n : ℕ) (ua : Word) (c : HeadClear text table
           let b = whole-within text (wordsIn text table n) i (f .own) lo (ua ++ ub) q in
           let d = length-append ua ub in
           record {
-            word = rw (h .word (omega arith)) w;
+            known = rw (h .word (omega arith)) w;
+            at = rw (h .word (omega arith)) (h .own (omega arith));
+            begins = rw (h .word (omega arith)) q;
             own = stop-after text (f .own) (site-in-text text (wordsIn text table n) i (f .own) lo);
             member = stop-after text (f .member) (site-in-text text (wordsIn text table n) _ (f .member) lm);
             past = omega (arith, a, lo .longXY, lo .third);

@@ -2,7 +2,7 @@
 use Prim.Native.Nat.{ℕ, suc, _+_, _-_, _≤_, _<_, min}
 use mathlib.Core.Bool.{Bool, true, false}
 use mathlib.Core.List.{List, [], _∷_, _++_}
-use mathlib.Core.Path.{_≡_, refl, ap}
+use mathlib.Core.Path.{_≡_, refl, sym, ap, _∙_}
 use native.Mathlib.Omega.{arith}
 use borrow.Author.Needs.{needs}
 use borrow.Author.Tests.{eq-eqb, ne-eqb}
@@ -11,16 +11,18 @@ use lib.ListN.{length, getD, drop, length-append}
 use Rattle.words.specs.Words.{Word, isEmpty}
 use Rattle.words.proofs.Lists.{drop-past}
 use Rattle.overlap.proofs.Facts.{rigid-of-c4}
-use Rattle.congruence.specs.Rows.{tailMember}
+use Rattle.overlap.specs.Cuts.{zOf}
+use Rattle.congruence.specs.Rows.{hasRelationPrefixBetween, active, tailMember}
 use Rattle.congruence.proofs.ShapeRows.{tail-member-there}
 use Rattle.layout.specs.Places.{endCell}
-use Rattle.layout.specs.Layout.{wordsIn}
+use Rattle.layout.specs.Layout.{wordsIn, Checked}
 use Rattle.layout.specs.Families.{familyBy}
 use Rattle.layout.proofs.Placed.{words-length}
 use Rattle.sites.specs.declared.Site.{Site}
 use Rattle.sites.specs.Sites.{siteOf}
-use Rattle.kin.specs.Asked.{RestAsked}
-use Rattle.kin.proofs.Laws.{grouped-room}
+use Rattle.sites.proofs.Sites.{Lies}
+use Rattle.kin.specs.Asked.{IdleRest}
+use Rattle.kin.proofs.Laws.{grouped-room, grouped-lies}
 use Rattle.changes.specs.declared.Change.{Change}
 use Rattle.changes.specs.declared.Plan.{Plan}
 use Rattle.changes.specs.declared.Plan.the-variants.{End, Go}
@@ -29,6 +31,7 @@ use Rattle.changes.specs.Changes.{cutBy, putBoth, markAfter, restAt, plan8}
 use Rattle.plans.specs.Asked.{BothNonEmpty, WholeWords, TailsHave}
 use Rattle.plans.specs.RowPlans.{plan1, dropOne, markDrop, plan2, plan4, plan5, plan8Of}
 use Rattle.sites.proofs.Laws.{tail-after}
+use Rattle.plans.proofs.Carried.{active-between}
 use Rattle.rows.proofs.Laws.{empty-right}
 
 -- plans by their changes
@@ -100,11 +103,17 @@ pub ruleset letterDrops = (drop-unlike, drop-like, some-left, some-right, needs)
 
 -- row 4
 module _ (text table : List ℕ) (n i : ℕ) (s t : Site) (ua ub : Word) (h : WholeWords text table n i s t ua ub) where
-  pub whole-rest : RestAsked text table n ub i (s .stop - s .start - length ua)
-  whole-rest = record { word = h .word; within = h .within }
+  lies-whole : Lies text (wordsIn text table n) i s
+  lies-whole = grouped-lies text table n i (h .known) s (h .at)
+
+  pub whole-checked : Checked text table n
+  whole-checked = h .known .grouped .checked
 
   pub whole-own : s .start ≤ s .stop
   whole-own = h .own
+
+  pub whole-tail : s .start ≤ s .tail
+  whole-tail = let l = lies-whole in let a = l .first in let b = l .second in omega arith
 
   pub whole-member : t .start ≤ t .stop
   whole-member = h .member
@@ -112,22 +121,39 @@ module _ (text table : List ℕ) (n i : ℕ) (s t : Site) (ua ub : Word) (h : Wh
   pub whole-past : length ua ≤ s .stop - s .start
   whole-past = h .past
 
-  module _ (j : ℕ) (e : j ≡ tailMember (wordsIn text table n) (familyBy table n) i (drop (s .stop - s .start - length ua) ub)) where
-    pub tail-room : endCell j < length table
-    tail-room =
-        let B = wordsIn text table n in
-        let b = words-length text table n in
-        let t = h .word .there in
-        let a = tail-member-there B (rigid-of-c4 B (h .word .grouped .checked .accepted)) (familyBy table n) i (drop (s .stop - s .start - length ua) ub) (omega (arith, b, t)) in
-        grouped-room text table n j (record { grouped = h .word .grouped; there = omega (arith, a, b, e) })
+  -- what is left of u behind the relation word is in the second slice
+  rest-is : drop (s .stop - s .start) (ua ++ ub) ≡ drop (s .stop - s .start - length ua) ub
+  rest-is = drop-past ua ub (s .stop - s .start) (h .past)
 
-    -- the rest of u is in the second slice
-    pub replace-made : (z : Site) → z ≡ siteOf table j → (k : ℕ) (r : Plan) → r ≡ putBoth (s .stop - s .start) z (t .stop - t .start) k
+  module _ (x : Bool) (ex : x ≡ hasRelationPrefixBetween (wordsIn text table n) (ua ++ ub) (s .tail - s .start) (s .stop - s .start)) where
+    -- active for the own tail, by the places of u
+    active-own : x ≡ active (wordsIn text table n) (zOf (wordsIn text table n) i) (drop (s .stop - s .start) (ua ++ ub))
+    active-own = ex ∙ sym (active-between text (wordsIn text table n) i s lies-whole (ua ++ ub) (h .begins))
+
+    pub replace-own : x ≡ true → (k : ℕ) (r : Plan) → r ≡ putBoth (s .stop - s .start) s (t .stop - t .start) k
         → r ≡ plan4 s t (siteOf table (tailMember (wordsIn text table n) (familyBy table n) i (drop (s .stop - s .start) (ua ++ ub)))) k
-    unfolding plan4
-    replace-made z ez k r f = rw (drop-past ua ub (s .stop - s .start) (h .past), ← e, ← ez) f
+    unfolding plan4 tailMember
+    replace-own q k r f = f ∙ rw (← active-own, q, ← h .at)
 
-pub ruleset replacements = (whole-rest, whole-own, whole-member, whole-past, tail-room, replace-made, needs)
+    module _ (q : x ≡ false) where
+      pub whole-rest : IdleRest text table n ub i (s .stop - s .start - length ua)
+      whole-rest = record { rest = record { word = h .known; within = h .within }; idle = rw rest-is at (sym active-own ∙ q) }
+
+      module _ (j : ℕ) (e : j ≡ tailMember (wordsIn text table n) (familyBy table n) i (drop (s .stop - s .start - length ua) ub)) where
+        pub tail-room : endCell j < length table
+        tail-room =
+            let B = wordsIn text table n in
+            let b = words-length text table n in
+            let t = h .known .there in
+            let a = tail-member-there B (rigid-of-c4 B (h .known .grouped .checked .accepted)) (familyBy table n) i (drop (s .stop - s .start - length ua) ub) (omega (arith, b, t)) in
+            grouped-room text table n j (record { grouped = h .known .grouped; there = omega (arith, a, b, e) })
+
+        pub replace-made : (z : Site) → z ≡ siteOf table j → (k : ℕ) (r : Plan) → r ≡ putBoth (s .stop - s .start) z (t .stop - t .start) k
+            → r ≡ plan4 s t (siteOf table (tailMember (wordsIn text table n) (familyBy table n) i (drop (s .stop - s .start) (ua ++ ub)))) k
+        unfolding plan4
+        replace-made z ez k r f = rw (rest-is, ← e, ← ez) f
+
+pub ruleset replacements = (whole-checked, whole-own, whole-tail, whole-member, whole-past, replace-own, whole-rest, tail-room, replace-made, needs)
 
 -- row 8
 module _ (text : List ℕ) (s t : Site) (l : ℕ) (h : TailsHave text s t l) where

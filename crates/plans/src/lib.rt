@@ -64,7 +64,8 @@ fn drop_letters(ua: &[u16], ub: &[u16], va: &[u16], vb: &[u16], p: &[u16]) -> Pl
     Plan::End(false)
 }
 
-// Row 4, where relation word i lies at s and begins u, and the member at t begins v: the tail of a member takes the place of both. The rest of u is in ub.
+// Row 4, where relation word i lies at s and begins u, and the member at t begins v: the tail of a member takes the place of both. Whether the rest of u is active for
+// the own tail is asked where that stands in u; the rest is in ub.
 fn replace_words(
     text: &[u16],
     table: &[u16],
@@ -80,7 +81,10 @@ fn replace_words(
     ensures { λ r. ⌜ r ≡ plan4 s t (siteOf (now (table .entry)) (tailMember (wordsIn (now (text .entry)) (now (table .entry)) n) (familyBy (now (table .entry)) n) i (drop (s .stop - s .start) (now (ua .entry) ++ now (ub .entry))))) k ⌝ }
 {
     let m = s.stop - s.start;
-    let j = kin::tail_member(text, table, n, ub, i, m - ua.len());
+    if sites::has_prefix_between(text, table, n, ua, ub, s.tail - s.start, m) {
+        return changes::put_both(m, s, t.stop - t.start, k);
+    }
+    let j = kin::other_tail(text, table, n, ub, i, m - ua.len());
     changes::put_both(m, sites::read_site(table, j), t.stop - t.start, k)
 }
 

@@ -1,18 +1,21 @@
 -- A law for each way that the code can go which looks for the first row that fits.
 use Prim.Native.Nat.{ℕ, suc, _≤_, _<_}
-use mathlib.Core.Bool.{Bool, true, false, _&&_, _||_}
+use mathlib.Core.Bool.{Bool, true, false, _&&_, _||_, not, true≢false, and-eq-true-iff}
 use mathlib.Core.List.{List, [], _∷_, _++_}
 use mathlib.Core.Logic.{by-cases}
-use mathlib.Core.Path.{_≡_, refl, sym, _∙_}
+use mathlib.Core.Path.{_≡_, refl, sym, ap, _∙_, subst}
 use native.Mathlib.Decide.{decLt, ℕ-discrete}
 use native.Mathlib.Omega.{arith}
 use borrow.Author.Needs.{needs}
 use lib.Dec.{eqb, ltb}
 use lib.ListN.{length}
-use borrow.Author.Tests.{eq-eqb, ne-eqb, le-leb, lt-leb, lt-ltb, le-ltb}
-use Rattle.words.specs.Words.{Word, isEmpty}
+use borrow.Author.Tests.{eqb-true, eq-eqb, ne-eqb, le-leb, lt-leb, lt-ltb, le-ltb}
+use Rattle.words.specs.Search.{least}
+use Rattle.words.specs.Words.{Word, isEmpty, isPrefix, part}
+use Rattle.words.proofs.Searching.{least-passes, least-first}
+use Rattle.overlap.specs.Cuts.{xyOf}
 use Rattle.overlap.proofs.Facts.{rigid-of-c4}
-use Rattle.congruence.specs.Rows.{cleanRelationPrefix, markedByAny, memberOf, fitting, firstRow}
+use Rattle.congruence.specs.Rows.{cleanRelationPrefix, markedByAny, memberOf, isOther, fitting, firstRow}
 use Rattle.congruence.proofs.Heads.{Facts}
 use Rattle.congruence.proofs.RowTests.{cleanRelationPrefix-passes}
 use Rattle.congruence.proofs.FirstRow.{CleanPrefix, Member, memberOf-begins}
@@ -26,13 +29,13 @@ use Rattle.sites.specs.declared.Site.{Site}
 use Rattle.sites.specs.Sites.{siteOf, SiteInText, SitesInText}
 use Rattle.sites.proofs.Sites.{site-in-text}
 use Rattle.sites.proofs.Laws.{spans}
-use Rattle.kin.specs.Asked.{LinkedWord}
-use Rattle.kin.proofs.Tails.{linked-family-room}
+use Rattle.kin.specs.Asked.{LinkedWord, twoAtMost}
+use Rattle.kin.proofs.Tails.{linked-family-room, one-other}
 use Rattle.kin.proofs.Laws.{grouped, grouped-checked, grouped-linked, grouped-lies}
 use Rattle.rows.specs.declared.Found.{Found}
-use Rattle.rows.specs.Shapes.{rowBy, shapedRow, tailFollows, kinOrNone, CleanWord, FoundRow}
+use Rattle.rows.specs.Shapes.{rowBy, shapedRow, tailFollows, kinOrNone, OneLeft, CleanWord, FoundRow}
 use Rattle.rows.proofs.Shapes.{shaped}
-use Rattle.rows.proofs.Members.{begun-none, begun-other, begun-here}
+use Rattle.rows.proofs.Members.{member-tried, member-untried, begun-none, begun-other, begun-here}
 
 -- the row by three tests
 module _ (w a c : Bool) where
@@ -100,8 +103,27 @@ module _ (table : List ℕ) (n i : ℕ) (h : LinkedWord table n i) (j : ℕ) whe
 
 pub ruleset kins = (linked-family-room, kin-none, kin-room, kin-here, kin-other, needs)
 
+-- X and Y of one relation word
+pub begins-here : (text table : List ℕ) (n j : ℕ) → GroupedWord text table n j → (s : Site) → s ≡ siteOf table j → (w : Word) (r : Bool)
+    → r ≡ isPrefix (part text (s .start) (s .tail)) w → r ≡ isPrefix (xyOf (wordsIn text table n) j) w
+begins-here text table n j h s e w r f = f ∙ ap (λ (x : Word). isPrefix x w) (sym (grouped-lies text table n j h s e .xy))
+
+pub ruleset beginsHere = (grouped, begins-here, spans, needs)
+
+-- what the test for another member says
+is-another : (family : ℕ → ℕ) (i k : ℕ) → family i ≡ family k → (i ≡ k → ⊥) → isOther family i k ≡ true
+unfolding isOther
+is-another family i k e q = simp and-eq-true-iff (eq-eqb (family i) (family k) e, ap not (ne-eqb i k q))
+
+other-family : (family : ℕ → ℕ) (i k : ℕ) → isOther family i k ≡ true → family i ≡ family k
+unfolding isOther
+other-family family i k t = eqb-true (family i) (family k) ((simp and-eq-true-iff at t) .0)
+
 -- the member that a word begins with
 module _ (text table : List ℕ) (n i : ℕ) (h : GroupedWord text table n i) where
+  rigid : Facts (wordsIn text table n)
+  rigid = rigid-of-c4 (wordsIn text table n) (h .grouped .checked .accepted)
+
   pub member-one : (w : Word) (j : ℕ) → j ≡ relationPrefixAt (wordsIn text table n) w 0 → (r : ℕ) → r ≡ kinOrNone table n i j
       → r ≡ memberOf (wordsIn text table n) (familyBy table n) i w
   unfolding relationPrefixAt kinOrNone
@@ -119,11 +141,62 @@ module _ (text table : List ℕ) (n i : ℕ) (h : GroupedWord text table n i) wh
       (λ l.
       let b = words-length text table n in
       rw (le-leb n j (omega (arith, l))) (sym b ∙ begun-none (wordsIn text table n) rigid (familyBy table n) i w j e (omega (arith, b, l))))
-    where
-      rigid : Facts (wordsIn text table n)
-      rigid = rigid-of-c4 (wordsIn text table n) (h .grouped .checked .accepted)
 
-pub ruleset members = (grouped-checked, grouped-linked, member-one, needs)
+  module _ (w : Word) (x : Bool) (ex : x ≡ isPrefix (xyOf (wordsIn text table n) i) w) where
+    pub member-own : x ≡ true → i ≡ memberOf (wordsIn text table n) (familyBy table n) i w
+    member-own t =
+        let b = words-length text table n in
+        member-tried (wordsIn text table n) rigid (familyBy table n) i w i (omega (arith, b, h .there)) refl (sym ex ∙ t)
+
+    pub member-left : x ≡ false → (y : Bool) → y ≡ twoAtMost table n i → y ≡ true → OneLeft text table n w i
+    member-left t y ey ty = record { word = h; two = sym ey ∙ ty; unlike = sym ex ∙ t }
+
+pub ruleset members = (grouped-checked, grouped-linked, member-own, member-left, member-one, needs)
+
+-- the other member of a family of two
+module _ (text table : List ℕ) (n : ℕ) (w : Word) (i : ℕ) (h : OneLeft text table n w i) where
+  pub left-linked : LinkedWord table n i
+  left-linked = grouped-linked text table n i (h .word)
+
+  module _ (j : ℕ) (ej : j ≡ least n (isOther (familyBy table n) i)) where
+    is-other : j < n → isOther (familyBy table n) i j ≡ true
+    is-other a = rw ej (least-passes n (isOther (familyBy table n) i) (omega (arith, a, ej)))
+
+    -- a test that fails of i and of the other member fails of every member
+    members-fail : (j < n → isPrefix (xyOf (wordsIn text table n) j) w ≡ false)
+        → (k : ℕ) → k < length (wordsIn text table n) → familyBy table n i ≡ familyBy table n k → isPrefix (xyOf (wordsIn text table n) k) w ≡ false
+    members-fail f k l e = by-cases (ℕ-discrete i k)
+        (λ q. subst (λ (m : ℕ). isPrefix (xyOf (wordsIn text table n) m) w ≡ false) q (h .unlike))
+        (λ q.
+        let b = words-length text table n in
+        let kn : k < n = omega (arith, b, l) in
+        let o = is-another (familyBy table n) i k e q in
+        by-cases (decLt j n)
+        (λ a. subst (λ (m : ℕ). isPrefix (xyOf (wordsIn text table n) m) w ≡ false) (one-other table n i left-linked (h .two) j k a kn (is-other a) o) (f a))
+        (λ a. absurd (true≢false (sym o ∙ least-first n (isOther (familyBy table n) i) .none k (omega (arith, a, ej, kn))))))
+
+    none-begun : (j < n → isPrefix (xyOf (wordsIn text table n) j) w ≡ false) → n ≡ memberOf (wordsIn text table n) (familyBy table n) i w
+    none-begun f = sym (words-length text table n)
+        ∙ member-untried (wordsIn text table n) (rigid text table n i (h .word)) (familyBy table n) i w (members-fail f)
+
+    pub left-alone : n ≤ j → n ≡ memberOf (wordsIn text table n) (familyBy table n) i w
+    left-alone l = none-begun (λ a. absurd (omega (arith, a, l)))
+
+    module _ (l : j < n) where
+      pub left-word : GroupedWord text table n j
+      left-word = record { grouped = h .word .grouped; there = l }
+
+      module _ (z : Bool) (ez : z ≡ isPrefix (xyOf (wordsIn text table n) j) w) where
+        pub left-begins : z ≡ true → j ≡ memberOf (wordsIn text table n) (familyBy table n) i w
+        left-begins q =
+            let b = words-length text table n in
+            member-tried (wordsIn text table n) (rigid text table n i (h .word)) (familyBy table n) i w j (omega (arith, b, l))
+            (other-family (familyBy table n) i j (is-other l)) (sym ez ∙ q)
+
+        pub left-unlike : z ≡ false → n ≡ memberOf (wordsIn text table n) (familyBy table n) i w
+        left-unlike q = none-begun (λ _. sym ez ∙ q)
+
+pub ruleset lefts = (left-linked, left-alone, left-word, left-begins, left-unlike, needs)
 
 -- empty words
 pub empty-left : (a b : Word) → 0 < length a → false ≡ isEmpty (a ++ b)

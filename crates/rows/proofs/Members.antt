@@ -1,6 +1,7 @@
--- X and Y of one relation word at most begin a word: so that one is the only candidate for the member of a family that the word begins with.
+-- X and Y of one relation word at most begin a word: so that one is the only candidate for the member of a family that the word begins with. It is found by trying
+-- relation words, or by the index.
 use Prim.Native.Nat.{ℕ, _≤_, _<_}
-use mathlib.Core.Bool.{false, true≢false, and-eq-true-iff}
+use mathlib.Core.Bool.{true, false, true≢false, and-eq-true-iff}
 use mathlib.Core.List.{List}
 use mathlib.Core.Logic.{by-cases}
 use mathlib.Core.Path.{_≡_, sym, ap, _∙_}
@@ -17,6 +18,27 @@ use Rattle.congruence.specs.Rows.{begun, memberOf}
 use Rattle.congruence.proofs.Heads.{Facts}
 use Rattle.congruence.proofs.RowTests.{one-prefix}
 use Rattle.sites.proofs.CleanPrefixes.{prefix-here}
+
+module _ (B : List Word) (R : Facts B) (family : ℕ → ℕ) (i : ℕ) (w : Word) where
+  -- a member that begins the word is the one
+  pub member-tried : (k : ℕ) → k < length B → family i ≡ family k → isPrefix (xyOf B k) w ≡ true → k ≡ memberOf B family i w
+  unfolding memberOf begun
+  member-tried k h e t = sym (least-is (length B) (begun B family i w) k h (record { none = below }) (simp and-eq-true-iff (eq-eqb (family i) (family k) e, t)))
+    where
+      below : (j : ℕ) → j < k → begun B family i w j ≡ false
+      below j l = false-of (begun B family i w j) (λ b.
+          let r = simp and-eq-true-iff at b in
+          let q = one-prefix R w j k (omega (arith, h, l)) h (r .1) t in
+          absurd (omega (arith, q, l)))
+
+  -- where no member begins it there is none
+  pub member-untried : ((k : ℕ) → k < length B → family i ≡ family k → isPrefix (xyOf B k) w ≡ false) → length B ≡ memberOf B family i w
+  unfolding memberOf begun
+  member-untried none = sym (least-none (length B) (begun B family i w) (record {
+    none = λ j l. false-of (begun B family i w j) (λ b.
+        let r = simp and-eq-true-iff at b in
+        true≢false (sym (r .1) ∙ none j l (eqb-true (family i) (family j) (r .0))));
+  }))
 
 module _ (B : List Word) (R : Facts B) (family : ℕ → ℕ) (i : ℕ) (w : Word) (k : ℕ) (f : k ≡ least (length B) (λ j. isPrefix (xyOf B j) w)) where
   -- only the one that begins the word can be the member

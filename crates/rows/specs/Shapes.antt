@@ -1,17 +1,19 @@
 -- The first row that fits, by how u, v and p begin with the parts of the text in which relation words lie.
 -- That this is `firstRow` of the rows' definition is shown in proofs/Shapes.antt.
 use Prim.Native.Nat.{ℕ, _-_, _<_}
-use mathlib.Core.Bool.{Bool, false, cond, _||_}
+use mathlib.Core.Bool.{Bool, true, false, cond, _||_}
 use mathlib.Core.List.{List}
 use mathlib.Core.Path.{_≡_}
 use lib.Dec.{eqb, leb}
 use lib.ListN.{drop}
 use Rattle.words.specs.Words.{Word, isEmpty, isPrefix, part}
+use Rattle.overlap.specs.Cuts.{xyOf}
 use Rattle.congruence.specs.Rows.{cleanRelationPrefix, primedWord, firstRow}
 use Rattle.layout.specs.Layout.{wordsIn}
 use Rattle.layout.specs.Families.{familyAt, familyBy, GroupedWord}
 use Rattle.sites.specs.declared.Site.{Site}
 use Rattle.sites.specs.Sites.{siteOf}
+use Rattle.kin.specs.Asked.{twoAtMost}
 use Rattle.rows.specs.declared.Found.{Found}
 
 -- the row from row 4 on by whether u begins with all of its relation word (`whole`), v with all of its member (`all`), and these two are the same
@@ -29,6 +31,12 @@ shapedRow text s t same u v = rowBy (tailFollows text s u) (tailFollows text t v
 -- relation word j where it is one and of i's family, else n
 unfoldable pub kinOrNone : List ℕ → ℕ → ℕ → ℕ → ℕ
 kinOrNone table n i j = cond (leb n j) n (cond (eqb (familyAt table i) (familyAt table j)) j n)
+
+-- relation word i, whose family has two members or i alone, and a word that does not begin with its X and Y
+pub record OneLeft (text table : List ℕ) (n : ℕ) (w : Word) (i : ℕ) : Type 0 where
+  pub word : GroupedWord text table n i
+  pub two : twoAtMost table n i ≡ true
+  pub unlike : isPrefix (xyOf (wordsIn text table n) i) w ≡ false
 
 -- relation word i is the clean relation prefix of u, and u and v are not empty
 pub record CleanWord (text table : List ℕ) (n : ℕ) (u v : Word) (i : ℕ) : Type 0 where

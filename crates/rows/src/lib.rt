@@ -4,13 +4,14 @@
 ghost use mathlib.Core.Bool.{_||_};
 ghost use mathlib.Core.Path.{_≡_};
 ghost use mathlib.Core.List.{_++_};
-ghost use Rattle.words.specs.Words.{isEmpty};
+ghost use Rattle.words.specs.Words.{isEmpty, isPrefix};
+ghost use Rattle.overlap.specs.Cuts.{xyOf};
 ghost use Rattle.congruence.specs.Rows.{memberOf};
 ghost use Rattle.layout.specs.Layout.{wordsIn};
 ghost use Rattle.layout.specs.Families.{familyBy, Grouped, GroupedWord};
 ghost use Rattle.sites.specs.Sites.{SitesInText};
 ghost use Rattle.kin.specs.Asked.{LinkedWord};
-ghost use Rattle.rows.specs.Shapes.{rowBy, shapedRow, kinOrNone, CleanWord, FoundRow};
+ghost use Rattle.rows.specs.Shapes.{rowBy, shapedRow, kinOrNone, OneLeft, CleanWord, FoundRow};
 use sites::Site;
 
 // The first row that fits; from row 3 on, also the relation word of u's clean relation prefix and where it lies, and from row 4 on where the member of its family
@@ -77,11 +78,42 @@ fn kin_or_none(table: &[u16], n: usize, i: usize, j: usize) -> usize
     n
 }
 
-// The member of relation word i's family whose X and Y the word begins with, or n. X and Y of one relation word at most begin it, so that no other need be tried.
+// Whether a word begins with X and Y of relation word j.
+fn begins_with(text: &[u16], table: &[u16], n: usize, j: usize, a: &[u16], b: &[u16]) -> bool
+    requires { ⌜ GroupedWord (now text) (now table) n j ⌝ }
+    ensures { λ r. ⌜ r ≡ isPrefix (xyOf (wordsIn (now (text .entry)) (now (table .entry)) n) j) (now (a .entry) ++ now (b .entry)) ⌝ }
+{
+    let s = sites::read_site(table, j);
+    joined::begins(text, s.start, s.tail, a, b, 0)
+}
+
+// The other member of relation word i's family, which has two members or i alone, where the word begins with its X and Y, else n; it does not begin with those of i.
+fn other_of_two(text: &[u16], table: &[u16], n: usize, i: usize, a: &[u16], b: &[u16]) -> usize
+    requires { ⌜ OneLeft (now text) (now table) n (now a ++ now b) i ⌝ }
+    ensures { λ r. ⌜ r ≡ memberOf (wordsIn (now (text .entry)) (now (table .entry)) n) (familyBy (now (table .entry)) n) i (now (a .entry) ++ now (b .entry)) ⌝ }
+{
+    let j = kin::first_other(table, n, i);
+    if n <= j {
+        return n;
+    }
+    if begins_with(text, table, n, j, a, b) {
+        return j;
+    }
+    n
+}
+
+// The member of relation word i's family whose X and Y the word begins with, or n. X and Y of one relation word at most begin it. So i is tried first, in a family of
+// two the other one, and in a larger family the one that the index finds.
 fn member_of(text: &[u16], table: &[u16], n: usize, i: usize, a: &[u16], b: &[u16]) -> usize
     requires { ⌜ GroupedWord (now text) (now table) n i ⌝ }
     ensures { λ r. ⌜ r ≡ memberOf (wordsIn (now (text .entry)) (now (table .entry)) n) (familyBy (now (table .entry)) n) i (now (a .entry) ++ now (b .entry)) ⌝ }
 {
+    if begins_with(text, table, n, i, a, b) {
+        return i;
+    }
+    if kin::two_at_most(table, n, i) {
+        return other_of_two(text, table, n, i, a, b);
+    }
     kin_or_none(table, n, i, index::prefix_at(text, table, n, a, b, 0))
 }
 

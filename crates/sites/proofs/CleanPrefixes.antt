@@ -1,19 +1,22 @@
--- At most one relation word's X and Y begin a word, clean or not: so the one that does is the only candidate for a clean relation prefix.
-use Prim.Native.Nat.{ℕ, _+_, _≤_, _<_}
-use mathlib.Core.Bool.{Bool, true, false, _&&_, not}
+-- At most one relation word's X and Y begin a word, clean or not: so the one that does is the only candidate for a clean relation prefix, and clean and active are one search.
+use Prim.Native.Nat.{ℕ, _+_, _-_, _≤_, _<_}
+use mathlib.Core.Bool.{Bool, true, false, _&&_, not, and-eq-true-iff}
 use mathlib.Core.Logic.{by-cases}
 use mathlib.Core.List.{List}
 use mathlib.Core.Path.{_≡_, refl, sym, subst}
 use native.Mathlib.Omega.{arith}
 use native.Mathlib.Decide.{ℕ-discrete}
-use lib.ListN.{length}
+use lib.Dec.{leb}
+use borrow.Author.Tests.{leb-true, le-leb}
+use lib.ListN.{length, drop}
+use lib.Seq.{drop-drop}
 use Rattle.words.specs.Search.{least}
 use Rattle.words.specs.Words.{Word, isPrefix}
-use Rattle.words.proofs.Searching.{least-is, least-none, least-first, least-passes, least-bound}
+use Rattle.words.proofs.Searching.{any-of, any-found, any-none, none-of, least-is, least-none, least-first, least-passes, least-bound}
 use Rattle.words.proofs.Picks.{and-left}
 use Rattle.overlap.specs.Cuts.{xlen, xylen, xyOf}
 use Rattle.overlap.proofs.Rigid.{Rigid}
-use Rattle.congruence.specs.Rows.{hasRelationPrefixBetween, clean, cleanRelationPrefix}
+use Rattle.congruence.specs.Rows.{hasRelationPrefixAt, hasRelationPrefixBetween, clean, cleanRelationPrefix}
 use Rattle.congruence.proofs.RowTests.{one-prefix, prefix-of-clean, cleanRelationPrefix-passes}
 
 module _ (B : List Word) (r : Rigid B (xlen B) (xylen B)) (w : Word) where
@@ -57,3 +60,28 @@ module _ (B : List Word) (r : Rigid B (xlen B) (xylen B)) (w : Word) where
 -- a clean relation prefix is a prefix
 pub clean-prefix : (B : List Word) (w : Word) (i : ℕ) → i ≡ cleanRelationPrefix B w → i < length B → isPrefix (xyOf B i) w ≡ true
 clean-prefix B w i e h = prefix-of-clean B w i (rw e (cleanRelationPrefix-passes B w (rw e at h)))
+
+-- what stands behind the first m letters, counted from there or from the start
+stands-drop : (B : List Word) (w : Word) (m q : ℕ) → hasRelationPrefixAt B (drop m w) q ≡ hasRelationPrefixAt B w (m + q)
+unfolding hasRelationPrefixAt
+stands-drop B w m q = rw drop-drop
+
+-- the test of `hasRelationPrefixBetween`
+abbrev from : List Word → Word → ℕ → ℕ → Bool
+from B w lo q = leb lo q && hasRelationPrefixAt B w q
+
+pub between-drop : (B : List Word) (w : Word) (m k : ℕ) → hasRelationPrefixBetween B (drop m w) 0 k ≡ hasRelationPrefixBetween B w m (m + k)
+unfolding hasRelationPrefixBetween
+between-drop B w m k = go (hasRelationPrefixBetween B w m (m + k)) refl
+  where
+    go : (t : Bool) → hasRelationPrefixBetween B w m (m + k) ≡ t → hasRelationPrefixBetween B (drop m w) 0 k ≡ t
+    go true e =
+        let f = any-found (m + k) (from B w m) e in
+        let b = simp and-eq-true-iff at (f .2) in
+        let l = leb-true m (f .0) (b .0) in
+        let q : m + (f .0 - m) ≡ f .0 = omega arith in
+        any-of k (from B (drop m w) 0) (f .0 - m) (omega arith) (rw (le-leb 0 (f .0 - m) (omega arith), stands-drop B w m (f .0 - m), q) (b .1))
+    go false e =
+        any-none k (from B (drop m w) 0) (λ q h.
+        let n = none-of (m + k) (from B w m) e (m + q) (omega arith) in
+        rw (le-leb 0 q (omega arith), stands-drop B w m q) (rw (le-leb m (m + q) (omega arith)) at n))

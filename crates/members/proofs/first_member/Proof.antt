@@ -2,7 +2,7 @@ use Prim.Native.Nat.{_-_}
 use Rattle.words.specs.Words.{part}
 use Rattle.layout.specs.Layout.{wordsIn}
 use Rattle.members.proofs.Best.{BestSoFar}
-use Rattle.members.proofs.Laws.{best-start, firstMembers}
+use Rattle.members.proofs.Laws.{best-next, best-start, firstMembers}
 use Rattle.members.proofs.first_member.Statement.{statement}
 use Rattle.members.proofs.first_member.Tie as tie
 
@@ -25,7 +25,7 @@ first-member-spec =
     (λ c. search firstMembers)
     (λ c κs. search firstMembers)
     (λ c κs. search firstMembers)
-    (λ c. search (best-start, firstMembers))
+    (λ c. search best-start)
     (λ c. search firstMembers)
     (λ c. search firstMembers)
     (λ c. search firstMembers)
@@ -33,5 +33,5 @@ first-member-spec =
     (λ c κs. search firstMembers)
     (λ c κs. search firstMembers)
     (λ c. search firstMembers)
-    (λ c. search firstMembers)
+    (λ c. search best-next)
     (λ c. search firstMembers))

@@ -7,5 +7,10 @@ member-of-spec =
     tie.close
     (tie.spec
     (λ c κs. search members)
+    (λ c. search members)
+    (λ c κs. search members)
+    (λ c κs. search members)
+    (λ c. search members)
+    (λ c κs. search members)
     (λ c κs. search members)
     (λ c. search members))

@@ -1,13 +1,11 @@
 use Rattle.kin.proofs.Tails.{tails}
-use Rattle.kin.proofs.tail_member.Statement.{statement}
-use Rattle.kin.proofs.tail_member.Tie as tie
+use Rattle.kin.proofs.other_tail.Statement.{statement}
+use Rattle.kin.proofs.other_tail.Tie as tie
 
-pub tail-member-spec : {M : Type 1} → statement M
-tail-member-spec =
+pub other-tail-spec : {M : Type 1} → statement M
+other-tail-spec =
     tie.close
     (tie.spec
-    (λ c κs. search tails)
-    (λ c. search tails)
     (λ c κs. search tails)
     (λ c. search tails)
     (λ c κs. search tails)
