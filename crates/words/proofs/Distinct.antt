@@ -84,7 +84,6 @@ including-new D w h = rw (le-ltb (placeOf w D) (length D) h)
 -- what holds of a list that includes a word: its words are those of the list before, and the word at the place it had, which may have been the end
 pub record Included (D : List Word) (w : Word) (D′ : List Word) : Type 0 where
   pub longer : length D ≤ length D′
-  pub shorter : length D′ ≤ length D + 1
   pub keeps : (i : ℕ) → i < length D → getD D′ i [] ≡ getD D i []
   pub there : placeOf w D < length D′
   pub has : getD D′ (placeOf w D) [] ≡ w
@@ -94,7 +93,6 @@ pub included : (D : List Word) (w : Word) → Included D w (including D w)
 included D w = by-cases (decLt (placeOf w D) (length D))
     (λ h. subst (Included D w) (sym (including-there D w h)) (record {
       longer = omega arith;
-      shorter = omega arith;
       keeps = λ i l. refl;
       there = h;
       has = place-word w D h;
@@ -105,7 +103,6 @@ included D w = by-cases (decLt (placeOf w D) (length D))
     new : placeOf w D ≡ length D → length (D ++ (w ∷ [])) ≡ length D + 1 → Included D w (D ++ (w ∷ []))
     new e l = record {
       longer = omega arith;
-      shorter = omega arith;
       keeps = λ i h. List·getD-append D (w ∷ []) [] i h;
       there = omega arith;
       has = getD-at D w [] [] (placeOf w D) (sym e);
@@ -251,15 +248,6 @@ distinct-right = by-last DistinctRight distinct-start distinct-more
 -- the number of one more side is the place of its word in the words so far: the end where it is new
 pub side-words-last : (ws : List Word) (w : Word) → sideWords (ws ++ (w ∷ [])) ≡ sideWords ws ++ (placeOf w (distinctWords ws) ∷ [])
 side-words-last ws w = side-words-more ws w (distinct-right ws)
-
--- there are no more distinct words than sides
-pub distinct-fewer : (sides : List Word) → length (distinctWords sides) ≤ length sides
-unfolding distinctWords includingAll
-distinct-fewer = by-last (λ sides. length (distinctWords sides) ≤ length sides) (omega arith) (λ ws w h.
-    let c = included (distinctWords ws) w .shorter in
-    let l = length-append ws (w ∷ []) in
-    let e = ap length (distinct-last ws w) in
-    omega arith)
 
 -- sides of which no two are equal are the distinct words themselves
 pub distinct-of-once : (sides : List Word) → Once sides → distinctWords sides ≡ sides
