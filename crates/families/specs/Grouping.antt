@@ -1,4 +1,4 @@
--- The families in the table and the links of their members (document 01, "Rules that share a stretch").
+-- The families in the table and the links of their members (document 01, "Distinct words and families").
 use Prim.Native.Nat.{ℕ, _*_, _<_, _≤_}
 use mathlib.Core.List.{List}
 use mathlib.Core.Path.{_≡_}

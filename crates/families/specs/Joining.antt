@@ -1,4 +1,4 @@
--- The numbers of families in the table: each word is a family at first, and each relation makes one of two (document 01, "Rules that share a stretch").
+-- The numbers of families in the table: each word is a family at first, and each relation makes one of two (document 01, "Distinct words and families").
 use Prim.Native.Nat.{ℕ, _+_, _*_, _<_, _≤_}
 use mathlib.Core.Bool.{cond}
 use mathlib.Core.List.{List}

@@ -1,4 +1,4 @@
-// Families (document 01, "Rules that share a stretch"): which relation words the relations join, and links from each member to the next.
+// Families (document 01, "Distinct words and families"): which relation words the relations join, and links from each member to the next.
 ghost use mathlib.Core.Path.{_≡_};
 ghost use Rattle.layout.specs.Families.{sideWordOf, familyAt};
 ghost use Rattle.families.specs.Joining.{renamedAt, Alone, Countable, Nameable, Renamable, Renamed, SideKnown, Joinable, Joined, Groupable, Separate, AllJoined};

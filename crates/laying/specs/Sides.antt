@@ -1,4 +1,4 @@
--- One side more: the number of its word stands in its cell, and the word is laid unless it is there (document 01, "Rules that share a stretch").
+-- One side more: the number of its word stands in its cell, and the word is laid unless it is there (document 01, "Distinct words and families").
 use Prim.Native.Nat.{ℕ, _+_, _≤_, _<_}
 use mathlib.Core.Bool.{Bool}
 use mathlib.Core.List.{List, [], _∷_, _++_}

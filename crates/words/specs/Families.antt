@@ -1,4 +1,4 @@
--- Distinct words and families (document 01, "Rules that share a stretch"): relation words that are equal count once, and those that relations join form a family.
+-- Distinct words and families (document 01, "Distinct words and families"): relation words that are equal count once, and those that relations join form a family.
 -- `sides` lists the relation words of all relations in order, equal ones included; a distinct word is known by its place among the distinct words.
 use Prim.Native.Nat.{ℕ, zero, suc, _+_, _*_, _<_, min, max}
 use mathlib.Core.Bool.{cond}
