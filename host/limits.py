@@ -43,6 +43,10 @@ LIMITS = {
     "Word::MARK ": "NEXT_MARK",
     "Output::MOST": "OUTPUT",
     "Word::LEAST": "LEAST",
+    "Held::BOOK": "BOOK_MOST",
+    "Held::ROOM": "HELD",
+    "Held::COUNTED": "CHANGES_MOST",
+    "Held::BUFFER": "HELD_BUFFER",
 }
 
 # the header's name where it is another
@@ -52,7 +56,7 @@ HEADER_NAMES = {"SHEET": "SHEET_MOST", "LEAST": "LEAST_MOST"}
 TOOL_NAMES = {"SHEET_SIDE", "NO_PRODUCT"}
 
 # the specification's word for a case of `Refusal` whose name is another; the macro and the reason are named by the word
-WORDS = {"UnknownLetter": "unknown step", "TooMany": "thick"}
+WORDS = {"UnknownLetter": "unknown step", "TooMany": "thick", "NoSuchRelation": "no such rule"}
 
 C_TYPES = {"u32": "uint32_t", "u64": "uint64_t"}
 
@@ -142,16 +146,19 @@ def versions(header):
 
 
 def structs():
-    """The fields of the structs, in order and with their types."""
+    """The fields of the structs, in order and with their types; the wrapper and the header have no other structs."""
     fields = lambda body, form: re.findall(form, re.sub(r"/\*.*?\*/|//.*", "", body, flags=re.M), re.M)
     proved = re.findall(r"^#\[repr\(C\)\]\npub struct (\w+) \{\n(.*?)^\}", INTERFACE, re.M | re.S)
     raw = dict(re.findall(r"^#\[repr\(C\)\]\npub struct (\w+) \{\n(.*?)^\}", RAW, re.M | re.S))
     header = {name: body for body, name in re.findall(r"^typedef struct \{\n((?:    .*\n)*)\} (\w+);", HEADER, re.M)}
+    c_names = {name: "vanecitron_" + re.sub(r"(?<!^)([A-Z])", r"_\1", name).lower() for name, _ in proved}
     if not proved:
         yield "the proved sources have no structs for C"
+    yield from differ("the list of structs", sorted(c_names), {"the wrapper": sorted(raw)})
+    yield from differ("the list of structs", sorted(c_names.values()), {"the header": sorted(header)})
     for name, body in proved:
         expected = fields(body, r"^    pub (\w+): (\w+),")
-        c_name = "vanecitron_" + re.sub(r"(?<!^)([A-Z])", r"_\1", name).lower()
+        c_name = c_names[name]
         in_c = [(C_TYPES[kind], field) for field, kind in expected]
         yield from differ(name, expected, {"the wrapper": fields(raw.get(name, ""), r"^    pub (\w+): (\w+),")})
         yield from differ(name, in_c, {f"{c_name} of the header": fields(header.get(c_name, ""), r"^    (\w+) (\w+);")})

@@ -423,6 +423,9 @@ class Explainer:
     def refusal_14(self, place, of):
         return "no space: a buffer lent to the library has no room for the least run; neither program prints this of a text"
 
+    def refusal_15(self, place, of):
+        return "no such rule: a book that the library holds has no rule of the index that is to be withdrawn; neither program prints this of a text"
+
 
 # --- lines that a program answers ---
 

@@ -230,6 +230,7 @@ class Explaining(unittest.TestCase):
     def test_the_rest(self):
         self.check(self.TEXT, "refused 12 0\n", "never prints")
         self.check(self.TEXT, "refused 14 0\n", "no space", "neither program prints")
+        self.check(self.TEXT, "refused 15 0\n", "no such rule", "neither program prints")
         self.check("letters 4\n" + "compare - - 1\n" * 5000, "refused 13 60000\n", "60,005 bytes")
         self.check(self.TEXT, "refused 99 0\n", "no refusal")
         self.check(self.TEXT, "hello\n", "no line of the program's output")

@@ -1,5 +1,6 @@
 /*
  * vanecitron: does a chain of exchanges join two runs of steps under a book of exchange rules, and which is the least run that one reaches?
+ * A book can be held in a buffer of the caller's and changed there, rule by rule.
  *
  * The functions of the archive are proved against their contracts (crates/vanecitron and crates/entries of this tree; docs/AUDIT.md says what that
  * means). This header is written by hand: host/limits.py compares its numbers, words and structs with those of the proved sources. The functions that
@@ -17,7 +18,8 @@
  *   Calls are reentrant: any number of threads may call any functions at the same time, as long as no buffer that one call writes is used by another.
  *   Every call checks its book again, since nothing is kept between calls: under a microsecond for a book of one rule with sides of 4 steps, 3
  *   microseconds for one with sides of 64, and 0.8 milliseconds for a full book, 32 such rules (docs/DECISIONS.md, "Cost grows"). vanecitron_program
- *   checks its book once for all comparisons of its input: give it many pairs of runs at a time where that matters.
+ *   checks its book once for all comparisons of its input: give it many pairs of runs at a time where that matters. A change of a held book costs one
+ *   check, that of the new book, which gives its sheet too; the old book is read, and not checked again.
  *   No measured call needs more than VANECITRON_STACK bytes of stack; a call gives them back when it returns. This is measured, not proved:
  *   host/stack calls each function on a painted stack, with the memcpy and memset of the C library there, and host/test fails where a call needs more.
  *   The calls take every row of a round and meet every kind of refusal, with books, runs, marks and inputs at their limits.
@@ -30,13 +32,20 @@
  *   be the same.
  *   A refusal, and a round that ends, leave every lent byte as it was. Otherwise what is written stands at the start of the lent buffer, and the bytes
  *   behind it are as they were. The least run alone stands at an offset of the caller's choosing; the bytes before it are as they were too.
+ *   A held book lies in a lent buffer of at least VANECITRON_HELD bytes, which the caller keeps between calls; the library has no other copy. Its
+ *   content is the caller's to keep, and may be copied and stored. A change reads it as any bytes and trusts none of them: a buffer that was altered is
+ *   only ever refused, or taken as the book that it says. The bytes behind the book are as they were, so that after a withdrawal the last bytes of the
+ *   longer book still stand there.
  *
  * Results
- *   Each result has a refusal and a place. The refusal is 0 where the call was not refused; else it is one of the numbers below, and everything but
- *   refusal and place is 0. Where the call was not refused the place is 0. An outcome of 0 says nothing: a refused result, and one filled with zeros,
- *   reads as no answer, so that a caller who looks at the outcome alone is never told 'same' or 'different' by a refusal.
+ *   Each result has a refusal and a place, but that of vanecitron_held_book, which is never refused. The refusal is 0 where the call was not refused;
+ *   else it is one of the numbers below, and everything but refusal and place is 0. Where the call was not refused the place is 0. An outcome of 0 says
+ *   nothing: a refused result, and one filled with zeros, reads as no answer, so that a caller who looks at the outcome alone is never told 'same' or
+ *   'different' by a refusal.
  *   If several refusals could apply, the one that is given is fixed: records of the book in turn, each in the order 1, 2, 6, 3, 4, 5; then 8;
  *   then 9 and 10 for u, for v, for p; then 12, or 14 of the least run; 11 last.
+ *   Of a change it is: 12 of the held buffer; the records of the book that is held, in turn, as above, and not its 8; then of an addition 1, 2, 6, 3, 4,
+ *   5 of its record, of a withdrawal 15; then 8 of the new book; then 12 of the sheet. A withdrawal from a book that loads is never refused by 8.
  */
 #ifndef VANECITRON_H
 #define VANECITRON_H
@@ -50,15 +59,16 @@ extern "C" {
 
 /* The version of this header; vanecitron_version gives that of the archive. */
 #define VANECITRON_VERSION_MAJOR 0u
-#define VANECITRON_VERSION_MINOR 5u
+#define VANECITRON_VERSION_MINOR 6u
 #define VANECITRON_VERSION_PATCH 0u
 #define VANECITRON_VERSION (10000u * VANECITRON_VERSION_MAJOR + 100u * VANECITRON_VERSION_MINOR + VANECITRON_VERSION_PATCH)
-#define VANECITRON_VERSION_TEXT "0.5.0"
+#define VANECITRON_VERSION_TEXT "0.6.0"
 
 /* Limits: more than these is refused. */
 #define VANECITRON_LETTERS 64u           /* the most letters of a book; at least 1 */
 #define VANECITRON_RULES 32u             /* the most rules of a book; there may be none */
 #define VANECITRON_SIDE 64u              /* the most steps of a side; at least 1 */
+#define VANECITRON_BOOK_MOST 4293u       /* the most bytes of a book: those of one with so many rules of such sides */
 #define VANECITRON_RUN 4096u             /* the most steps of a run that is compared, or whose least run is asked for */
 #define VANECITRON_ROUND_RUN 4160u       /* the most steps of the u and the v of a single round */
 #define VANECITRON_ROUND_MARK 64u        /* the most steps of the p of a single round */
@@ -79,9 +89,13 @@ extern "C" {
 #define VANECITRON_NEXT_RUN 4224u        /* the next u and the next v of a single round */
 #define VANECITRON_NEXT_MARK 64u         /* the next p of a single round */
 #define VANECITRON_OUTPUT 110022u        /* the program's output: no input has a longer one */
+#define VANECITRON_HELD 4297u            /* a held book, whatever its rules */
 
 /* The most steps of a least run: 64 for each step of the given run. A buffer with so many bytes behind the offset is enough for every one. */
 #define VANECITRON_LEAST_MOST 262144u
+
+/* The most that a held book's count of changes says: it then stays as it is, and there may have been more. */
+#define VANECITRON_CHANGES_MOST 65535u
 
 /* Enough stack for a call, in bytes: no measured call needs more (see "Calls" above). */
 #define VANECITRON_STACK 32768u
@@ -89,14 +103,15 @@ extern "C" {
 /*
  * Refusals (the specification, "Refusals by number"); vanecitron_refusal_text says them in words.
  *
- * The place of 1 to 6 is the first byte of the record at fault, counted from the start of the book. Sides are numbered 0 and 1 for the first rule,
- * 2 and 3 for the second, and so on. Given runs are numbered u 0, v 1, p 2; positions in a run count from 0. VANECITRON_PLACE_RUN and
+ * The place of 1 to 6 is the first byte of the record at fault, counted from the start of the book. A record that is to be added would begin where the
+ * held book ends, so that its place is the number of the held book's bytes. Sides are numbered 0 and 1 for the first rule, 2 and 3 for the second, and so
+ * on; of a change they are those of the new book. Given runs are numbered u 0, v 1, p 2; positions in a run count from 0. VANECITRON_PLACE_RUN and
  * VANECITRON_PLACE_POSITION take the place of 9 and 10 apart.
  */
 #define VANECITRON_ACCEPTED 0u      /* not refused */
-#define VANECITRON_SHORT 1u         /* the bytes end inside a record, or the book is empty */
+#define VANECITRON_SHORT 1u         /* the bytes end inside a record, or the book is empty, or there is no record to add */
 #define VANECITRON_KIND 2u          /* the first record is no head, or a later one is no rule */
-#define VANECITRON_LENGTH 3u        /* a record's length does not fit it */
+#define VANECITRON_LENGTH 3u        /* a record's length does not fit it, or bytes stand behind the record that is to be added */
 #define VANECITRON_RANGE 4u         /* the number of letters, or of the steps of a side, is outside its range */
 #define VANECITRON_UNKNOWN_STEP 5u  /* a side has a step that is not below the number of letters */
 #define VANECITRON_THICK 6u         /* a 33rd rule */
@@ -108,10 +123,12 @@ extern "C" {
                                        position of the first such step */
 #define VANECITRON_SPENT 11u        /* another round was due and the allowance was used up; place: the rounds done, which are the allowance */
 #define VANECITRON_NARROW 12u       /* a lent buffer is too small; place: its number: the sheet 0; next u 0, next v 1, next p 2, lowest first;
-                                       the program's output 0 */
+                                       the program's output 0; a held book VANECITRON_HELD_BUFFER, and the sheet beside it 0 */
 #define VANECITRON_HEAVY 13u        /* the program's input is over its limit; place: 60000. Only printed by the program, as a line of its output */
 #define VANECITRON_NO_SPACE 14u     /* the offset lies past the buffer's end, or the least run is longer than what follows it; place: 0 */
+#define VANECITRON_NO_SUCH_RULE 15u /* the held book has no rule of the index that is to be withdrawn; place: 0 */
 
+#define VANECITRON_HELD_BUFFER 1u      /* the number of a held book's buffer in 12 */
 #define VANECITRON_PLACE_SPACING 5000u /* how far apart the places of the given runs lie in 9 and 10 */
 #define VANECITRON_PLACE_RUN(place) ((place) / VANECITRON_PLACE_SPACING)
 #define VANECITRON_PLACE_POSITION(place) ((place) % VANECITRON_PLACE_SPACING)
@@ -122,11 +139,11 @@ extern "C" {
 #define VANECITRON_DIFFERENT 2u
 #define VANECITRON_NEXT 3u          /* of a round alone: it went on, and the next u, v and p are written */
 
-/* Of the check and of the cut sheet. */
+/* Of the check and of the cut sheet, and of loading and changing a held book. */
 typedef struct {
     uint32_t refusal;
     uint64_t place;
-    uint64_t rules; /* the number of the book's rules; 0 of a refused one too, so look at its refusal first */
+    uint64_t rules; /* the number of the book's rules, of a change the new book's; 0 of a refused one too, so look at its refusal first */
 } vanecitron_check_result;
 
 /* Of a single round. */
@@ -160,6 +177,13 @@ typedef struct {
     uint64_t place;
     uint64_t length; /* the bytes of the output */
 } vanecitron_program_result;
+
+/* Of a buffer with a held book: what it says, whatever its bytes are. */
+typedef struct {
+    uint64_t start;   /* where in the buffer the book begins: 4, or the buffer's length where that is less */
+    uint64_t length;  /* the bytes of the book, as far as the buffer has them */
+    uint64_t changes; /* the count of changes since loading; 0 where the buffer has fewer than 4 bytes */
+} vanecitron_held_result;
 
 /* The structs lie in memory as the archive has them; the Rust wrapper asserts the same numbers. */
 #if defined(__cplusplus)
@@ -195,6 +219,10 @@ VANECITRON_ASSERT(program_result, sizeof(vanecitron_program_result) == 24);
 VANECITRON_AT(vanecitron_program_result, refusal, 0);
 VANECITRON_AT(vanecitron_program_result, place, 8);
 VANECITRON_AT(vanecitron_program_result, length, 16);
+VANECITRON_ASSERT(held_result, sizeof(vanecitron_held_result) == 24);
+VANECITRON_AT(vanecitron_held_result, start, 0);
+VANECITRON_AT(vanecitron_held_result, length, 8);
+VANECITRON_AT(vanecitron_held_result, changes, 16);
 #undef VANECITRON_AT
 #undef VANECITRON_ASSERT
 
@@ -276,6 +304,47 @@ vanecitron_least_result vanecitron_least(
 vanecitron_program_result vanecitron_program(const uint8_t *input, size_t input_length, uint8_t *output, size_t output_length);
 
 /*
+ * Loads a book into a held one (the specification, "Rules that come and go"): it is checked, as by vanecitron_check, and put into `held`, which is lent and
+ * has at least VANECITRON_HELD bytes. There stand the length of the book and the count of changes, none so far, in two bytes each, the lowest first; and
+ * then the book's bytes. Bytes behind them are as they were.
+ * Refusals 1 to 6, 8; then 12 of the held buffer.
+ */
+vanecitron_check_result vanecitron_load(const uint8_t *book, size_t book_length, uint8_t *held, size_t held_length);
+
+/*
+ * Adds a rule to a held book, behind the rules that it has. `record` holds the record of the rule ("Book bytes") and nothing else;
+ * vanecitron_book_rule_record of vanecitron_book.h writes it. The new book is checked as a whole. Where it is accepted it takes the place of the old one,
+ * the count of changes is one more, and its cut sheet is written, as by vanecitron_cut_sheet: every side of the book, not those of the new rule alone,
+ * since a rule can change the cuts and the numbers of pieces of all others.
+ *
+ * `held` and `sheet` are lent. The sheet has at least VANECITRON_SHEET(rules) bytes by the new number of rules; VANECITRON_SHEET_MOST is always enough.
+ * Refusals 1 to 6, 8, 12, in the order that "Results" gives. A refusal leaves the held book and the sheet as they were.
+ */
+vanecitron_check_result vanecitron_add(
+    uint8_t *held, size_t held_length,
+    const uint8_t *record, size_t record_length,
+    uint8_t *sheet, size_t sheet_length);
+
+/*
+ * Withdraws a rule from a held book: that with so many rules before it, the first being 0. Those behind it move down one. The new book is checked, takes
+ * the place of the old one and has its sheet written as by vanecitron_add; a book without rules has an empty sheet.
+ * Refusals 1 to 6, 8, 12, 15, in the order that "Results" gives. From a book that loads only 12 and 15 are met: fewer sides have no more pieces.
+ */
+vanecitron_check_result vanecitron_withdraw(
+    uint8_t *held, size_t held_length,
+    size_t rule,
+    uint8_t *sheet, size_t sheet_length);
+
+/*
+ * Tells where in a held buffer its book stands, and the count of its changes. The book can be given to every function that takes one:
+ *     vanecitron_held_result r = vanecitron_held_book(held, sizeof held);
+ *     vanecitron_compare(held + r.start, r.length, u, u_length, v, v_length, allowance);
+ * It looks at no byte of the book, and takes any buffer: what it tells of lies inside the buffer. It cannot be refused; the function that is given the
+ * book then checks it, as any other.
+ */
+vanecitron_held_result vanecitron_held_book(const uint8_t *held, size_t held_length);
+
+/*
  * An allowance that no comparison of a first run with so many steps (VANECITRON_RUN at most) spends, by the cut sheet of the book.
  * Plain C, outside the proof.
  */
@@ -309,6 +378,7 @@ static inline const char *vanecitron_refusal_text(uint32_t refusal)
     case VANECITRON_NARROW: return "narrow: a lent buffer is too small";
     case VANECITRON_HEAVY: return "heavy: the program's input is over its limit";
     case VANECITRON_NO_SPACE: return "no space: the offset lies past the buffer's end, or the least run is longer than what follows it";
+    case VANECITRON_NO_SUCH_RULE: return "no such rule: the held book has no rule of the index that is to be withdrawn";
     default: return "a refusal that this header does not know";
     }
 }

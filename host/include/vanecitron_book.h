@@ -21,11 +21,11 @@
 extern "C" {
 #endif
 
-/* The bytes of records, and of the longest book that can be accepted. */
+/* The bytes of records; VANECITRON_BOOK_MOST of vanecitron.h is those of the longest book that can be accepted. */
 #define VANECITRON_BOOK_HEAD 5u
 #define VANECITRON_BOOK_RULE(left, right) (6u + (left) + (right))    /* a rule whose sides have so many steps */
 #define VANECITRON_BOOK_COMPARISON(u, v) (12u + (u) + (v))           /* a comparison of runs of so many steps */
-#define VANECITRON_BOOK_MOST (VANECITRON_BOOK_HEAD + VANECITRON_RULES * VANECITRON_BOOK_RULE(VANECITRON_SIDE, VANECITRON_SIDE))
+#define VANECITRON_BOOK_RULE_MOST VANECITRON_BOOK_RULE(VANECITRON_SIDE, VANECITRON_SIDE) /* a rule that can be accepted */
 
 /* A book that is being written. `length` is how many bytes there are; `spoiled` is 1 where something did not fit. */
 typedef struct {
@@ -91,6 +91,18 @@ static inline int vanecitron_book_rule(vanecitron_book *book, const uint8_t *lef
     vanecitron_book_steps(book, left, left_length);
     vanecitron_book_steps(book, right, right_length);
     return 1;
+}
+
+/*
+ * Writes the record of a rule alone, for vanecitron_add: VANECITRON_BOOK_RULE_MOST bytes are room for every rule that can be accepted. It gives the
+ * number of its bytes, and 0 where it does not fit; vanecitron_add refuses a record of no bytes as VANECITRON_SHORT, so that a caller need not look.
+ */
+static inline size_t vanecitron_book_rule_record(uint8_t *bytes, size_t room, const uint8_t *left, size_t left_length, const uint8_t *right,
+                                                 size_t right_length)
+{
+    vanecitron_book alone = {bytes, room, 0, 0};
+    vanecitron_book_rule(&alone, left, left_length, right, right_length);
+    return alone.length;
 }
 
 /* Adds a comparison, for the input of vanecitron_program; it stands behind all rules. 1 where it is written, else 0. */

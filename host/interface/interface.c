@@ -1,6 +1,6 @@
 /*
- * Tests of what the C headers add to the archive: outcomes that no refusal has, the sides of the cut sheet, least runs and where they stand, the version,
- * the texts of refusals, and the writer of books with its bounds.
+ * Tests of what the C headers add to the archive: outcomes that no refusal has, the sides of the cut sheet, least runs and where they stand, held books
+ * and where theirs stand, the version, the texts of refusals, and the writer of books with its bounds.
  * Built and run by host/test. Each claim that fails is printed, and the program then ends with 1.
  */
 #include <stdio.h>
@@ -165,6 +165,212 @@ static void least_runs(void)
     CLAIM(VANECITRON_LEAST_MOST == VANECITRON_RUN * VANECITRON_SIDE);
 }
 
+/* a held book in a buffer with guards behind it, and the sheet beside it; and what both were before a call */
+static uint8_t held[VANECITRON_HELD + 4], held_before[VANECITRON_HELD + 4], sheet_of_held[VANECITRON_SHEET_MOST], sheet_before[VANECITRON_SHEET_MOST];
+
+/* before a call: the sheet is filled, and both are kept for comparison */
+static void keep(void)
+{
+    memset(sheet_of_held, 0xa5, sizeof sheet_of_held);
+    memcpy(held_before, held, sizeof held);
+    memcpy(sheet_before, sheet_of_held, sizeof sheet_of_held);
+}
+
+/* what is held: so many bytes and changes, and this book */
+static void holds(const uint8_t *book, size_t length, uint64_t changes)
+{
+    vanecitron_held_result h = vanecitron_held_book(held, VANECITRON_HELD);
+    CLAIM(h.start == 4 && h.length == length && h.changes == changes);
+    CLAIM(memcmp(held + h.start, book, length) == 0);
+    CLAIM(vanecitron_check(held + h.start, h.length).refusal == VANECITRON_ACCEPTED);
+}
+
+/* a change that is refused says its number and place, and changes no lent byte */
+static void refused_change(vanecitron_check_result r, uint32_t refusal, uint64_t place)
+{
+    CLAIM(r.refusal == refusal && r.place == place && r.rules == 0);
+    CLAIM(memcmp(held, held_before, sizeof held) == 0 && memcmp(sheet_of_held, sheet_before, sizeof sheet_of_held) == 0);
+}
+
+/* a change that is not: so many rules, whose sides all have the cut 1 2 1 and 4 pieces; what lies behind the book and behind the sheet is as it was */
+static void accepted_change(vanecitron_check_result r, uint64_t rules, const uint8_t *book, size_t length, uint64_t changes)
+{
+    CLAIM(r.refusal == VANECITRON_ACCEPTED && r.place == 0 && r.rules == rules);
+    holds(book, length, changes);
+    for (const uint8_t *side = sheet_of_held; side < sheet_of_held + VANECITRON_SHEET(rules); side += VANECITRON_SHEET_SIDE) {
+        CLAIM(side[VANECITRON_SHEET_X] == 1 && side[VANECITRON_SHEET_Y] == 2 && side[VANECITRON_SHEET_Z] == 1 && side[VANECITRON_SHEET_PIECES] == 4);
+    }
+    CLAIM(memcmp(held + 4 + length, held_before + 4 + length, sizeof held - 4 - length) == 0);
+    CLAIM(memcmp(sheet_of_held + VANECITRON_SHEET(rules), sheet_before + VANECITRON_SHEET(rules), sizeof sheet_before - VANECITRON_SHEET(rules)) == 0);
+}
+
+static void add_refused(const uint8_t *record, size_t length, size_t sheet_room, uint32_t refusal, uint64_t place)
+{
+    keep();
+    refused_change(vanecitron_add(held, VANECITRON_HELD, record, length, sheet_of_held, sheet_room), refusal, place);
+}
+
+static void withdraw_refused(size_t rule, size_t sheet_room, uint32_t refusal, uint64_t place)
+{
+    keep();
+    refused_change(vanecitron_withdraw(held, VANECITRON_HELD, rule, sheet_of_held, sheet_room), refusal, place);
+}
+
+static void load_example(void)
+{
+    memset(held, 0xa5, sizeof held);
+    keep();
+    vanecitron_check_result r = vanecitron_load(example, Q, held, VANECITRON_HELD);
+    CLAIM(r.refusal == VANECITRON_ACCEPTED && r.place == 0 && r.rules == 1);
+    holds(example, Q, 0);
+    CLAIM(memcmp(held + 4 + Q, held_before + 4 + Q, sizeof held - 4 - Q) == 0);
+}
+
+/* loading: what is wrong with the book, then the room */
+static void loadings(void)
+{
+    static const uint8_t loose[] = {1, 0, 1, 0, 4, 5, 0, 2, 0, 1, 2, 0, 0, 0};
+    static const size_t rooms[] = {0, 1, 4, VANECITRON_BOOK_MOST, VANECITRON_HELD - 1};
+    CLAIM(VANECITRON_BOOK_MOST == VANECITRON_BOOK_HEAD + VANECITRON_RULES * VANECITRON_BOOK_RULE_MOST && VANECITRON_HELD == VANECITRON_BOOK_MOST + 4);
+    memset(held, 0xa5, sizeof held);
+    keep();
+    for (size_t i = 0; i < sizeof rooms / sizeof rooms[0]; i++) {
+        refused_change(vanecitron_load(example, Q, held, rooms[i]), VANECITRON_NARROW, VANECITRON_HELD_BUFFER);
+        refused_change(vanecitron_load(example, Q - 1, held, rooms[i]), VANECITRON_SHORT, VANECITRON_BOOK_HEAD);
+        refused_change(vanecitron_load(loose, sizeof loose, held, rooms[i]), VANECITRON_LOOSE, 0);
+    }
+    refused_change(vanecitron_load(example, Q, NULL, 0), VANECITRON_NARROW, VANECITRON_HELD_BUFFER);
+    refused_change(vanecitron_load(NULL, 0, held, sizeof held), VANECITRON_SHORT, 0);
+    load_example();
+    CLAIM(held[0] == Q && held[1] == 0 && held[2] == 0 && held[3] == 0);
+}
+
+/*
+ * abdc = cadb, then cadb = bcda and accb = bbaa: no two letters stand together twice in the sides, so that each is a product of its four letters. With
+ * the second abdc and bcda are of one family
+ */
+static void changes(void)
+{
+    static const uint8_t bcda[] = {1, 2, 3, 0}, accb[] = {0, 2, 2, 1}, bbaa[] = {1, 1, 0, 0};
+    uint8_t bytes[VANECITRON_BOOK_HEAD + 3 * VANECITRON_BOOK_RULE(4, 4)], second[VANECITRON_BOOK_RULE_MOST], third[VANECITRON_BOOK_RULE(4, 4)];
+    size_t rule = VANECITRON_BOOK_RULE(4, 4);
+    CLAIM(vanecitron_book_rule_record(second, sizeof second, right, 4, bcda, 4) == rule);
+    CLAIM(vanecitron_book_rule_record(third, sizeof third, accb, 4, bbaa, 4) == rule);
+    memcpy(bytes, example, Q);
+    memcpy(bytes + Q, second, rule);
+    memcpy(bytes + Q + rule, third, rule);
+    load_example();
+    CLAIM(vanecitron_compare(held + 4, Q, left, 4, bcda, 4, 100).outcome == VANECITRON_DIFFERENT);
+    keep();
+    accepted_change(vanecitron_add(held, VANECITRON_HELD, second, rule, sheet_of_held, VANECITRON_SHEET(2)), 2, bytes, Q + rule, 1);
+    vanecitron_compare_result c = vanecitron_compare(held + 4, Q + rule, left, 4, bcda, 4, 100);
+    CLAIM(c.outcome == VANECITRON_SAME && c.rounds == 2);
+    keep();
+    accepted_change(vanecitron_add(held, sizeof held, third, rule, sheet_of_held, sizeof sheet_of_held), 3, bytes, Q + 2 * rule, 2);
+
+    /* the first, and then the last; the longer book's last bytes stand behind the shorter one */
+    memmove(bytes + VANECITRON_BOOK_HEAD, bytes + Q, 2 * rule);
+    keep();
+    accepted_change(vanecitron_withdraw(held, VANECITRON_HELD, 0, sheet_of_held, VANECITRON_SHEET(2)), 2, bytes, Q + rule, 3);
+    CLAIM(memcmp(held + 4 + Q + rule, third, rule) == 0);
+    keep();
+    accepted_change(vanecitron_withdraw(held, VANECITRON_HELD, 1, sheet_of_held, VANECITRON_SHEET(1)), 1, bytes, Q, 4);
+    keep();
+    accepted_change(vanecitron_withdraw(held, VANECITRON_HELD, 0, NULL, 0), 0, bytes, VANECITRON_BOOK_HEAD, 5);
+    withdraw_refused(0, 0, VANECITRON_NO_SUCH_RULE, 0);
+
+    /* the count stays at its most */
+    held[2] = 254;
+    held[3] = 255;
+    keep();
+    accepted_change(vanecitron_add(held, VANECITRON_HELD, second, rule, sheet_of_held, VANECITRON_SHEET(1)), 1, bytes, Q, VANECITRON_CHANGES_MOST);
+    keep();
+    accepted_change(vanecitron_withdraw(held, VANECITRON_HELD, 0, NULL, 0), 0, bytes, VANECITRON_BOOK_HEAD, VANECITRON_CHANGES_MOST);
+}
+
+/* each refusal of a change of book Q, in their order: what comes later is wrong as well */
+static void refused_changes(void)
+{
+    static const uint8_t kind[] = {0, 0, 3, 0, 9}, cut_off[] = {1, 0, 3, 0}, behind[] = {3, 0, 2, 0, 0, 1, 9, 9}, length[] = {3, 0, 2, 0, 0, 9, 9};
+    static const uint8_t range[] = {3, 0, 2, 0, 0, 1, 9}, step[] = {5, 0, 2, 0, 2, 1, 0, 4, 0}, loose[] = {5, 0, 2, 0, 1, 2, 0, 0, 0};
+    static const uint8_t looser[] = {5, 0, 2, 0, 2, 1, 0, 1, 3}, good[] = {10, 0, 2, 0, 4, 4, 0, 2, 2, 1, 1, 1, 0, 0};
+    load_example();
+    add_refused(NULL, 0, 0, VANECITRON_SHORT, Q);
+    add_refused(cut_off, 3, 0, VANECITRON_SHORT, Q);
+    add_refused(cut_off, sizeof cut_off, 0, VANECITRON_SHORT, Q);
+    add_refused(kind, sizeof kind, 0, VANECITRON_KIND, Q);
+    add_refused(example, VANECITRON_BOOK_HEAD, 0, VANECITRON_KIND, Q);
+    add_refused(behind, sizeof behind, 0, VANECITRON_LENGTH, Q);
+    add_refused(length, sizeof length, 0, VANECITRON_LENGTH, Q);
+    add_refused(range, sizeof range, 0, VANECITRON_RANGE, Q);
+    add_refused(step, sizeof step, 0, VANECITRON_UNKNOWN_STEP, Q);
+    add_refused(loose, sizeof loose, 0, VANECITRON_LOOSE, 2);
+    add_refused(looser, sizeof looser, 0, VANECITRON_LOOSE, 0); /* with ab a piece, abdc is a product of three */
+    add_refused(good, sizeof good, VANECITRON_SHEET(2) - 1, VANECITRON_NARROW, 0);
+    withdraw_refused(1, 0, VANECITRON_NO_SUCH_RULE, 0);
+    withdraw_refused(SIZE_MAX, sizeof sheet_of_held, VANECITRON_NO_SUCH_RULE, 0);
+    CLAIM(vanecitron_add(held, VANECITRON_HELD, good, sizeof good, sheet_of_held, VANECITRON_SHEET(2)).rules == 2);
+    withdraw_refused(1, VANECITRON_SHEET(1) - 1, VANECITRON_NARROW, 0);
+
+    /* 32 rules, a = a over and over: a 33rd is told before its length, and not before its kind */
+    static const uint8_t rule[] = {4, 0, 2, 0, 1, 1, 0, 0}, thick[] = {0, 0, 2, 0, 9};
+    load_example();
+    vanecitron_withdraw(held, VANECITRON_HELD, 0, NULL, 0);
+    size_t place = VANECITRON_BOOK_HEAD;
+    for (; place < VANECITRON_BOOK_HEAD + VANECITRON_RULES * sizeof rule; place += sizeof rule) {
+        CLAIM(vanecitron_add(held, VANECITRON_HELD, rule, sizeof rule, sheet_of_held, sizeof sheet_of_held).refusal == VANECITRON_ACCEPTED);
+    }
+    add_refused(thick, sizeof thick, 0, VANECITRON_THICK, place);
+    add_refused(kind, sizeof kind, 0, VANECITRON_KIND, place);
+    add_refused(rule, sizeof rule - 1, 0, VANECITRON_SHORT, place);
+}
+
+/* a held buffer with a byte altered: refused as any such book, or taken as the book that it says; and any buffer whatever has a book inside it */
+static void altered(void)
+{
+    static const struct {
+        size_t at;
+        uint8_t byte;
+        uint32_t refusal;
+        uint64_t place;
+    } cases[] = {
+        {0, 0, VANECITRON_SHORT, 0}, {0, Q - 1, VANECITRON_SHORT, 5}, {0, Q + 1, VANECITRON_SHORT, Q}, {6, 2, VANECITRON_KIND, 0},
+        {11, 3, VANECITRON_KIND, 5}, {13, 3, VANECITRON_LENGTH, 5},   {8, 0, VANECITRON_RANGE, 0},     {8, 3, VANECITRON_UNKNOWN_STEP, 5},
+    };
+    static const uint8_t rule[] = {4, 0, 2, 0, 1, 1, 0, 1};
+    for (size_t i = 0; i < sizeof cases / sizeof cases[0]; i++) {
+        load_example();
+        held[cases[i].at] = cases[i].byte;
+        add_refused(rule, sizeof rule, sizeof sheet_of_held, cases[i].refusal, cases[i].place);
+        withdraw_refused(9, 0, cases[i].refusal, cases[i].place);
+    }
+    keep();
+    for (size_t room = 0; room < VANECITRON_HELD; room += room == 8 ? VANECITRON_HELD - 9 : 1) {
+        refused_change(vanecitron_add(held, room, NULL, 0, NULL, 0), VANECITRON_NARROW, VANECITRON_HELD_BUFFER);
+        refused_change(vanecitron_withdraw(held, room, 9, NULL, 0), VANECITRON_NARROW, VANECITRON_HELD_BUFFER);
+    }
+
+    /* abdc = abda is loose, since abd and a are pieces: what is held is not checked for that, and a book without it is accepted */
+    load_example();
+    memcpy(held + 4 + Q - 4, left, 3);
+    held[4 + Q - 1] = 0;
+    CLAIM(vanecitron_check(held + 4, Q).refusal == VANECITRON_LOOSE);
+    add_refused(rule, sizeof rule, 0, VANECITRON_LOOSE, 1);
+    keep();
+    accepted_change(vanecitron_withdraw(held, VANECITRON_HELD, 0, NULL, 0), 0, example, VANECITRON_BOOK_HEAD, 1);
+
+    const uint8_t bytes[] = {2, 0, 7, 1, 8, 8, 8};
+    for (size_t room = 0; room <= sizeof bytes; room++) {
+        vanecitron_held_result h = vanecitron_held_book(bytes, room);
+        CLAIM(h.start == (room < 4 ? room : 4) && h.length == (room < 4 ? 0 : room < 6 ? room - 4 : 2) && h.changes == (room < 4 ? 0u : 263u));
+    }
+    vanecitron_held_result h = vanecitron_held_book(NULL, 0);
+    CLAIM(h.start == 0 && h.length == 0 && h.changes == 0);
+    memset(held, 255, sizeof held);
+    h = vanecitron_held_book(held, VANECITRON_HELD);
+    CLAIM(h.start == 4 && h.length == VANECITRON_BOOK_MOST && h.changes == VANECITRON_CHANGES_MOST);
+}
+
 static void version(void)
 {
     char text[32];
@@ -177,13 +383,13 @@ static void version(void)
 static void texts(void)
 {
     const char *unknown = vanecitron_refusal_text(UINT32_MAX);
-    for (uint32_t refusal = VANECITRON_ACCEPTED; refusal <= VANECITRON_NO_SPACE; refusal++) {
+    for (uint32_t refusal = VANECITRON_ACCEPTED; refusal <= VANECITRON_NO_SUCH_RULE; refusal++) {
         CLAIM((strcmp(vanecitron_refusal_text(refusal), unknown) == 0) == (refusal == VANECITRON_THICK + 1));
         for (uint32_t earlier = 0; earlier < refusal; earlier++) {
             CLAIM(strcmp(vanecitron_refusal_text(refusal), vanecitron_refusal_text(earlier)) != 0);
         }
     }
-    CLAIM(strcmp(vanecitron_refusal_text(VANECITRON_NO_SPACE + 1), unknown) == 0);
+    CLAIM(strcmp(vanecitron_refusal_text(VANECITRON_NO_SUCH_RULE + 1), unknown) == 0);
 }
 
 /* the example written into a buffer of this size, between guards: byte for byte where it fits, else no book at all */
@@ -217,6 +423,19 @@ static int fits(int comparison, size_t m, size_t n)
     return written;
 }
 
+/* the record of a rule into a buffer of this size, between guards */
+static void record_in(size_t room)
+{
+    uint8_t bytes[VANECITRON_BOOK_RULE(4, 4) + 4], expected[sizeof bytes];
+    size_t length = Q - VANECITRON_BOOK_HEAD;
+    memset(bytes, 0xa5, sizeof bytes);
+    memset(expected, 0xa5, sizeof expected);
+    size_t written = vanecitron_book_rule_record(bytes, room, left, sizeof left, right, sizeof right);
+    CLAIM(written == (room < length ? 0 : length));
+    memcpy(expected, example + VANECITRON_BOOK_HEAD, written);
+    CLAIM(memcmp(bytes, expected, sizeof bytes) == 0);
+}
+
 static void writer(void)
 {
     for (size_t room = 0; room <= sizeof example + 1; room++) {
@@ -226,6 +445,14 @@ static void writer(void)
     CLAIM(!fits(0, 256, 1) && !fits(0, 1, 256) && !fits(0, SIZE_MAX, 1) && !fits(0, SIZE_MAX, SIZE_MAX));
     CLAIM(!fits(1, UINT16_MAX - 8, 1) && !fits(1, UINT16_MAX - 7, 0) && !fits(1, SIZE_MAX, 1) && !fits(1, SIZE_MAX - 8, 1));
     CLAIM(vanecitron_book_begin(NULL, 0, 4).spoiled == 1);
+    for (size_t room = 0; room <= VANECITRON_BOOK_RULE(4, 4) + 1; room++) {
+        record_in(room);
+    }
+    uint8_t bytes[VANECITRON_BOOK_RULE_MOST], side[UINT8_MAX + 1] = {0};
+    CLAIM(vanecitron_book_rule_record(bytes, sizeof bytes, side, VANECITRON_SIDE, side, VANECITRON_SIDE) == sizeof bytes);
+    CLAIM(vanecitron_book_rule_record(bytes, sizeof bytes, side, VANECITRON_SIDE, side, VANECITRON_SIDE + 1) == 0);
+    CLAIM(vanecitron_book_rule_record(bytes, SIZE_MAX, side, UINT8_MAX + 1, side, 0) == 0);
+    CLAIM(vanecitron_book_rule_record(NULL, 0, NULL, 0, NULL, 0) == 0);
 }
 
 static void allowances(void)
@@ -241,6 +468,10 @@ int main(void)
     outcomes();
     sheets();
     least_runs();
+    loadings();
+    changes();
+    refused_changes();
+    altered();
     version();
     texts();
     writer();

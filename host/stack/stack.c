@@ -5,7 +5,7 @@
  * refusal that it is there for.
  *
  * The library has no recursion and no arrays whose size depends on the input, so a call needs as much as its deepest chain of functions. The calls take
- * each row of a round, meet each kind of refusal that a function has, and have books, runs, marks and inputs at their limits.
+ * each row of a round, meet each kind of refusal that a function has, and have books, held ones too, runs, marks and inputs at their limits.
  */
 #define _XOPEN_SOURCE 700
 #include <stdint.h>
@@ -18,19 +18,20 @@
 
 #define STACK (1u << 18)
 #define PAINT 0xa5
-#define RULE VANECITRON_BOOK_RULE(VANECITRON_SIDE, VANECITRON_SIDE) /* the bytes of a rule whose sides have the most steps */
-#define STRANGER 255u                                               /* a step that no book has */
+#define RULE VANECITRON_BOOK_RULE_MOST /* the bytes of a rule whose sides have the most steps */
+#define STRANGER 255u                  /* a step that no book has */
 
 /* what a call is given; the runs and the input have room for one byte over the limit */
 static uint8_t book[VANECITRON_BOOK_MOST + RULE], input[VANECITRON_INPUT + 1];
 static uint8_t u[VANECITRON_ROUND_RUN + 1], v[VANECITRON_ROUND_RUN + 1], p[VANECITRON_ROUND_MARK + 1];
-static size_t book_length, input_length, u_length, v_length, p_length;
+static uint8_t record[RULE + 1];
+static size_t book_length, input_length, u_length, v_length, p_length, record_length, withdrawn;
 static uint32_t allowance;
 
-/* what it is lent, and how much of that */
+/* what it is lent, and how much of that; the held book has room for one rule over the limit */
 static uint8_t sheet[VANECITRON_SHEET_MOST], next_u[VANECITRON_NEXT_RUN], next_v[VANECITRON_NEXT_RUN], next_p[VANECITRON_NEXT_MARK];
-static uint8_t least[VANECITRON_LEAST_MOST], output[VANECITRON_OUTPUT];
-static size_t sheet_room, next_u_room, next_v_room, next_p_room, least_room, output_room;
+static uint8_t least[VANECITRON_LEAST_MOST], output[VANECITRON_OUTPUT], held[VANECITRON_HELD + RULE];
+static size_t sheet_room, next_u_room, next_v_room, next_p_room, least_room, output_room, held_room;
 static size_t offset;
 
 /* what it answers */
@@ -39,6 +40,7 @@ static vanecitron_round_result rounded;
 static vanecitron_compare_result compared;
 static vanecitron_least_result written;
 static vanecitron_program_result printed;
+static vanecitron_held_result found;
 
 static void nothing(void) {}
 
@@ -70,6 +72,26 @@ static void call_least(void)
 static void call_program(void)
 {
     printed = vanecitron_program(input, input_length, output, output_room);
+}
+
+static void call_load(void)
+{
+    checked = vanecitron_load(book, book_length, held, held_room);
+}
+
+static void call_add(void)
+{
+    checked = vanecitron_add(held, held_room, record, record_length, sheet, sheet_room);
+}
+
+static void call_withdraw(void)
+{
+    checked = vanecitron_withdraw(held, held_room, withdrawn, sheet, sheet_room);
+}
+
+static void call_held_book(void)
+{
+    found = vanecitron_held_book(held, held_room);
 }
 
 /* --- answers as text --- */
@@ -162,6 +184,12 @@ static void tell_printed(void)
     snprintf(answer, sizeof answer, "%.*s", (int)(printed.length - 1 - from), (const char *)output + from);
 }
 
+/* the bytes of the book and the changes */
+static void tell_found(void)
+{
+    snprintf(answer, sizeof answer, "held %llu %llu", (unsigned long long)found.length, (unsigned long long)found.changes);
+}
+
 /* --- the measure --- */
 
 struct function {
@@ -178,7 +206,13 @@ static struct function single_round = {"round", call_round, tell_rounded, 0, 0};
 static struct function compare = {"compare", call_compare, tell_compared, 0, 0};
 static struct function least_run = {"least", call_least, tell_written, 0, 0};
 static struct function program = {"program", call_program, tell_printed, 0, 0};
-static struct function *const functions[] = {&check, &cut_sheet, &single_round, &compare, &least_run, &program};
+static struct function load = {"load", call_load, tell_checked, 0, 0};
+static struct function addition = {"add", call_add, tell_checked, 0, 0};
+static struct function withdrawal = {"withdraw", call_withdraw, tell_checked, 0, 0};
+static struct function held_book = {"held_book", call_held_book, tell_found, 0, 0};
+static struct function *const functions[] = {&check,   &cut_sheet, &single_round, &compare,    &least_run,
+                                             &program, &load,      &addition,     &withdrawal, &held_book};
+#define OF_BOOK 7u /* so many of them are given a book as it is */
 static int failed;
 
 /* the bytes of a painted stack that a call has written to, from its end down to the lowest */
@@ -303,6 +337,7 @@ static void begin_call(void)
     next_p_room = sizeof next_p;
     least_room = sizeof least;
     output_room = sizeof output;
+    held_room = VANECITRON_HELD;
     offset = 0;
     allowance = VANECITRON_ALLOWANCE;
     u_length = v_length = p_length = 0;
@@ -364,6 +399,27 @@ static void measure_comparison(const char *expected)
     begin_input();
     ask();
     measure(&program, expected);
+}
+
+/* --- held books --- */
+
+/* the book as a held one, whether it would load or not */
+static void hold(void)
+{
+    held[0] = (uint8_t)book_length;
+    held[1] = (uint8_t)(book_length >> 8);
+    memset(held + 2, 0, 2);
+    memcpy(held + 4, book, book_length);
+}
+
+/* a full book without its last rule is held, and that rule is the record */
+static void hold_all_but_last(void (*make_book)(void))
+{
+    make_book();
+    book_length -= RULE;
+    memcpy(record, book + book_length, record_length = RULE);
+    begin_call();
+    hold();
 }
 
 /* --- the calls --- */
@@ -564,6 +620,41 @@ static void limits(void)
     measure(&least_run, "least 262080");
 }
 
+/* full books that are held: loaded, each with a rule less, the first, one between and the last, and with the last one added again */
+static void full_held_books(void (*make_book)(void))
+{
+    static const size_t rules[] = {0, VANECITRON_RULES / 2, VANECITRON_RULES - 1};
+    for (size_t i = 0; i < sizeof rules / sizeof rules[0]; i++) {
+        make_book();
+        begin_call();
+        measure(&load, "rules 32");
+        measure(&held_book, "held 4293 0");
+        withdrawn = rules[i];
+        measure(&withdrawal, "rules 31");
+        measure(&held_book, "held 4159 1");
+    }
+    hold_all_but_last(make_book);
+    measure(&addition, "rules 32");
+    measure(&held_book, "held 4293 1");
+}
+
+/* a book from no rules to one and back, and buffers that are too short for any */
+static void small_held_books(void)
+{
+    book_of("");
+    begin_call();
+    measure(&load, "rules 0");
+    record_length = vanecitron_book_rule_record(record, sizeof record, (const uint8_t *)"\0", 1, (const uint8_t *)"\1", 1);
+    measure(&addition, "rules 1");
+    withdrawn = 0;
+    measure(&withdrawal, "rules 0");
+    measure(&held_book, "held 5 2");
+    held_room = 7;
+    measure(&held_book, "held 3 2");
+    held_room = 3;
+    measure(&held_book, "held 0 0");
+}
+
 /* a full book whose last rule, or the side that ends it, is at fault; the place of the rule is 4159, and the side is the last of 64 */
 static void spoiled_book(uint32_t refusal)
 {
@@ -596,10 +687,74 @@ static void refused_books(void)
         spoiled_book(books[spoiled].refusal);
         runs_of("a", "a", "a");
         begin_input();
-        for (size_t i = 0; i < sizeof functions / sizeof functions[0]; i++) {
+        for (size_t i = 0; i < OF_BOOK; i++) {
             measure(functions[i], books[spoiled].expected);
         }
+        if (books[spoiled].refusal != VANECITRON_LOOSE) {
+            hold();
+            held_room = sizeof held;
+            measure(&addition, books[spoiled].expected);
+            measure(&withdrawal, books[spoiled].expected);
+        }
     }
+}
+
+/* each refusal of an addition to a full book less one rule, by what is wrong with its record; 6 is of a full one */
+static void refused_additions(void)
+{
+    static const struct {
+        uint32_t refusal;
+        const char *expected;
+    } records[] = {
+        {VANECITRON_SHORT, "refused 1 4159"},  {VANECITRON_KIND, "refused 2 4159"},  {VANECITRON_THICK, "refused 6 4293"},
+        {VANECITRON_LENGTH, "refused 3 4159"}, {VANECITRON_RANGE, "refused 4 4159"}, {VANECITRON_UNKNOWN_STEP, "refused 5 4159"},
+        {VANECITRON_LOOSE, "refused 8 63"},
+    };
+    for (size_t i = 0; i < sizeof records / sizeof records[0]; i++) {
+        hold_all_but_last(full_random_book);
+        switch (records[i].refusal) {
+        case VANECITRON_SHORT: record_length--; break;
+        case VANECITRON_KIND: record[2] = 1; break;
+        case VANECITRON_THICK: measure(&addition, "rules 32"); break;
+        case VANECITRON_LENGTH: record[4]++; break;
+        case VANECITRON_RANGE: record[4]++, record[5]--; break;
+        case VANECITRON_UNKNOWN_STEP: record[RULE - 1] = VANECITRON_LETTERS; break;
+        case VANECITRON_LOOSE: memset(record + RULE - VANECITRON_SIDE, 0, VANECITRON_SIDE); break;
+        default: abort();
+        }
+        measure(&addition, records[i].expected);
+    }
+    hold_all_but_last(full_random_book);
+    record_length = 0;
+    measure(&addition, "refused 1 4159");
+    record_length = RULE + 1;
+    measure(&addition, "refused 3 4159");
+    record_length = RULE;
+    sheet_room = VANECITRON_SHEET_MOST - 1;
+    measure(&addition, "refused 12 0");
+    held_room = VANECITRON_HELD - 1;
+    measure(&addition, "refused 12 1");
+}
+
+/* each refusal of a withdrawal from a full book; 8 is of one that would not load, and whose last side, which is at fault, moves from 63 to 61 */
+static void refused_withdrawals(void)
+{
+    full_random_book();
+    begin_call();
+    hold();
+    withdrawn = VANECITRON_RULES;
+    measure(&withdrawal, "refused 15 0");
+    withdrawn = SIZE_MAX;
+    measure(&withdrawal, "refused 15 0");
+    withdrawn = 0;
+    sheet_room = VANECITRON_SHEET(VANECITRON_RULES - 1) - 1;
+    measure(&withdrawal, "refused 12 0");
+    held_room = VANECITRON_HELD - 1;
+    measure(&withdrawal, "refused 12 1");
+    spoiled_book(VANECITRON_LOOSE);
+    begin_call();
+    hold();
+    measure(&withdrawal, "refused 8 61");
 }
 
 /* a full book whose last side is the first one: three of its runs are a family */
@@ -654,7 +809,7 @@ static void narrow_buffers(void)
         const char *expected;
     } buffers[] = {
         {&sheet_room, &cut_sheet, "refused 12 0"},     {&next_u_room, &single_round, "refused 12 0"}, {&next_v_room, &single_round, "refused 12 1"},
-        {&next_p_room, &single_round, "refused 12 2"}, {&output_room, &program, "refused 12 0"},
+        {&next_p_room, &single_round, "refused 12 2"}, {&output_room, &program, "refused 12 0"},      {&held_room, &load, "refused 12 1"},
     };
     full_random_book();
     begin_input();
@@ -703,7 +858,12 @@ int main(void)
     full_calls(full_shared_book, "next 4126 4126 -", "same 1988");
     limits();
     full_book_with_a_shared_run();
+    full_held_books(full_random_book);
+    full_held_books(full_shared_book);
+    small_held_books();
     refused_books();
+    refused_additions();
+    refused_withdrawals();
     refused_runs();
     narrow_buffers();
     refused_inputs();

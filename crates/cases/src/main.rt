@@ -6,8 +6,10 @@
 //   round BOOK U V P N N N     a single round, with the lengths of the three buffers: `end same`, `end different` or `next U V P`
 //   least BOOK U N OFFSET      the least congruent word in a buffer of N bytes from an offset on: `least LENGTH BYTES`
 //   compare BOOK U V N         a comparison with an allowance of N rounds: `same ROUNDS` or `different ROUNDS`
+//   held BOOK OP OP ..         a held book, loaded and then changed: a word for the loading and one for each OP
 // or `refused N P` (number, place). Any other line is a heading, and is printed as it is. Lent buffers are filled with aa before the call; `touched` stands
-// before an answer that came with a change of a byte which it must keep.
+// before an answer that came with a change of a byte which it must keep. An OP is `add:RECORD:N` or `drop:INDEX:N`, with a sheet of N bytes; the words are `accepted:R` for the
+// loading, `accepted:R:BYTES` for a change, with the bytes of its sheet alone, and `refused:N:P`; a refused loading ends the line.
 ghost use Prim.Native.Nat.{_≤_};
 ghost use lib.ListN.{length};
 ghost use Rattle.fields.specs.Places.{Filled};
@@ -92,6 +94,8 @@ fn answer_call(word: &[u8], line: &[u8], book: &[u8]) {
         answer_least(line, book);
     } else if fields::is_word(word, b"compare") {
         answer_compare(line, book);
+    } else if fields::is_word(word, b"held") {
+        stories::answer_held(line, book);
     } else {
         printing::print_text(line);
     }

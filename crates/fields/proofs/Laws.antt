@@ -37,6 +37,10 @@ inside-more field out₀ out i n v p h k = record { read = omega arith; written 
 pub inside-filled : (field out₀ out : List ℕ) (i n : ℕ) → Inside field out₀ out i n → Filled n out
 inside-filled field out₀ out i n p = filled n out (p .written)
 
+-- one byte for each of a text
+pub inside-one : (text out₀ out : List ℕ) (n v : ℕ) → Inside text out₀ out n n → n < length text → (n ≡ length out → ⊥) → Inside text out₀ (set out n v) (n + 1) (n + 1)
+inside-one text out₀ out n v p h k = record { read = omega arith; written = simp length-set (omega arith); long = simp length-set (p .long) }
+
 -- two digits for each byte of a text
 pub inside-digits : (bytes out₀ out : List ℕ) (i n a b : ℕ) → Inside bytes out₀ out i n → i < length bytes → 2 ≤ length out - n
     → Inside bytes out₀ (set (set out n a) (n + 1) b) (i + 1) (n + 2)
@@ -64,4 +68,4 @@ moving-more buffer₀ buffer to i at v p h =
 pub moving-filled : (buffer₀ buffer : List ℕ) (to i at : ℕ) → Moving buffer₀ buffer to i at → Filled i buffer
 moving-filled buffer₀ buffer to i at p = filled i buffer (p .within)
 
-pub ruleset places = (reached-found, inside-more, inside-digits, second-inside, inside-filled, moving-more, moving-filled, filled, needs)
+pub ruleset places = (reached-found, inside-more, inside-one, inside-digits, second-inside, inside-filled, moving-more, moving-filled, filled, needs)

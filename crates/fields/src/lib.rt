@@ -37,6 +37,14 @@ fn field_start(line: &[u8], number: usize) -> usize
     at
 }
 
+// Where a field of a line ends.
+pub fn field_end(line: &[u8], number: usize) -> usize
+    ensures { λ r. ⌜ r ≤ length (now (line .entry)) ⌝ }
+{
+    let start = field_start(line, number);
+    find(line, start, b' ')
+}
+
 // Writes the bytes of a field at the start of a buffer, and answers how many.
 pub fn put_field(line: &[u8], number: usize, out: &mut [u8]) -> usize
     ensures { λ r. ⌜ Filled r (now (out .exit)) ⌝ }
@@ -222,4 +230,51 @@ pub fn move_down(buffer: &mut [u8], from: usize, to: usize) -> usize
         at += 1;
     }
     i
+}
+
+// A space for a colon, and any other byte as it is.
+fn spaced(c: u8) -> u8 {
+    if c == b':' { b' ' } else { c }
+}
+
+// Writes a text with a space for each colon at the start of a buffer, as much of it as there is room for, and answers how long it is.
+pub fn put_spaced(text: &[u8], out: &mut [u8]) -> usize
+    ensures { λ r. ⌜ Filled r (now (out .exit)) ⌝ }
+{
+    let mut n = 0;
+    while n < text.len() {
+        if n == out.len() {
+            return n;
+        }
+        out[n] = spaced(text[n]);
+        n += 1;
+    }
+    n
+}
+
+// Copies a buffer to the start of another, as much of it as there is room for.
+pub fn copy(from: &[u8], to: &mut [u8]) {
+    let mut i = 0;
+    while i < from.len() {
+        if i == to.len() {
+            return;
+        }
+        to[i] = from[i];
+        i += 1;
+    }
+}
+
+// Two buffers of one length have the same bytes from a position on.
+pub fn is_same(a: &[u8], b: &[u8], from: usize) -> bool {
+    if a.len() != b.len() {
+        return false;
+    }
+    let mut i = from;
+    while i < a.len() {
+        if a[i] != b[i] {
+            return false;
+        }
+        i += 1;
+    }
+    true
 }

@@ -32,10 +32,10 @@ passed false stop x good f e = (refl, e)
 cut-or-whole : (kind from to : ℕ) → CutOff ≡ Whole kind from to → ⊥
 cut-or-whole kind from to e = let z : _≡_ {A = ℕ} 0 1 = cc in omega arith
 
-head-or-refused : (letters to : ℕ) (r : Refusal) → Heads.Refused r ≡ Heads.Read letters to → ⊥
+pub head-or-refused : (letters to : ℕ) (r : Refusal) → Heads.Refused r ≡ Heads.Read letters to → ⊥
 head-or-refused letters to r e = let z : _≡_ {A = ℕ} 0 1 = cc in omega arith
 
-relation-or-refused : (left right to : ℕ) (r : Refusal) → Relations.Refused r ≡ Relations.Read left right to → ⊥
+pub relation-or-refused : (left right to : ℕ) (r : Refusal) → Relations.Refused r ≡ Relations.Read left right to → ⊥
 relation-or-refused left right to r e = let z : _≡_ {A = ℕ} 0 1 = cc in omega arith
 
 -- numbers that do not differ are equal

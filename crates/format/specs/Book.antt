@@ -5,7 +5,7 @@ use mathlib.Core.Bool.{Bool, _||_, not, cond}
 use mathlib.Core.List.{List, [], _∷_, _++_}
 use mathlib.Core.Path.{_≡_}
 use lib.Dec.{eqb, leb, ltb}
-use lib.ListN.{length, getD}
+use lib.ListN.{length, getD, take, drop}
 use Rattle.words.specs.Words.{part}
 use Rattle.words.specs.Relations.{Relation}
 use Rattle.limits.specs.declared.Record.{Record}
@@ -29,6 +29,11 @@ pub record Presentation : Type 0 where
 -- the presentation with one more relation at its end
 abbrev pub adding : Presentation → Relation → Presentation
 adding presentation relation = record { letters = presentation .letters; relations = presentation .relations ++ (relation ∷ []) }
+
+-- the presentation without the relation of an index; the later ones move down one
+abbrev pub without : Presentation → ℕ → Presentation
+without presentation i =
+    record { letters = presentation .letters; relations = take i (presentation .relations) ++ drop (suc i) (presentation .relations) }
 
 -- what a book's bytes give: a presentation, or a refusal
 pub data BookReading : Type 0 where
@@ -84,6 +89,21 @@ relationAt letters count place book at =
     cond (differs kind relationKind) (Relations.Refused (Kind place))
     (cond (leb relationsMost count) (Relations.Refused (TooMany place))
     (fieldsAt letters place book from to)))
+
+-- a relation given apart from its book, as one record and nothing behind it (document 01, "Rules that come and go"): read as the next one of a book of so many letters
+-- and relations. The lines are the refusals 1, 2, 6, then 3 for bytes behind the record, and those of its fields; a head is no relation here either
+unfoldable pub additionAt : ℕ → ℕ → ℕ → List ℕ → RelationReading
+additionAt letters count place bytes =
+    onWhole (recordAt bytes 0) (Relations.Refused (Short place)) (λ kind from to.
+    cond (differs kind relationKind) (Relations.Refused (Kind place))
+    (cond (leb relationsMost count) (Relations.Refused (TooMany place))
+    (cond (ltb to (length bytes)) (Relations.Refused (Length place))
+    (fieldsAt letters place bytes from to))))
+
+-- where the record of relation k begins, by the lengths of the records before it
+unfoldable pub relationStart : List ℕ → ℕ → ℕ
+relationStart book zero = recordPrefix + headLength
+relationStart book (suc k) = relationStart book k + recordPrefix + field book (relationStart book k)
 
 -- the relation whose words lie from `left` to `right` and from there to `to`
 abbrev pub relationIn : List ℕ → ℕ → ℕ → ℕ → Relation

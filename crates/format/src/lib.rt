@@ -1,6 +1,6 @@
 // What reading a book gives (document 01, "Book bytes"): the answers of the reader's parts, and theorems on the definitions of specs/Book.antt and specs/Bytes.antt.
 ghost use Rattle.format.specs.Book.{FuelSuffices};
-ghost use Rattle.format.specs.Bytes.{ReadBytes, ReadWithin};
+ghost use Rattle.format.specs.Bytes.{ReadBytes, ReadWithin, BytesUnique, BytesFew, AdditionsRead};
 ghost use Rattle.format.specs.Examples.{Hold, examples};
 use refusals::Refusal;
 
@@ -40,4 +40,19 @@ pub fn read_is_within()
 // No book needs more fuel than the definition gives it.
 pub fn fuel_suffices()
     ensures { λ _. ⌜ FuelSuffices ⌝ }
+{}
+
+// Bytes that are read are the bytes of what was read.
+pub fn bytes_are_unique()
+    ensures { λ _. ⌜ BytesUnique ⌝ }
+{}
+
+// No presentation within the limits has more bytes than the most of a book.
+pub fn bytes_are_few()
+    ensures { λ _. ⌜ BytesFew ⌝ }
+{}
+
+// A relation that is given apart from its book is read as if its bytes stood at the book's end.
+pub fn additions_are_read()
+    ensures { λ _. ⌜ AdditionsRead ⌝ }
 {}

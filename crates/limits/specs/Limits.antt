@@ -92,6 +92,33 @@ sheetPieces = 3
 abbrev pub sheetColumns : ℕ
 sheetColumns = 4
 
+-- a held book: two-byte fields for the length of a book and for the count of its changes, at these places, and then the book
+abbrev pub heldLength : ℕ
+heldLength = 0
+
+abbrev pub heldChanges : ℕ
+heldChanges = 2
+
+-- the bytes before the book
+abbrev pub heldPrefix : ℕ
+heldPrefix = 4
+
+-- the bytes of a book are at most
+abbrev pub bookMost : ℕ
+bookMost = 4293
+
+-- the room of a held book
+abbrev pub heldRoom : ℕ
+heldRoom = 4297
+
+-- the count of changes says at most
+abbrev pub changesMost : ℕ
+changesMost = 65535
+
+-- the number of a held book's buffer in refusal 12
+abbrev pub heldBuffer : ℕ
+heldBuffer = 1
+
 -- the bytes of the program's input are at most
 abbrev pub inputMost : ℕ
 inputMost = 60000
@@ -115,7 +142,7 @@ unfoldable pub inputOf : ℕ → MadeInput
 inputOf bytes = cond (ltb inputMost bytes) Inputs.Heavy (Inputs.Good (record { length = bytes }))
 
 -- the numbers of the definitions, as the code gives its constants: of the head, of every record, of a relation; of the words of comparisons and rounds, and of
--- least words; of the cut sheet; of the program's input
+-- least words; of the cut sheet; of a held book; of the program's input
 abbrev pub fixedAmounts : List ℕ
 fixedAmounts =
     headKind ∷ headLength ∷ lettersMost
@@ -123,4 +150,5 @@ fixedAmounts =
     ∷ relationKind ∷ relationLength ∷ relationsMost ∷ sideMost
     ∷ comparisonKind ∷ comparisonLength ∷ comparedMost ∷ allowanceMost ∷ roundMost ∷ nextRoom ∷ markMost ∷ leastMost ∷ placeSpacing
     ∷ sheetX ∷ sheetY ∷ sheetZ ∷ sheetPieces ∷ sheetColumns
+    ∷ heldLength ∷ heldChanges ∷ heldPrefix ∷ bookMost ∷ heldRoom ∷ changesMost ∷ heldBuffer
     ∷ inputMost ∷ []

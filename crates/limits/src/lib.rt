@@ -144,6 +144,31 @@ impl Sheet {
     pub const COLUMNS: usize = 4;
 }
 
+// A held book: the length of a book and the count of its changes, a two-byte field each, and then the book's own bytes.
+pub struct Held {}
+
+impl Held {
+    // Where the two fields lie.
+    pub const LENGTH: usize = 0;
+
+    pub const CHANGES: usize = 2;
+
+    // The bytes before the book.
+    pub const PREFIX: usize = 4;
+
+    // The most bytes of a book: a head, and 32 relations at their longest.
+    pub const BOOK: usize = 4293;
+
+    // The room that a held book asks for.
+    pub const ROOM: usize = 4297;
+
+    // The most that the count of changes can say.
+    pub const COUNTED: usize = 65535;
+
+    // The number of its buffer in refusal 12; the sheet's is 0.
+    pub const BUFFER: usize = 1;
+}
+
 // What the program reads, by its length.
 pub struct Input {
     pub length: usize,
@@ -168,7 +193,7 @@ impl Input {
 }
 
 // The constants are the numbers that the definitions write again, in the order of specs/Limits.antt.
-pub fn fixed_amounts() -> [usize; 23]
+pub fn fixed_amounts() -> [usize; 30]
     ensures { λ r. ⌜ r ≡ fixedAmounts ⌝ }
 {
     [
@@ -194,6 +219,13 @@ pub fn fixed_amounts() -> [usize; 23]
         Sheet::Z,
         Sheet::PIECES,
         Sheet::COLUMNS,
+        Held::LENGTH,
+        Held::CHANGES,
+        Held::PREFIX,
+        Held::BOOK,
+        Held::ROOM,
+        Held::COUNTED,
+        Held::BUFFER,
         Input::MOST,
     ]
 }

@@ -19,7 +19,7 @@ use Rattle.limits.specs.declared.Record.{Record}
 use Rattle.limits.specs.declared.Record.the-variants.{Whole, CutOff}
 use Rattle.limits.specs.Limits.{inputMost, lettersMost, relationsMost, comparisonKind, comparedMost}
 use Rattle.refusals.specs.declared.Refusal.{Refusal}
-use Rattle.refusals.specs.declared.Refusal.the-variants.{Short, Kind, Length, Range, UnknownLetter, TooMany, Loose, Long, Stranger, Spent, Narrow, Heavy, NoSpace}
+use Rattle.refusals.specs.declared.Refusal.the-variants.{Short, Kind, Length, Range, UnknownLetter, TooMany, Loose, Long, Stranger, Spent, Narrow, Heavy, NoSpace, NoSuchRelation}
 use Rattle.refusals.specs.Refusals.{numberAndPlace}
 use Rattle.letters.specs.Letters.{firstUnknown}
 use Rattle.format.specs.declared.HeadReading.{HeadReading}
@@ -27,6 +27,7 @@ use Rattle.format.specs.declared.HeadReading.the-variants as Heads
 use Rattle.format.specs.declared.RelationReading.{RelationReading}
 use Rattle.format.specs.declared.RelationReading.the-variants as Relations
 use Rattle.format.specs.Book.{Presentation, adding, BookReading, field, recordAt, differs, headAt, fieldsAt, relationAt, relationIn, onWhole, onHead, onRelation, relationsFrom, readBook}
+use Rattle.format.specs.Bytes.{AreBytes}
 use Rattle.format.proofs.Readings.{whole-at, read-within}
 use Rattle.presentation.specs.Loading.{byVerdict, byReading, loadBook}
 use Rattle.words.proofs.Relations.{length-words}
@@ -43,7 +44,7 @@ use Rattle.output.specs.declared.Request.{Request}
 use Rattle.output.specs.declared.Request.the-variants as Requests
 use Rattle.output.specs.Requests.{longField, fieldsOf, requestAt}
 use Rattle.output.specs.Program.{bookText, sameText, differentText, refusedLine, comparisonLine, bookEndFrom, bookEnd, byRequest, linesFrom, byLoading, loadedOutput, programOf}
-use Rattle.output.specs.Size.{lineMost, outputMost, AreBytes, OutputFits}
+use Rattle.output.specs.Size.{lineMost, outputMost, OutputFits}
 use Rattle.output.proofs.Reading.{lies-of}
 
 -- a number that is printed: it has at most ten digits
@@ -90,6 +91,7 @@ number-small (Spent n) = omega arith
 number-small (Narrow n) = omega arith
 number-small Heavy = omega arith
 number-small NoSpace = omega arith
+number-small NoSuchRelation = omega arith
 
 -- the line of a refusal
 pub refused-short : (r : Refusal) → numberAndPlace r .place < numberMost → length (refusedLine r) ≤ lineMost

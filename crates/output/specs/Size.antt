@@ -1,8 +1,9 @@
 -- How large the output can get: a number of bytes that is enough for every input (document 01, "The program").
-use Prim.Native.Nat.{ℕ, _+_, _*_, _/_, _<_, _≤_}
+use Prim.Native.Nat.{ℕ, _+_, _*_, _/_, _≤_}
 use mathlib.Core.List.{List, [], _∷_}
-use lib.ListN.{length, getD}
+use lib.ListN.{length}
 use Rattle.limits.specs.Limits.{recordPrefix, inputMost, comparisonLength}
+use Rattle.format.specs.Bytes.{AreBytes}
 use Rattle.output.specs.Program.{programOf}
 
 -- no line is longer: `refused`, a number of at most two digits, a place of at most ten, two spaces and a newline
@@ -12,10 +13,6 @@ lineMost = 22
 -- the bytes of the output are at most: a line for the book and one for each comparison record that the input has room for. A record takes at least 12 bytes
 abbrev pub outputMost : ℕ
 outputMost = lineMost * (1 + inputMost / (recordPrefix + comparisonLength))
-
--- every element is a byte
-abbrev pub AreBytes : List ℕ → Type 0
-AreBytes input = (i : ℕ) → getD input i 0 < 256
 
 -- no input has a longer output
 abbrev pub OutputFits : Type 0

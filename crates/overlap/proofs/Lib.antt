@@ -6,6 +6,7 @@ pub mod Facts
 pub mod Agree
 pub mod Maximal
 pub mod Verdicts
+pub mod Fewer
 pub mod Reaching
 pub mod Counts
 pub mod Theorems

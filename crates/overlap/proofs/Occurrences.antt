@@ -139,11 +139,14 @@ unfolding IsProduct
 product-of-pieces B C f zero w e = e
 product-of-pieces B C f (suc n) w (a, b, e, p, r) = (a, b, e, f a p, product-of-pieces B C f n b r)
 
--- so any choice of the relation words of a presentation that is C(m) is C(m). Nothing rests on it yet: it is for presentations from which
--- relations are withdrawn or chosen (document 02, slips 5 and 13)
+-- the pieces of any choice of the relation words of C are pieces of C
+pub piece-of-choice : (B C : List Word) (f : ℕ → ℕ) → ((i : ℕ) → i < length B → (f i < length C) × (word C (f i) ≡ word B i))
+    → ((i j : ℕ) → i < length B → j < length B → f i ≡ f j → i ≡ j) → (w : Word) → IsPiece B w → IsPiece C w
+piece-of-choice B C f o inj =
+    piece-through B C f (λ i. 0) (λ i h. subst (λ v. Occurs C v (f i) 0) (o i h .1) (occurs-whole C (f i) (o i h .0))) inj
+
+-- so any choice of the relation words of a presentation that is C(m) is C(m)
 pub small-overlap-of-choice : (m : ℕ) (B C : List Word) (f : ℕ → ℕ) → ((i : ℕ) → i < length B → (f i < length C) × (word C (f i) ≡ word B i))
     → ((i j : ℕ) → i < length B → j < length B → f i ≡ f j → i ≡ j) → SmallOverlap m C → SmallOverlap m B
-small-overlap-of-choice m B C f o inj c i n h l p = c (f i) n (o i h .0) l (product-of-pieces B C pieces n (word C (f i)) (subst (IsProduct B n) (sym (o i h .1)) p))
-  where
-    pieces : (w : Word) → IsPiece B w → IsPiece C w
-    pieces = piece-through B C f (λ i. 0) (λ i h. subst (λ v. Occurs C v (f i) 0) (o i h .1) (occurs-whole C (f i) (o i h .0))) inj
+small-overlap-of-choice m B C f o inj c i n h l p =
+    c (f i) n (o i h .0) l (product-of-pieces B C (piece-of-choice B C f o inj) n (word C (f i)) (subst (IsProduct B n) (sym (o i h .1)) p))

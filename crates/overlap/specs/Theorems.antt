@@ -1,10 +1,10 @@
 -- What is shown of pieces, C(4) and cuts, each as one statement: the tests that compute agree with the definitions in words (document 003, section 1).
 use Prim.Native.Nat.{ℕ, _+_, _<_, _≤_}
 use mathlib.Core.Bool.{true}
-use mathlib.Core.List.{List, _++_}
+use mathlib.Core.List.{List, [], _++_}
 use mathlib.Core.Logic.{_↔_}
 use mathlib.Core.Path.{_≡_}
-use lib.ListN.{length, take, drop}
+use lib.ListN.{length, getD, take, drop}
 use Rattle.words.specs.Words.{Word, isPrefix}
 use Rattle.words.specs.Families.{distinctWords}
 use Rattle.overlap.specs.Pieces.{word, Occurs, IsPiece, IsProduct, SmallOverlap, C4}
@@ -66,3 +66,9 @@ CutsGood = (B : List Word) → C4 B → (i : ℕ) → i < length B → GoodCut B
 pub record PiecesClosed : Type 0 where
   pub factors : (B : List Word) (a w b : Word) → IsPiece B (a ++ (w ++ b)) → IsPiece B w
   pub more : (A B C : List Word) (w : Word) → IsPiece B w → IsPiece (A ++ (B ++ C)) w
+
+-- fewer sides keep C(4): where each of some sides is one of others whose distinct words meet it, their own distinct words meet it. Whether the others are joined
+-- in families or fall apart plays no part
+abbrev pub FewerKeepC4 : Type 0
+FewerKeepC4 = (sides fewer : List Word) → ((s : ℕ) → s < length fewer → (t : ℕ) × (t < length sides) × (getD sides t [] ≡ getD fewer s []))
+    → C4 (distinctWords sides) → C4 (distinctWords fewer)

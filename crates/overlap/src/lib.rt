@@ -1,6 +1,6 @@
 // Pieces, C(4) and cuts: definitions and laws, with no code under them (document 003, section 1).
 // What is shown of them is the contracts of functions that do nothing, so that it is found here and the check holds it fast.
-ghost use Rattle.overlap.specs.Theorems.{TestsPieces, VerdictsRight, AcceptsC4, CountsFewest, NumbersDecide, NumbersSmall, LoneLetters, CutsMaximal, CutsGood, PiecesClosed};
+ghost use Rattle.overlap.specs.Theorems.{TestsPieces, VerdictsRight, AcceptsC4, CountsFewest, NumbersDecide, NumbersSmall, LoneLetters, CutsMaximal, CutsGood, PiecesClosed, FewerKeepC4};
 ghost use Rattle.overlap.specs.Examples.{NumbersHold};
 
 // The test for a piece is true exactly of pieces.
@@ -56,4 +56,9 @@ pub fn cuts_are_good()
 // A factor of a piece is a piece, and more relation words make no fewer pieces.
 pub fn pieces_are_closed()
     ensures { λ _. ⌜ PiecesClosed ⌝ }
+{}
+
+// Fewer sides keep C(4).
+pub fn fewer_keep_c4()
+    ensures { λ _. ⌜ FewerKeepC4 ⌝ }
 {}

@@ -102,7 +102,7 @@ fn print_part(bytes: &[u8], offset: usize, n: usize) {
 }
 
 // Prints the first bytes of a buffer, at most 8,192.
-fn print_bytes(bytes: &[u8], n: usize) {
+pub fn print_bytes(bytes: &[u8], n: usize) {
     if n == 0 {
         io::write_all(STDOUT_FILENO, b"-");
         return;

@@ -1,10 +1,9 @@
 -- The reader's loop: what it knows at its head, and a law for each way on.
-use Prim.Native.Nat.{ℕ, zero, suc, _+_, _*_, _-_, _≤_, _<_}
+use Prim.Native.Nat.{ℕ, _+_, _*_, _-_, _≤_, _<_}
 use mathlib.Core.List.{List, [], _∷_, _++_, append-assoc}
 use mathlib.Core.Path.{_≡_, refl, sym, ap, _∙_, subst}
 use native.Mathlib.Omega.{arith}
 use borrow.Author.Needs.{needs}
-use borrow.Author.Tests.{le-leb, lt-leb}
 use lib.ListN.{length, getD, set, length-append, length-set}
 use lib.Seq.{getD-set-same, getD-set-other}
 use Rattle.words.specs.Relations.{Relation, relationWords}
@@ -28,24 +27,9 @@ use Rattle.format.proofs.Readings.{RelationRead, relation-read, relation-within
 use Rattle.laying.specs.Appending.{Arrays}
 use Rattle.laying.specs.Relations.{includingBoth, bothPlaces, RelationRoom, RelationAppended}
 use Rattle.laying.proofs.Appending.{nothing-laid}
-use Rattle.reader.specs.Reading.{ofHead, ofRelation, Stored, BookRead}
-
--- the answer for a book that ends here, by what was read last
-module _ (head : HeadReading) where
-  pub head-read-answer : (letters to : ℕ) → head ≡ Heads.Read letters to → Readings.Read letters 0 ≡ ofHead head
-  head-read-answer letters to e = rw e
-
-  pub head-refused-answer : (r : Refusal) → head ≡ Heads.Refused r → Readings.Refused r ≡ ofHead head
-  head-refused-answer r e = rw e
-
-module _ (letters count : ℕ) (relation : RelationReading) where
-  pub relation-read-answer : (left right to : ℕ) → relation ≡ Relations.Read left right to → Readings.Read letters count ≡ ofRelation letters count relation
-  relation-read-answer left right to e = rw e
-
-  pub relation-refused-answer : (r : Refusal) → relation ≡ Relations.Refused r → Readings.Refused r ≡ ofRelation letters count relation
-  relation-refused-answer r e = rw e
-
-pub ruleset answers = (head-read-answer, head-refused-answer, relation-read-answer, relation-refused-answer, needs)
+use Rattle.scanning.specs.Reading.{ofHead, ofRelation}
+use Rattle.scanning.proofs.Records.{from-end, from-refused, from-more}
+use Rattle.reader.specs.Reading.{Stored, BookRead}
 
 -- the book up to `at` is read: the presentation so far is laid, and the rest gives the answer
 pub record Going (book text₀ : List ℕ) (letters at count n : ℕ) (text table : List ℕ) : Type 0 where
@@ -95,26 +79,6 @@ module _ (book text table : List ℕ) (head : HeadReading) (e : head ≡ headAt 
         textLong = refl;
         arrays = record { textLong = a .textLong; tableLong = length-set table 0 0 ∙ a .tableLong };
       }
-
--- the definition's turns: at the end of the book, at a refusal, and over one relation
-from-end : (fuel : ℕ) (p : Presentation) (book : List ℕ) (at : ℕ) → length book ≤ at → relationsFrom fuel p book at ≡ read p
-unfolding relationsFrom
-from-end zero p book at h = refl
-from-end (suc fuel) p book at h = rw (le-leb (length book) at h)
-
-module _ (p : Presentation) (book : List ℕ) (at : ℕ) (h : at < length book) where
-  from-refused : (fuel : ℕ) → length book ≤ at + fuel → (r : Refusal) → relationAt (p .letters) (length (p .relations)) at book at ≡ Relations.Refused r
-      → relationsFrom fuel p book at ≡ refused r
-  unfolding relationsFrom
-  from-refused zero k r e = absurd (omega arith)
-  from-refused (suc fuel) k r e = rw (lt-leb (length book) at h, e)
-
-  from-more : (fuel : ℕ) → length book ≤ at + fuel → (left right to : ℕ)
-      → relationAt (p .letters) (length (p .relations)) at book at ≡ Relations.Read left right to
-      → (f : ℕ) × (fuel ≡ suc f) × (relationsFrom fuel p book at ≡ relationsFrom f (adding p (relationIn book left right to)) book to)
-  unfolding relationsFrom
-  from-more zero k left right to e = absurd (omega arith)
-  from-more (suc fuel) k left right to e = (fuel, refl, rw (lt-leb (length book) at h, e))
 
 -- one relation more has two sides more
 sides-more : (done : List Relation) (r : Relation) → relationWords (done ++ (r ∷ [])) ≡ relationWords done ++ (r .left ∷ []) ++ (r .right ∷ [])

@@ -7,24 +7,9 @@ use Rattle.words.specs.Relations.{relationWords}
 use Rattle.words.specs.Families.{sideWords, wordsOf}
 use Rattle.layout.specs.Layout.{Laid, wordsIn}
 use Rattle.layout.specs.Families.{sidesIn, countOf}
-use Rattle.format.specs.declared.HeadReading.{HeadReading}
-use Rattle.format.specs.declared.HeadReading.the-variants as Heads
-use Rattle.format.specs.declared.RelationReading.{RelationReading}
-use Rattle.format.specs.declared.RelationReading.the-variants as Relations
 use Rattle.format.specs.declared.Reading.{Reading}
-use Rattle.format.specs.declared.Reading.the-variants as Readings
 use Rattle.format.specs.Book.{Presentation, read, readBook, readingOf}
 use Rattle.format.specs.Bytes.{Within}
-
--- the answer for a book that ends with its head
-abbrev pub ofHead : HeadReading → Reading
-ofHead (Heads.Read letters to) = Readings.Read letters 0
-ofHead (Heads.Refused r) = Readings.Refused r
-
--- the answer for a book that ends with this relation, so many with it
-abbrev pub ofRelation : ℕ → ℕ → RelationReading → Reading
-ofRelation letters count (Relations.Read left right to) = Readings.Read letters count
-ofRelation letters count (Relations.Refused r) = Readings.Refused r
 
 -- the arrays hold a presentation: its relation words are laid, each once, in order of first appearance; each side has the number of its word; and all is within
 -- the limits, so that every letter is below the number of letters

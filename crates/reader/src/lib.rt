@@ -1,8 +1,7 @@
 // The book reader: bytes to relation words (document 01, "Book bytes"). Its answer is what the definition of reading a book gives, for every byte slice.
 // It is a part for the entries above it: a book that it reads may still fail C(4).
-ghost use mathlib.Core.Path.{_≡_};
 ghost use Rattle.laying.specs.Appending.{Arrays};
-ghost use Rattle.reader.specs.Reading.{ofHead, ofRelation, BookRead};
+ghost use Rattle.reader.specs.Reading.{BookRead};
 use format::HeadReading;
 use format::Reading;
 use format::RelationReading;
@@ -11,26 +10,8 @@ use layout::Table;
 use numbers::narrow;
 use relations::head_at;
 use relations::relation_at;
-
-// The answer for a book that ends with its head: the head's refusal, or no relations.
-fn of_head(head: HeadReading) -> Reading
-    ensures { λ r. ⌜ r ≡ ofHead head ⌝ }
-{
-    match head {
-        HeadReading::Read(letters, _) => Reading::Read(letters, 0),
-        HeadReading::Refused(refusal) => Reading::Refused(refusal),
-    }
-}
-
-// The answer for a book that ends with this relation: its refusal, or so many relations with it.
-fn of_relation(letters: u8, count: usize, relation: RelationReading) -> Reading
-    ensures { λ r. ⌜ r ≡ ofRelation letters count relation ⌝ }
-{
-    match relation {
-        RelationReading::Read(_, _, _) => Reading::Read(letters, count),
-        RelationReading::Refused(refusal) => Reading::Refused(refusal),
-    }
-}
+use scanning::of_head;
+use scanning::of_relation;
 
 // Reads a book. The relation words are laid in the text and the table as they are read, each once, and their number is put into the table at the end.
 pub fn read_book(book: &[u8], text: &mut [u16], table: &mut [u16]) -> Reading

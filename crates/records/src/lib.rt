@@ -2,8 +2,9 @@
 ghost use mathlib.Core.Path.{_≡_};
 ghost use Prim.Native.Nat.{_+_, _<_};
 ghost use lib.ListN.{length};
-ghost use Rattle.format.specs.Book.{recordAt};
-ghost use Rattle.records.specs.Reads.{Field};
+ghost use Rattle.format.specs.Book.{recordAt, relationStart};
+ghost use Rattle.records.specs.Reads.{Field, Starts};
+use limits::Head;
 use limits::Record;
 use numbers::wide;
 
@@ -31,4 +32,18 @@ pub fn record_at(book: &[u8], at: usize) -> Record
         return Record::CutOff;
     }
     Record::Whole(kind, at + Record::PREFIX, at + Record::PREFIX + length)
+}
+
+// Where the record of relation k begins.
+pub fn relation_start(book: &[u8], k: usize) -> usize
+    requires { ⌜ Starts (now book) k ⌝ }
+    ensures { λ r. ⌜ r ≡ relationStart (now (book .entry)) k ⌝ }
+{
+    let mut at = Record::PREFIX + Head::LENGTH;
+    let mut i = 0;
+    while i < k {
+        at = at + Record::PREFIX + field_at(book, at);
+        i += 1;
+    }
+    at
 }

@@ -34,6 +34,8 @@ pub enum Refusal {
     Heavy,
     // A lent buffer has no space for a least word behind the offset (no space).
     NoSpace,
+    // A held book has no relation of the index that is to be withdrawn (no such rule).
+    NoSuchRelation,
 }
 
 // A refusal as document 01 writes it.
@@ -97,6 +99,10 @@ pub fn number_and_place(refusal: Refusal) -> Numbered
         },
         Refusal::NoSpace => Numbered {
             number: 14,
+            place: 0,
+        },
+        Refusal::NoSuchRelation => Numbered {
+            number: 15,
             place: 0,
         },
     }

@@ -8,6 +8,7 @@ use Rattle.results.specs.declared.RoundResult.{RoundResult}
 use Rattle.results.specs.declared.CompareResult.{CompareResult}
 use Rattle.results.specs.declared.ProgramResult.{ProgramResult}
 use Rattle.results.specs.declared.LeastResult.{LeastResult}
+use Rattle.results.specs.declared.HeldResult.{HeldResult}
 
 -- the outcome of a round that ends, with 'same' for true
 abbrev pub endOutcome : Bool → ℕ
@@ -60,3 +61,7 @@ programResult a = record { refusal = numbers a .refusal; place = numbers a .plac
 -- what the least word returns for an answer
 abbrev pub leastResult : Answer → LeastResult
 leastResult a = record { refusal = numbers a .refusal; place = numbers a .place; length = numbers a .first }
+
+-- what a held book returns for where its book begins, how many bytes that has, and the count of its changes
+abbrev pub heldResult : ℕ → ℕ → ℕ → HeldResult
+heldResult start bytes counted = record { start = start; length = bytes; changes = counted }

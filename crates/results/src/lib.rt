@@ -3,7 +3,7 @@
 ghost use mathlib.Core.Path.{_≡_};
 ghost use Rattle.refusals.specs.Refusals.{numberAndPlace};
 ghost use Rattle.answers.specs.Answers.{ofVerdict, ofRound, ofComparison, ofPrinted, ofLeast};
-ghost use Rattle.results.specs.Numbers.{endOutcome, checkResult, roundResult, compareResult, programResult, leastResult};
+ghost use Rattle.results.specs.Numbers.{endOutcome, checkResult, roundResult, compareResult, programResult, leastResult, heldResult};
 use answers::Least;
 use answers::Printed;
 use answers::Round;
@@ -70,6 +70,14 @@ pub struct LeastResult {
     pub refusal: u32,
     pub place: u64,
     pub length: u64,
+}
+
+// Of a held book: where in its buffer the book's bytes begin, how many they are, and the count of changes.
+#[repr(C)]
+pub struct HeldResult {
+    pub start: u64,
+    pub length: u64,
+    pub changes: u64,
 }
 
 // A refusal's number, in the width of the structs.
@@ -207,5 +215,16 @@ pub fn of_least(least: Least) -> LeastResult
             place: place(refusal),
             length: 0,
         },
+    }
+}
+
+// The numbers of a held book.
+pub fn of_held(start: usize, bytes: usize, changes: usize) -> HeldResult
+    ensures { λ r. ⌜ r ≡ heldResult start bytes changes ⌝ }
+{
+    HeldResult {
+        start: start as u64,
+        length: bytes as u64,
+        changes: changes as u64,
     }
 }

@@ -3,6 +3,7 @@ use Prim.Native.Nat.{ℕ}
 use mathlib.Core.List.{List}
 use mathlib.Core.Path.{_≡_, ap, _∙_, subst}
 use borrow.Author.Needs.{needs}
+use lib.ListN.{length}
 use Rattle.words.specs.Words.{Word}
 use Rattle.comparison.specs.declared.Comparison.{Comparison}
 use Rattle.answers.specs.declared.Verdict.{Verdict}
@@ -12,13 +13,16 @@ use Rattle.answers.specs.declared.Least.{Least}
 use Rattle.answers.specs.Answers.{Answer, ofVerdict, ofRound, ofComparison, ofPrinted, ofLeast}
 use Rattle.answers.specs.Entries.{checkOf, SheetOutcome, sheetOf, RoundOutcome, roundOf, LeastOutcome, OutputOutcome, outputOf}
 use Rattle.answers.specs.Demands.{Compared, LeastAnswered}
+use Rattle.held.specs.Held.{bookIn, bookStart, changesTold}
+use Rattle.held.specs.Changes.{LoadOutcome, loadOf, Change, ChangeOutcome, changeOf}
 use Rattle.results.specs.declared.CheckResult.{CheckResult}
 use Rattle.results.specs.declared.RoundResult.{RoundResult}
 use Rattle.results.specs.declared.CompareResult.{CompareResult}
 use Rattle.results.specs.declared.LeastResult.{LeastResult}
 use Rattle.results.specs.declared.ProgramResult.{ProgramResult}
-use Rattle.results.specs.Numbers.{checkResult, roundResult, compareResult, leastResult, programResult}
-use Rattle.vanecitron.specs.Calls.{SheetNumbers, sheetNumbers, RoundNumbers, roundNumbers, ComparedNumbers, LeastNumbered, ProgramNumbers, programNumbers}
+use Rattle.results.specs.declared.HeldResult.{HeldResult}
+use Rattle.results.specs.Numbers.{checkResult, roundResult, compareResult, leastResult, programResult, heldResult}
+use Rattle.vanecitron.specs.Calls.{SheetNumbers, sheetNumbers, RoundNumbers, roundNumbers, ComparedNumbers, LeastNumbered, ProgramNumbers, programNumbers, LoadNumbers, loadNumbers, ChangeNumbers, changeNumbers}
 
 -- the numbers of an answer that is the definition's are the definition's numbers
 pub check-passes : (book : List ℕ) (verdict : Verdict) (r : CheckResult) → ofVerdict verdict ≡ checkOf book → r ≡ checkResult (ofVerdict verdict)
@@ -50,4 +54,17 @@ pub program-passes : (input old output : List ℕ) (printed : Printed) (r : Prog
     → r ≡ programResult (ofPrinted printed) → ProgramNumbers.after r output ≡ programNumbers (outputOf input old)
 program-passes input old output printed r e f = rw (f, ← e)
 
-pub ruleset passes = (check-passes, sheet-passes, round-passes, compare-passes, least-passes, program-passes, needs)
+pub load-passes : (book old held : List ℕ) (verdict : Verdict) (r : CheckResult) → LoadOutcome.after (ofVerdict verdict) held ≡ loadOf book old
+    → r ≡ checkResult (ofVerdict verdict) → LoadNumbers.after r held ≡ loadNumbers (loadOf book old)
+load-passes book old held verdict r e f = rw (f, ← e)
+
+pub change-passes : (change : Change) (old lent held sheet : List ℕ) (verdict : Verdict) (r : CheckResult)
+    → ChangeOutcome.after (ofVerdict verdict) held sheet ≡ changeOf change old lent → r ≡ checkResult (ofVerdict verdict)
+    → ChangeNumbers.after r held sheet ≡ changeNumbers (changeOf change old lent)
+change-passes change old lent held sheet verdict r e f = rw (f, ← e)
+
+pub held-passes : (held book : List ℕ) (start changes : ℕ) (r : HeldResult) → book ≡ bookIn held → start ≡ bookStart held → changes ≡ changesTold held
+    → r ≡ heldResult start (length book) changes → r ≡ heldResult (bookStart held) (length (bookIn held)) (changesTold held)
+held-passes held book start changes r e f g h = rw (h, e, f, g)
+
+pub ruleset passes = (check-passes, sheet-passes, round-passes, compare-passes, least-passes, program-passes, load-passes, change-passes, held-passes, needs)

@@ -5,6 +5,7 @@ use mathlib.Core.Path.{_≡_}
 use Rattle.words.specs.Words.{Word}
 use Rattle.answers.specs.Entries.{SheetOutcome, RoundOutcome, compareOf, LeastOutcome, leastOf, OutputOutcome}
 use Rattle.answers.specs.Demands.{Compared, LeastAnswered}
+use Rattle.held.specs.Changes.{LoadOutcome, ChangeOutcome}
 use Rattle.results.specs.declared.CheckResult.{CheckResult}
 use Rattle.results.specs.declared.RoundResult.{RoundResult}
 use Rattle.results.specs.declared.CompareResult.{CompareResult}
@@ -14,7 +15,7 @@ use Rattle.results.specs.Numbers.{checkResult, roundResult, compareResult, leas
 
 -- the version of the C functions: 10,000 times the first part, 100 times the second, and the third
 abbrev pub version : ℕ
-version = 500
+version = 600
 
 -- what the cut sheet returns, and the lent buffer after it
 pub data SheetNumbers : Type 0 where
@@ -53,3 +54,17 @@ pub data ProgramNumbers : Type 0 where
 
 abbrev pub programNumbers : OutputOutcome → ProgramNumbers
 programNumbers (OutputOutcome.after a output) = ProgramNumbers.after (programResult a) output
+
+-- what the loading of a held book returns, and the lent buffer after it
+pub data LoadNumbers : Type 0 where
+  after : CheckResult → List ℕ → LoadNumbers
+
+abbrev pub loadNumbers : LoadOutcome → LoadNumbers
+loadNumbers (LoadOutcome.after a held) = LoadNumbers.after (checkResult a) held
+
+-- what a change returns, and both lent buffers after it
+pub data ChangeNumbers : Type 0 where
+  after : CheckResult → List ℕ → List ℕ → ChangeNumbers
+
+abbrev pub changeNumbers : ChangeOutcome → ChangeNumbers
+changeNumbers (ChangeOutcome.after a held sheet) = ChangeNumbers.after (checkResult a) held sheet

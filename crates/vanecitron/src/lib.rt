@@ -2,10 +2,14 @@
 // each promise is the entry's own, read through them. None has a `requires`.
 ghost use mathlib.Core.Path.{_≡_};
 ghost use Rattle.answers.specs.Entries.{checkOf, sheetOf, roundOf, outputOf};
-ghost use Rattle.results.specs.Numbers.{checkResult};
-ghost use Rattle.vanecitron.specs.Calls.{version, SheetNumbers as Sheets, sheetNumbers, RoundNumbers as Rounds, roundNumbers, ComparedNumbers, LeastNumbered, ProgramNumbers as Programs, programNumbers};
+ghost use lib.ListN.{length};
+ghost use Rattle.held.specs.Held.{bookIn, bookStart, changesTold};
+ghost use Rattle.held.specs.Changes.{loadOf, addition, withdrawal, changeOf};
+ghost use Rattle.results.specs.Numbers.{checkResult, heldResult};
+ghost use Rattle.vanecitron.specs.Calls.{version, SheetNumbers as Sheets, sheetNumbers, RoundNumbers as Rounds, roundNumbers, ComparedNumbers, LeastNumbered, ProgramNumbers as Programs, programNumbers, LoadNumbers as Loads, loadNumbers, ChangeNumbers as Changes, changeNumbers};
 use results::CheckResult;
 use results::CompareResult;
+use results::HeldResult;
 use results::LeastResult;
 use results::ProgramResult;
 use results::RoundResult;
@@ -16,7 +20,7 @@ pub struct Version {
 }
 
 impl Version {
-    pub const NUMBER: u32 = 500;
+    pub const NUMBER: u32 = 600;
 }
 
 // The version, so that a caller can hold his header to the archive that he links.
@@ -91,4 +95,41 @@ pub extern "C" fn vanecitron_program(input: &[u8], output: &mut [u8]) -> Program
     ensures { λ r. ⌜ Programs.after r (now (output .exit)) ≡ programNumbers (outputOf (now (input .entry)) (now (output .entry))) ⌝ }
 {
     results::of_printed(entries::print_program(input, output))
+}
+
+// The loading of a book into the lent buffer of a held book.
+#[no_mangle]
+pub extern "C" fn vanecitron_load(book: &[u8], held: &mut [u8]) -> CheckResult
+    ensures { λ r. ⌜ Loads.after r (now (held .exit)) ≡ loadNumbers (loadOf (now (book .entry)) (now (held .entry))) ⌝ }
+{
+    results::of_verdict(heldbook::load_held(book, held))
+}
+
+// The addition of a relation to a held book, with the new sheet in a lent buffer.
+#[no_mangle]
+pub extern "C" fn vanecitron_add(held: &mut [u8], bytes: &[u8], sheet: &mut [u8]) -> CheckResult
+    ensures { λ r. ⌜ Changes.after r (now (held .exit)) (now (sheet .exit)) ≡ changeNumbers (changeOf (addition (now (bytes .entry))) (now (held .entry)) (now (sheet .entry))) ⌝ }
+{
+    results::of_verdict(heldbook::add_relation(held, bytes, sheet))
+}
+
+// The withdrawal of a relation from a held book, with the new sheet in a lent buffer.
+#[no_mangle]
+pub extern "C" fn vanecitron_withdraw(held: &mut [u8], i: usize, sheet: &mut [u8]) -> CheckResult
+    ensures { λ r. ⌜ Changes.after r (now (held .exit)) (now (sheet .exit)) ≡ changeNumbers (changeOf (withdrawal i) (now (held .entry)) (now (sheet .entry))) ⌝ }
+{
+    results::of_verdict(heldbook::withdraw_relation(held, i, sheet))
+}
+
+// The book of a held book, as a place in its buffer and a length, with the count of changes: a C function returns no part of a slice.
+#[no_mangle]
+pub extern "C" fn vanecitron_held_book(held: &[u8]) -> HeldResult
+    ensures { λ r. ⌜ r ≡ heldResult (bookStart (now (held .entry))) (length (bookIn (now (held .entry)))) (changesTold (now (held .entry))) ⌝ }
+{
+    let book = heldbook::book_of(held);
+    results::of_held(
+        heldbook::book_start(held),
+        book.len(),
+        heldbook::changes_of(held),
+    )
 }

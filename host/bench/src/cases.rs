@@ -1,9 +1,11 @@
-//! The cases: worst books for the check, worst words for the comparison and for the least word, and how the cost grows.
+//! The cases: worst books for the check, worst words for the comparison and for the least word, changes of held books, and how the cost grows.
 
 use std::cell::RefCell;
 
-use difftest::entries::{Compared, Entries, Refused, Rounded};
+use difftest::entries::{Compared, Entries, Fast, Refused, Rounded};
+use difftest::held::{HELD, PREFIX};
 use difftest::trial::{LEAST, SHEET, SHEET_SIDE};
+use gen::stories::Change;
 use gen::{books, inputs, shared, words, Book, Chance};
 
 /// Something to run with the entries of either; the numbers it gives are only there to be equal for both.
@@ -90,6 +92,25 @@ fn sheet(group: &'static str, name: impl Into<String>, book: &Book) -> Case {
     Case { group, name: name.into(), run: Box::new(run) }
 }
 
+/// A change of a held book. Each run begins with the bytes that the loading left: only those that a change can write are put back.
+fn change(group: &'static str, name: impl Into<String>, book: &Book, change: Change) -> Case {
+    let bytes = book.bytes();
+    let mut loaded = vec![0; HELD];
+    Fast.load(&bytes, &mut loaded).expect("an accepted book");
+    let buffers = RefCell::new((loaded.clone(), [0; SHEET]));
+    let run = move |entries: &dyn Entries| {
+        let (held, sheet) = &mut *buffers.borrow_mut();
+        let used = PREFIX + bytes.len();
+        held[..used].copy_from_slice(&loaded[..used]);
+        let result = match &change {
+            Change::Add { record, .. } => entries.add(held, record, sheet),
+            Change::Withdraw { relation, .. } => entries.withdraw(held, *relation, sheet),
+        };
+        numbers(result, |relations| held[..PREFIX].iter().chain(&sheet[..2 * SHEET_SIDE * relations as usize]).map(|&byte| byte as u64).sum())
+    };
+    Case { group, name: name.into(), run: Box::new(run) }
+}
+
 /// Document 01's book Q.
 fn q() -> Book {
     Book::new(4, vec![vec![0, 1, 3, 2], vec![2, 0, 3, 1]])
@@ -115,6 +136,7 @@ const GROWTH_BY_LENGTH: &str = "the comparison, by length of words";
 const GROWTH_BY_RELATIONS: &str = "the comparison, by number of relations";
 const FAMILIES: &str = "relations that share a word: a family of 33 beside 32 pairs, words of 20 and their random exchanges";
 const QUIET: &str = "the worst of families: row 4, 32 other members, nothing active";
+const CHANGES: &str = "changes of a held book, beside the check of the new book";
 const LEASTS: &str = "the least word as one call, which checks its book";
 const GROWTH_OF_LEAST: &str = "the least word, by length of words";
 const PROGRAM: &str = "the program on 60,000 bytes";
@@ -129,6 +151,7 @@ pub fn all() -> Vec<Case> {
     families(&mut all, &mut chance);
     least_words(&mut all, &mut chance);
     programs(&mut all, &mut chance);
+    changes(&mut all, &mut chance);
     all
 }
 
@@ -285,4 +308,46 @@ fn programs(all: &mut Vec<Case>, chance: &mut Chance) {
     let input = [books::head(64), stranger.repeat(59_995 / stranger.len())].concat();
     all.push(program(PROGRAM, "no relations, 4,615 strangers: the longest output", input));
     all.push(program(PROGRAM, "60,001 bytes, refused by 13", vec![0; 60_001]));
+}
+
+/// A change by its name, with the book before it and the one after it.
+struct Step {
+    name: &'static str,
+    old: Book,
+    change: Change,
+    new: Book,
+}
+
+impl Step {
+    /// The last relation of a book is added to the others.
+    fn adding(name: &'static str, new: Book) -> Step {
+        let (old, last) = new.words.split_at(new.words.len() - 2);
+        let change = Change::Add { record: books::rule(&last[0], &last[1]), size: SHEET };
+        Step { name, old: Book::new(new.letters, old.to_vec()), change, new }
+    }
+
+    /// A relation of a book is withdrawn.
+    fn withdrawing(name: &'static str, old: Book, relation: usize) -> Step {
+        let words = [&old.words[..2 * relation], &old.words[2 * relation + 2..]].concat();
+        Step { name, change: Change::Withdraw { relation, size: SHEET }, new: Book::new(old.letters, words), old }
+    }
+}
+
+/// A change is to cost one check of the new book and a move of its bytes.
+fn changes(all: &mut Vec<Case>, chance: &mut Chance) {
+    let random = books::full_random(chance, 64);
+    let twice_q = Book::new(4, [q().words, q().words].concat());
+    let pairs = Book::new(64, (0..64).map(|letter| vec![letter]).collect());
+    let steps = [
+        Step::adding("add to a full book less one", random.clone()),
+        Step::withdrawing("withdraw from a full book", random, 15),
+        Step::adding("add to book Q", twice_q.clone()),
+        Step::withdrawing("withdraw from book Q and itself again", twice_q, 0),
+        Step::adding("add to 31 relations of 1 and 1 letter", pairs),
+        Step::withdrawing("withdraw from a family of 33 in a chain", shared::random_family(chance, 64, shared::Shape::Chain), 15),
+    ];
+    for Step { name, old, change: step, new } in steps {
+        all.push(check(CHANGES, format!("check: {name}"), &new));
+        all.push(change(CHANGES, format!("change: {name}"), &old, step));
+    }
 }

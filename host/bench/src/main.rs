@@ -1,7 +1,8 @@
 //! The entries beside the fast unverified version of the same design: same inputs, same process, ratios printed.
 //!
 //! `bench [PART ..] [--limit RATIO]` times the cases whose name has one of the parts in it, or all; with a limit it fails where a ratio is above it.
-//! In the groups that show how the cost grows, the last column has the time by that of the case before it in its series.
+//! In the groups that show how the cost grows, the last column has the time by that of the case before it in its series; in those that set one thing beside another,
+//! by that of the other.
 
 mod cases;
 mod clock;
@@ -63,14 +64,19 @@ fn shown(seconds: f64) -> String {
     }
 }
 
-/// Cases whose names differ in numbers alone are one series.
-fn series(case: &Case) -> String {
-    case.name.chars().filter(|letter| !letter.is_ascii_digit()).collect()
+/// The series of a case: in a group that shows how the cost grows, of those whose names differ in numbers alone; in one that sets one thing beside another, of those
+/// whose names are the same behind their first word.
+fn series(case: &Case) -> Option<String> {
+    if case.group.contains(", by ") {
+        return Some(case.name.chars().filter(|letter| !letter.is_ascii_digit()).collect());
+    }
+    let (_, name) = case.name.split_once(": ").filter(|_| case.group.contains(", beside "))?;
+    Some(name.to_string())
 }
 
-/// How a case has grown since the one before it in its series, if its group shows that.
+/// The time of a case by that of the one before it in its series.
 fn growth(before: &mut HashMap<String, f64>, case: &Case, seconds: f64) -> String {
-    match case.group.contains(", by ").then(|| before.insert(series(case), seconds)).flatten() {
+    match series(case).and_then(|series| before.insert(series, seconds)) {
         Some(earlier) => format!("x {:.2}", seconds / earlier),
         None => String::new(),
     }

@@ -1,4 +1,4 @@
-//! What can be tried: the six entries as a trait, the fast version, and the proved library through its wrapper.
+//! What can be tried: the entries as a trait, the fast version, and the proved library through its wrapper.
 
 /// A refusal's number and place.
 pub type Refused = (u32, u64);
@@ -18,7 +18,7 @@ pub enum Rounded {
     Next([u64; 3]),
 }
 
-/// The six entries.
+/// The six entries that keep nothing between calls, and those of held books.
 pub trait Entries {
     fn name(&self) -> &'static str;
     /// the least size of the program's output buffer
@@ -29,6 +29,10 @@ pub trait Entries {
     fn compare(&self, book: &[u8], u: &[u8], v: &[u8], allowance: u32) -> Result<Compared, Refused>;
     fn least(&self, book: &[u8], word: &[u8], buffer: &mut [u8], offset: usize) -> Result<u64, Refused>;
     fn program(&self, input: &[u8], output: &mut [u8]) -> Result<usize, Refused>;
+    fn load(&self, book: &[u8], held: &mut [u8]) -> Result<u64, Refused>;
+    fn add(&self, held: &mut [u8], record: &[u8], sheet: &mut [u8]) -> Result<u64, Refused>;
+    fn withdraw(&self, held: &mut [u8], relation: usize, sheet: &mut [u8]) -> Result<u64, Refused>;
+    fn book_of<'a>(&self, held: &'a [u8]) -> &'a [u8];
 }
 
 /// The fast unverified version.
@@ -76,6 +80,22 @@ impl Entries for Fast {
 
     fn program(&self, input: &[u8], output: &mut [u8]) -> Result<usize, Refused> {
         fast::program(input, output).map_err(of_fast)
+    }
+
+    fn load(&self, book: &[u8], held: &mut [u8]) -> Result<u64, Refused> {
+        fast::load(book, held).map_err(of_fast)
+    }
+
+    fn add(&self, held: &mut [u8], record: &[u8], sheet: &mut [u8]) -> Result<u64, Refused> {
+        fast::add(held, record, sheet).map_err(of_fast)
+    }
+
+    fn withdraw(&self, held: &mut [u8], relation: usize, sheet: &mut [u8]) -> Result<u64, Refused> {
+        fast::withdraw(held, relation, sheet).map_err(of_fast)
+    }
+
+    fn book_of<'a>(&self, held: &'a [u8]) -> &'a [u8] {
+        fast::book_of(held)
     }
 }
 
@@ -127,6 +147,22 @@ impl Entries for Proved {
 
     fn program(&self, input: &[u8], output: &mut [u8]) -> Result<usize, Refused> {
         vanecitron::program_into(input, output).map_err(of_proved)
+    }
+
+    fn load(&self, book: &[u8], held: &mut [u8]) -> Result<u64, Refused> {
+        vanecitron::load(book, held).map(|rules| rules as u64).map_err(of_proved)
+    }
+
+    fn add(&self, held: &mut [u8], record: &[u8], sheet: &mut [u8]) -> Result<u64, Refused> {
+        vanecitron::add(held, record, sheet).map(|rules| rules as u64).map_err(of_proved)
+    }
+
+    fn withdraw(&self, held: &mut [u8], relation: usize, sheet: &mut [u8]) -> Result<u64, Refused> {
+        vanecitron::withdraw(held, relation, sheet).map(|rules| rules as u64).map_err(of_proved)
+    }
+
+    fn book_of<'a>(&self, held: &'a [u8]) -> &'a [u8] {
+        vanecitron::book_of(held)
     }
 }
 

@@ -18,6 +18,13 @@ impl Lent {
         Lent { bytes: (0..size + 2 * GUARD).map(pattern).collect(), size }
     }
 
+    /// A buffer that has these bytes.
+    pub fn of(bytes: &[u8]) -> Lent {
+        let mut lent = Lent::new(bytes.len());
+        lent.slice().copy_from_slice(bytes);
+        lent
+    }
+
     /// What is lent.
     pub fn slice(&mut self) -> &mut [u8] {
         &mut self.bytes[GUARD..GUARD + self.size]

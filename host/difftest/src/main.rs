@@ -2,14 +2,14 @@
 
 use std::time::{Duration, Instant};
 
-use difftest::{chosen, trials, Entries, Tally, Trial};
+use difftest::{chosen, held_trials, trials, Entries, Tally, Trial};
 use gen::books::AT_THE_LIMITS;
 use gen::Chance;
 
 /// A trial by name.
 type Named = (&'static str, fn(&mut Trial, &mut Chance));
 
-const TRIALS: [Named; 27] = [
+const TRIALS: [Named; 31] = [
     ("generated books", |trial, chance| trials::generated_books(trial, chance, 1_000)),
     ("sheets", |trial, chance| trials::sheets(trial, chance, &trials::SHEETS, 1_000)),
     ("sheets, shared words", |trial, chance| trials::sheets(trial, chance, &trials::SHARED_SHEETS, 1_000)),
@@ -43,6 +43,10 @@ const TRIALS: [Named; 27] = [
         trials::least_of_joined_words(trial, chance, &trials::SHARED, 40, 200, 2_000);
     }),
     ("least at the limits", trials::least_at_the_limits),
+    ("held books loaded", |trial, chance| held_trials::loadings(trial, chance, 1_000)),
+    ("held books changed", |trial, chance| held_trials::held(trial, chance, &held_trials::STORIES, 16, 300)),
+    ("held books changed, at the limits", |trial, chance| held_trials::held(trial, chance, &held_trials::FULL, 4, 30)),
+    ("held books altered", |trial, chance| held_trials::altered(trial, chance, 9, 300)),
 ];
 
 fn main() {
@@ -59,6 +63,7 @@ fn main() {
     trials::heavy_programs(&mut trial);
     trials::two_letters(&mut trial, 9, 9);
     trials::least_of_two_letters(&mut trial, &mut Chance::new(seed), 9, 11);
+    held_trials::altered_at_the_limits(&mut trial);
     sum.add(&trial.tally);
     while Instant::now() < end {
         for (name, run) in TRIALS {

@@ -2,10 +2,16 @@
 
 use std::fmt;
 
+use gen::stories::Change;
 use reference::book::Accepted;
-use reference::families::distinct;
+use reference::families::{distinct, families, number_of};
 use reference::rows::{clean_front, member_in_front, member_of_next_tail};
 use reference::Word;
+
+use crate::entries::Refused;
+
+/// How often each number of a refusal was met.
+pub type Numbers = [u64; 16];
 
 /// What relations that share a word bring.
 #[derive(Debug, Clone, Default)]
@@ -50,6 +56,141 @@ impl fmt::Display for Shared {
     }
 }
 
+/// What loadings and changes of held books bring.
+#[derive(Debug, Clone, Default)]
+pub struct Held {
+    /// accepted loadings, additions and withdrawals
+    pub loaded: u64,
+    pub added: u64,
+    pub withdrawn: u64,
+    /// refusals of loadings, of what a change finds in the buffer, and of additions and withdrawals where what it finds is a book
+    pub refused_loadings: Numbers,
+    pub refused_finds: Numbers,
+    pub refused_additions: Numbers,
+    pub refused_withdrawals: Numbers,
+    /// additions refused by 8 at an old side, and at a new one
+    pub loose_sides: [u64; 2],
+    /// additions that make a 32nd relation
+    pub filled: u64,
+    /// withdrawals of the first relation of several, of one between, of the last, and of the only one
+    pub withdrawn_places: [u64; 4],
+    /// withdrawals of the only bridge between two members of a family, both of which stay
+    pub bridges: u64,
+    /// sheets' buffers: just enough, longer; refused by 12 a byte short, and with no bytes
+    pub rooms: [u64; 4],
+    /// changes that the count has no room for
+    pub uncounted: u64,
+}
+
+impl Held {
+    /// Counts a loading.
+    pub fn meet_loading(&mut self, result: &Result<u64, Refused>) {
+        match result {
+            Ok(_) => self.loaded += 1,
+            Err((number, _)) => self.refused_loadings[*number as usize] += 1,
+        }
+    }
+
+    /// Counts a change of what was held before it.
+    pub fn meet_change(&mut self, held: &[u8], change: &Change, result: &Result<u64, Refused>) {
+        let book = match reference::held::taken_up(held) {
+            Ok(book) => book,
+            Err(refusal) => return self.refused_finds[refusal.number as usize] += 1,
+        };
+        let relations = book.sides.len() / 2;
+        match (change, result) {
+            (Change::Add { .. }, Ok(now)) => {
+                self.added += 1;
+                self.filled += (*now == 32) as u64;
+            }
+            (Change::Add { .. }, Err((number, place))) => {
+                self.refused_additions[*number as usize] += 1;
+                if *number == 8 {
+                    self.loose_sides[(*place as usize >= book.sides.len()) as usize] += 1;
+                }
+            }
+            (Change::Withdraw { relation, .. }, Ok(_)) => {
+                self.withdrawn += 1;
+                self.withdrawn_places[place_of(*relation, relations)] += 1;
+                self.bridges += is_bridge(&book.sides, *relation) as u64;
+            }
+            (Change::Withdraw { .. }, Err((number, _))) => self.refused_withdrawals[*number as usize] += 1,
+        }
+        let (size, needed) = match change {
+            Change::Add { size, .. } => (*size, 8 * (relations + 1)),
+            Change::Withdraw { size, .. } => (*size, 8 * relations.saturating_sub(1)),
+        };
+        match result {
+            Ok(_) => {
+                self.rooms[(size > needed) as usize] += 1;
+                self.uncounted += (reference::held::changes_of(held) == 65_535) as u64;
+            }
+            Err((12, 0)) => {
+                self.rooms[2] += (size + 1 == needed) as u64;
+                self.rooms[3] += (size == 0) as u64;
+            }
+            Err(_) => {}
+        }
+    }
+
+    fn add(&mut self, other: &Held) {
+        self.loaded += other.loaded;
+        self.added += other.added;
+        self.withdrawn += other.withdrawn;
+        add_all(&mut self.refused_loadings, &other.refused_loadings);
+        add_all(&mut self.refused_finds, &other.refused_finds);
+        add_all(&mut self.refused_additions, &other.refused_additions);
+        add_all(&mut self.refused_withdrawals, &other.refused_withdrawals);
+        add_all(&mut self.loose_sides, &other.loose_sides);
+        self.filled += other.filled;
+        add_all(&mut self.withdrawn_places, &other.withdrawn_places);
+        self.bridges += other.bridges;
+        add_all(&mut self.rooms, &other.rooms);
+        self.uncounted += other.uncounted;
+    }
+}
+
+impl fmt::Display for Held {
+    fn fmt(&self, f: &mut fmt::Formatter<'_>) -> fmt::Result {
+        write!(f, "held books loaded {}, added to {}, withdrawn from {}", self.loaded, self.added, self.withdrawn)?;
+        write!(f, "; refusals by number of loadings {:?}, of what is found {:?}", &self.refused_loadings[1..], &self.refused_finds[1..])?;
+        write!(f, ", of additions {:?}, of withdrawals {:?}", &self.refused_additions[1..], &self.refused_withdrawals[1..])?;
+        let [old, new] = self.loose_sides;
+        write!(f, "; additions refused by 8 at an old side {old}, at a new one {new}, that fill a book {}", self.filled)?;
+        let [first, between, last, only] = self.withdrawn_places;
+        write!(f, "; withdrawn: the first {first}, between {between}, the last {last}, the only {only}, bridges {}", self.bridges)?;
+        let [exact, longer, short, none] = self.rooms;
+        write!(f, "; sheets in buffers just enough {exact}, longer {longer}, a byte short {short}, of none {none}; uncounted {}", self.uncounted)
+    }
+}
+
+/// Where a relation stands: the first of several, between others, the last, or the only one.
+fn place_of(relation: usize, relations: usize) -> usize {
+    match relation {
+        _ if relations == 1 => 3,
+        0 => 0,
+        _ if relation == relations - 1 => 2,
+        _ => 1,
+    }
+}
+
+/// Without this relation its two words still stand on sides, and are of two families.
+pub fn is_bridge(sides: &[Word], relation: usize) -> bool {
+    let (left, right) = (&sides[2 * relation], &sides[2 * relation + 1]);
+    let rest = [&sides[..2 * relation], &sides[2 * relation + 2..]].concat();
+    let words = distinct(&rest);
+    if left == right || !words.contains(&left) || !words.contains(&right) {
+        return false;
+    }
+    !families(&rest)[number_of(&words, left)].contains(&number_of(&words, right))
+}
+
+fn add_all(sums: &mut [u64], more: &[u64]) {
+    for (sum, more) in sums.iter_mut().zip(more) {
+        *sum += more;
+    }
+}
+
 /// Counts of what was tried and what came out.
 #[derive(Debug, Clone, Default)]
 pub struct Tally {
@@ -60,7 +201,7 @@ pub struct Tally {
     /// rounds by the row that fitted
     pub rows: [u64; 9],
     /// refusals by number
-    pub refused: [u64; 15],
+    pub refused: Numbers,
     /// pairs of words that breadth-first search judged
     pub searched: u64,
     /// sides on sheets by their number of pieces: 4, 5, 6, 7, 8 and more, and none
@@ -69,6 +210,8 @@ pub struct Tally {
     pub least: [u64; 4],
     /// what relations that share a word bring
     pub shared: Shared,
+    /// what loadings and changes of held books bring
+    pub held: Held,
 }
 
 impl Tally {
@@ -118,23 +261,16 @@ impl Tally {
 
     pub fn add(&mut self, other: &Tally) {
         self.shared.add(&other.shared);
+        self.held.add(&other.held);
         self.calls += other.calls;
         self.accepted += other.accepted;
         self.same += other.same;
         self.different += other.different;
         self.searched += other.searched;
-        for (sum, more) in self.rows.iter_mut().zip(other.rows) {
-            *sum += more;
-        }
-        for (sum, more) in self.refused.iter_mut().zip(other.refused) {
-            *sum += more;
-        }
-        for (sum, more) in self.numbers.iter_mut().zip(other.numbers) {
-            *sum += more;
-        }
-        for (sum, more) in self.least.iter_mut().zip(other.least) {
-            *sum += more;
-        }
+        add_all(&mut self.rows, &other.rows);
+        add_all(&mut self.refused, &other.refused);
+        add_all(&mut self.numbers, &other.numbers);
+        add_all(&mut self.least, &other.least);
     }
 }
 
@@ -145,6 +281,6 @@ impl fmt::Display for Tally {
         let [four, five, six, seven, more, none] = self.numbers;
         write!(f, "; sides on sheets by number: {four} of 4, {five} of 5, {six} of 6, {seven} of 7, {more} of more, {none} of none")?;
         let [kept, longer, shorter, other] = self.least;
-        write!(f, "; least words: {kept} the given one, {longer} longer, {shorter} shorter, {other} others; {}", self.shared)
+        write!(f, "; least words: {kept} the given one, {longer} longer, {shorter} shorter, {other} others; {}; {}", self.shared, self.held)
     }
 }

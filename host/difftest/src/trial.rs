@@ -25,7 +25,7 @@ pub type Known = Result<Accepted, Refusal>;
 /// What is known of a least word: the word itself, or the refusal of the book or of the given word.
 pub type KnownLeast = Result<Vec<u8>, Refused>;
 
-fn of_reference(refusal: Refusal) -> Refused {
+pub(crate) fn of_reference(refusal: Refusal) -> Refused {
     (refusal.number, refusal.place)
 }
 
@@ -40,7 +40,7 @@ impl<'a> Trial<'a> {
         Trial { entries, tally: Tally::default() }
     }
 
-    fn met<T>(&mut self, result: &Result<T, Refused>) {
+    pub(crate) fn met<T>(&mut self, result: &Result<T, Refused>) {
         self.tally.calls += 1;
         if let Err((number, _)) = result {
             self.tally.refused[*number as usize] += 1;

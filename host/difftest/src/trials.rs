@@ -27,7 +27,7 @@ pub const SHARED_SMALL: [Make; 1] = [shared::small];
 pub const SHARED_CLASSES: [Make; 4] = [shared::any, shared::linked, shared::apart, shared::small];
 
 /// A book that the reference accepts, with its bytes.
-fn accepted(trial: &mut Trial, chance: &mut Chance, make: Make) -> (Book, Vec<u8>, Known) {
+pub(crate) fn accepted(trial: &mut Trial, chance: &mut Chance, make: Make) -> (Book, Vec<u8>, Known) {
     loop {
         let book = make(chance);
         let bytes = book.bytes();

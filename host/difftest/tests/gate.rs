@@ -1,6 +1,7 @@
 //! The fixed part of the differential tests: fixed seeds and sizes, some tens of seconds.
 
-use difftest::{chosen, trials, Tally, Trial};
+use difftest::tally::Numbers;
+use difftest::{chosen, held_trials, trials, Tally, Trial};
 use gen::books::AT_THE_LIMITS;
 use gen::Chance;
 
@@ -188,4 +189,44 @@ fn least_words_where_words_are_shared() {
     assert!(tally.searched > 10_000 && tally.shared.families > 20, "{}", tally.shared);
     let tally = tried(33, |trial, chance| trials::least_of_joined_words(trial, chance, &trials::SHARED, 100, 120, 1_000));
     assert!(tally.same > 200 && tally.different > 50 && tally.shared.families > 50, "{}", tally.shared);
+}
+
+/// The numbers of refusals that were met fewer than `least` times.
+fn seldom(refused: &Numbers, numbers: &[usize], least: u64) -> Vec<usize> {
+    numbers.iter().copied().filter(|&number| refused[number] < least).collect()
+}
+
+#[test]
+fn held_books_loaded() {
+    let held = tried(34, |trial, chance| held_trials::loadings(trial, chance, 3_000)).held;
+    assert!(held.loaded > 500, "{held}");
+    assert_eq!(seldom(&held.refused_loadings, &[1, 2, 3, 4, 5, 6, 8, 12], 20), [], "{held}");
+}
+
+#[test]
+fn held_books_changed() {
+    let held = tried(35, |trial, chance| held_trials::held(trial, chance, &held_trials::STORIES, 64, 300)).held;
+    assert!(held.added > 2_000 && held.withdrawn > 2_000, "{held}");
+    assert_eq!(seldom(&held.refused_additions, &[1, 2, 3, 4, 5, 6, 8, 12], 50), [], "{held}");
+    assert_eq!(seldom(&held.refused_withdrawals, &[12, 15], 50), [], "{held}");
+    assert!(held.loose_sides.iter().all(|&met| met > 50), "{held}");
+    assert!(held.filled > 100 && held.refused_additions[6] > held.filled && held.bridges > 100, "{held}");
+    assert!(held.withdrawn_places.iter().all(|&met| met > 20), "{held}");
+    assert!(held.rooms.iter().all(|&met| met > 50), "{held}");
+}
+
+#[test]
+fn held_books_at_the_limits() {
+    let held = tried(36, |trial, chance| held_trials::held(trial, chance, &held_trials::FULL, 8, 30)).held;
+    assert!(held.added > 20 && held.withdrawn > 20 && held.filled > 5 && held.refused_additions[6] > 5, "{held}");
+    tried(37, |trial, _| held_trials::altered_at_the_limits(trial));
+}
+
+#[test]
+fn held_books_altered() {
+    let held = tried(38, |trial, chance| held_trials::altered(trial, chance, 30, 300)).held;
+    assert!(held.added > 500 && held.withdrawn > 500 && held.uncounted > 20, "{held}");
+    assert_eq!(seldom(&held.refused_finds, &[1, 2, 3, 4, 5, 6, 12], 50), [], "{held}");
+    assert_eq!(seldom(&held.refused_additions, &[5, 8, 12], 20), [], "{held}");
+    assert_eq!(seldom(&held.refused_withdrawals, &[8, 12, 15], 20), [], "{held}");
 }

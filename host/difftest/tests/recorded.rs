@@ -1,9 +1,11 @@
-//! The recorded calls and inputs, and document 01's bench cases, with answers that are written down: the reference has no part in these.
+//! The recorded calls and inputs, the executed changes of held books, and document 01's bench cases, with answers that are written down: the reference has no part in
+//! these.
 
 use difftest::entries::{Compared, Refused, Rounded};
 use difftest::trial::{SHEET, SHEET_SIDE};
 use difftest::{chosen, Entries};
 use gen::{books, Book};
+use vectors::held::{told, Answer, Holder};
 use vectors::{bytes, hex, Call};
 
 fn refused((number, place): Refused) -> String {
@@ -15,6 +17,23 @@ fn compared(answer: Result<Compared, Refused>) -> String {
         Ok(Compared::Same(count)) => format!("same {count}"),
         Ok(Compared::Different(count)) => format!("different {count}"),
         Err(refusal) => refused(refusal),
+    }
+}
+
+/// The entries of held books.
+struct Held<'a>(&'a dyn Entries);
+
+impl Holder for Held<'_> {
+    fn load(&self, book: &[u8], held: &mut [u8]) -> Answer {
+        self.0.load(book, held)
+    }
+
+    fn add(&self, held: &mut [u8], record: &[u8], sheet: &mut [u8]) -> Answer {
+        self.0.add(held, record, sheet)
+    }
+
+    fn withdraw(&self, held: &mut [u8], rule: usize, sheet: &mut [u8]) -> Answer {
+        self.0.withdraw(held, rule, sheet)
     }
 }
 
@@ -43,6 +62,7 @@ fn answer(entries: &dyn Entries, call: &Call) -> String {
             let length = entries.least(book, word, &mut buffer, *offset);
             length.map_or_else(refused, |length| format!("least {length} {}", hex(&buffer[*offset..][..length as usize])))
         }
+        Call::Held { book, changes } => told(&Held(entries), book, changes),
     }
 }
 
@@ -56,6 +76,15 @@ fn printed(entries: &dyn Entries, input: &[u8]) -> String {
 fn recorded_calls() {
     for recorded in vectors::calls() {
         assert_eq!(answer(&chosen(), &recorded.call), recorded.answer, "{}", recorded.line);
+    }
+}
+
+#[test]
+fn executed_changes_of_held_books() {
+    let stories: Vec<_> = vectors::executed().into_iter().filter(|case| case.line.starts_with("held ")).collect();
+    assert!(stories.len() > 100, "{} lines", stories.len());
+    for case in stories {
+        assert_eq!(answer(&chosen(), &vectors::call(&case.line)), case.answer, "{}", case.line);
     }
 }
 

@@ -4,10 +4,11 @@
 //! and each word that of its family and a link to the next member. One row of common fronts, updated in place, gives the
 //! longest piece that starts at each place of the text; C(4), the cuts and the numbers of pieces are read off that table. A comparison finds relation
 //! words by an index and holds each of its words as a part of the text followed by the rest of a given word, in three numbers, and copies nothing; so does
-//! the least word.
+//! the least word. A change of a held book makes the new book in an array, and checks it as any other.
 //!
 //! Document 01's words: a step is a letter, a run a word, a side a relation word, a rule a relation, a book a presentation.
 
+mod held;
 mod index;
 mod least;
 mod pieces;
@@ -15,6 +16,7 @@ mod program;
 mod reader;
 mod rounds;
 
+pub use held::{add, book_of, load, withdraw, HELD};
 pub use least::least;
 pub use program::{program, OUTPUT};
 pub use rounds::{compare, round, Comparison, RoundEnd};

@@ -10,6 +10,9 @@ const SIDE: usize = 64;
 pub const SIDES: usize = 2 * RELATIONS;
 pub const TEXT: usize = SIDES * (SIDE + 1);
 
+/// The most bytes of a book.
+pub const BOOK: usize = 5 + RELATIONS * (6 + 2 * SIDE);
+
 /// Where a relation word and its parts lie in the text, its number of pieces, and its family.
 #[derive(Debug, Clone, Copy, Default)]
 pub struct Word {
@@ -129,12 +132,25 @@ pub fn two_bytes(bytes: &[u8], at: usize) -> usize {
 
 /// Reads the records in turn, each in the order 1, 2, 6, 3, 4, 5.
 pub fn read(bytes: &[u8], laid: &mut Laid) -> Result<(), Refusal> {
-    let mut at = read_head(bytes, laid)?;
+    let mut at = read_head(bytes)?;
+    laid.letters = bytes[4];
     while at < bytes.len() {
-        at = read_rule(bytes, at, laid)?;
+        let (left, end) = read_rule(bytes, at, laid.letters, laid.relations())?;
+        laid.lay_relation(&bytes[at + 6..left], &bytes[left..end]);
+        at = end;
     }
     laid.link();
     Ok(())
+}
+
+/// The same with nothing laid: the numbers of letters and of relations.
+pub fn scan(bytes: &[u8]) -> Result<(u8, usize), Refusal> {
+    let (mut at, mut relations) = (read_head(bytes)?, 0);
+    while at < bytes.len() {
+        (_, at) = read_rule(bytes, at, bytes[4], relations)?;
+        relations += 1;
+    }
+    Ok((bytes[4], relations))
 }
 
 /// The end of the record at this place, and its kind.
@@ -150,7 +166,8 @@ pub fn record(bytes: &[u8], at: usize) -> Result<(usize, usize), Refusal> {
     Ok((end, two_bytes(bytes, at + 2)))
 }
 
-fn read_head(bytes: &[u8], laid: &mut Laid) -> Result<usize, Refusal> {
+/// The end of the head.
+fn read_head(bytes: &[u8]) -> Result<usize, Refusal> {
     let (end, kind) = record(bytes, 0)?;
     if kind != 1 {
         return refuse(2, 0);
@@ -158,22 +175,44 @@ fn read_head(bytes: &[u8], laid: &mut Laid) -> Result<usize, Refusal> {
     if end != 5 {
         return refuse(3, 0);
     }
-    laid.letters = bytes[4];
-    if laid.letters == 0 || laid.letters > LETTERS {
+    if bytes[4] == 0 || bytes[4] > LETTERS {
         return refuse(4, 0);
     }
     Ok(end)
 }
 
-fn read_rule(bytes: &[u8], at: usize, laid: &mut Laid) -> Result<usize, Refusal> {
+/// Where the right side of a relation begins, and its end; so many relations stand before it.
+#[inline]
+fn read_rule(bytes: &[u8], at: usize, letters: u8, relations: usize) -> Result<(usize, usize), Refusal> {
     let (end, kind) = record(bytes, at)?;
     if kind != 2 {
         return refuse(2, at);
     }
-    if laid.relations() == RELATIONS {
+    if relations == RELATIONS {
         return refuse(6, at);
     }
-    let payload = &bytes[at + 4..end];
+    let left = fields(&bytes[at + 4..end], at, letters)?;
+    Ok((at + 6 + left, end))
+}
+
+/// A relation that is given apart from its book, which has so many letters and relations, as one record and nothing behind it: 1, 2, 6, 3, 4, 5, all at this place.
+pub fn read_apart(bytes: &[u8], place: usize, letters: u8, relations: usize) -> Result<(), Refusal> {
+    let Ok((end, kind)) = record(bytes, 0) else { return refuse(1, place) };
+    if kind != 2 {
+        return refuse(2, place);
+    }
+    if relations == RELATIONS {
+        return refuse(6, place);
+    }
+    if end < bytes.len() {
+        return refuse(3, place);
+    }
+    fields(&bytes[4..end], place, letters).map(|_| ())
+}
+
+/// 3, 4 and 5 of a relation's payload, and the length of its left side.
+#[inline]
+fn fields(payload: &[u8], at: usize, letters: u8) -> Result<usize, Refusal> {
     if payload.len() < 2 {
         return refuse(3, at);
     }
@@ -184,10 +223,8 @@ fn read_rule(bytes: &[u8], at: usize, laid: &mut Laid) -> Result<usize, Refusal>
     if m == 0 || m > SIDE || n == 0 || n > SIDE {
         return refuse(4, at);
     }
-    let letters = laid.letters;
     if payload[2..].iter().fold(0, |most, &code| most.max(code)) >= letters {
         return refuse(5, at);
     }
-    laid.lay_relation(&payload[2..2 + m], &payload[2 + m..]);
-    Ok(end)
+    Ok(m)
 }

@@ -1,6 +1,8 @@
-//! Agrees with the reference on generated books, words, rounds, least words, damage and program inputs, and on the recorded vectors.
+//! Agrees with the reference on generated books, words, rounds, least words, damage, program inputs and changes of held books, and on the recorded vectors.
 
-use gen::{books, damage, inputs, shared, words, Chance};
+use gen::stories::{Change, Story};
+use gen::{books, damage, inputs, shared, words, Book, Chance};
+use vectors::held::{told, Answer, Holder};
 use vectors::Call;
 
 type Refused = (u32, u64);
@@ -70,6 +72,39 @@ fn program(input: &[u8]) {
     let mut output = vec![0; fast::OUTPUT];
     let length = fast::program(input, &mut output).expect("room enough");
     assert_eq!(String::from_utf8_lossy(&output[..length]), String::from_utf8_lossy(&reference::program(input)));
+}
+
+/// The fast version as what loads and changes held books.
+struct Fast;
+
+impl Holder for Fast {
+    fn load(&self, book: &[u8], held: &mut [u8]) -> Answer {
+        fast::load(book, held).map_err(ours)
+    }
+
+    fn add(&self, held: &mut [u8], record: &[u8], sheet: &mut [u8]) -> Answer {
+        fast::add(held, record, sheet).map_err(ours)
+    }
+
+    fn withdraw(&self, held: &mut [u8], rule: usize, sheet: &mut [u8]) -> Answer {
+        fast::withdraw(held, rule, sheet).map_err(ours)
+    }
+}
+
+/// A change of what is held. The answer, and every byte of both buffers, are as they should be.
+fn change(held: &mut Vec<u8>, change: &Change) -> Result<u64, Refused> {
+    let (Change::Add { size, .. } | Change::Withdraw { size, .. }) = *change;
+    let (mut other_held, mut sheets) = (held.clone(), [vec![170; size], vec![170; size]]);
+    let [one, two] = &mut sheets;
+    let (answer, expected) = match change {
+        Change::Add { record, .. } => (fast::add(held, record, one), reference::add(&mut other_held, record, two)),
+        Change::Withdraw { relation, .. } => (fast::withdraw(held, *relation, one), reference::withdraw(&mut other_held, *relation, two)),
+    };
+    let expected = expected.map_err(theirs);
+    assert_eq!(answer.map_err(ours), expected, "{change:?}");
+    assert_eq!((&*held, one), (&other_held, two), "{change:?}");
+    assert_eq!(fast::book_of(held), reference::book_of(held), "{change:?}");
+    expected
 }
 
 #[test]
@@ -243,12 +278,43 @@ fn on_program_inputs() {
 }
 
 #[test]
+fn on_held_books() {
+    let mut chance = Chance::new(9);
+    let (mut added, mut withdrawn, mut refused) = (0, 0, [0; 16]);
+    for case in 0..120 {
+        let kinds = [books::marked, books::of_many_numbers, shared::any, shared::linked, shared::large];
+        let book = kinds[case % kinds.len()](&mut chance);
+        if reference::check(&book.bytes()).is_err() {
+            continue;
+        }
+        let mut story = Story::new(&mut chance, &book);
+        let mut held = vec![170; fast::HELD + chance.below(3)];
+        fast::load(&story.book.bytes(), &mut held).expect("words of an accepted book");
+        for _ in 0..100 {
+            let read = reference::book::read(fast::book_of(&held)).expect("what is held is a book");
+            let next = story.change(&mut chance, &Book::new(read.letters, read.sides));
+            match (change(&mut held, &next), next) {
+                (Ok(_), Change::Add { .. }) => added += 1,
+                (Ok(_), Change::Withdraw { .. }) => withdrawn += 1,
+                (Err((number, _)), _) => refused[number as usize] += 1,
+            }
+        }
+    }
+    assert!(added > 1_000 && withdrawn > 1_000, "{added} added, {withdrawn} withdrawn");
+    let seldom: Vec<usize> = [1, 2, 3, 4, 5, 6, 8, 12, 15].into_iter().filter(|&number| refused[number] < 50).collect();
+    assert_eq!(seldom, [], "refusals that are hardly met: {refused:?}");
+}
+
+#[test]
 fn on_recorded_vectors() {
     for run in vectors::runs() {
         program(&run.input);
     }
     for recorded in vectors::calls() {
         let book = recorded.call.book();
+        if let Call::Held { changes, .. } = &recorded.call {
+            assert_eq!(told(&Fast, book, changes), recorded.answer, "{}", recorded.line);
+        }
         sheet(book, SHEET + 8);
         let Some(accepted) = check(book) else { continue };
         match &recorded.call {
@@ -263,6 +329,7 @@ fn on_recorded_vectors() {
                 assert_eq!(answer.unwrap_or_else(|(number, place)| format!("refused {number} {place}")), recorded.answer, "{}", recorded.line)
             }
             Call::Sheet { size, .. } => sheet(book, *size),
+            Call::Held { .. } => {}
         }
     }
 }

@@ -54,7 +54,7 @@ fn shuffled<T>(chance: &mut Chance, mut items: Vec<T>) -> Vec<T> {
 }
 
 /// The words, none of them twice.
-fn distinct(words: &[Vec<u8>]) -> Vec<Vec<u8>> {
+pub fn distinct(words: &[Vec<u8>]) -> Vec<Vec<u8>> {
     let mut kept: Vec<Vec<u8>> = Vec::new();
     for word in words {
         if !kept.contains(word) {

@@ -2,10 +2,32 @@
 
 use reference::entries::find_least;
 use reference::{accept, book, check, compare, cut_sheet, least, program, round, Comparison, Refusal, RoundEnd};
+use vectors::held::{told, Answer, Holder};
 use vectors::{bytes, call, hex, Call, Case};
 
 fn refused(refusal: Refusal) -> String {
     format!("refused {} {}", refusal.number, refusal.place)
+}
+
+/// The reference as what loads and changes held books.
+struct Reference;
+
+fn numbers(refusal: Refusal) -> (u32, u64) {
+    (refusal.number, refusal.place)
+}
+
+impl Holder for Reference {
+    fn load(&self, book: &[u8], held: &mut [u8]) -> Answer {
+        reference::load(book, held).map_err(numbers)
+    }
+
+    fn add(&self, held: &mut [u8], record: &[u8], sheet: &mut [u8]) -> Answer {
+        reference::add(held, record, sheet).map_err(numbers)
+    }
+
+    fn withdraw(&self, held: &mut [u8], rule: usize, sheet: &mut [u8]) -> Answer {
+        reference::withdraw(held, rule, sheet).map_err(numbers)
+    }
 }
 
 /// The answer to a call as it is recorded.
@@ -36,6 +58,7 @@ fn answer(call: &Call) -> String {
             least(book, word, &mut buffer, *offset)
                 .map_or_else(refused, |length| format!("least {length} {}", hex(&buffer[*offset..][..length as usize])))
         }
+        Call::Held { book, changes } => told(&Reference, book, changes),
     }
 }
 

@@ -1,4 +1,4 @@
-//! The specification's example, book Q, through every function of the library: `cargo run --offline --release -p vanecitron --example compare`.
+//! The specification's example, book Q, through every function but those of a held book: `cargo run --offline --release -p vanecitron --example compare`.
 
 use std::error::Error;
 

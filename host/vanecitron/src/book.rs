@@ -1,11 +1,16 @@
-//! The bytes of a book, and of comparisons behind it (docs/SPECIFICATION.md, "Book bytes" and "The program"). Plain Rust, outside the proof.
+//! The bytes of a book, of comparisons behind it, and of a rule alone (docs/SPECIFICATION.md, "Book bytes" and "The program"). Plain Rust, outside the proof.
 
 use core::fmt;
 
-use crate::{RULES, SIDE};
+use crate::{BOOK_MOST, RULES, SIDE};
 
-/// The most bytes of a book that is accepted.
-pub const BOOK: usize = 5 + RULES * (6 + 2 * SIDE);
+/// A buffer of so many bytes has room for every book that is accepted; it is [`BOOK_MOST`].
+pub const BOOK: usize = 5 + RULES * RULE;
+
+/// The most bytes of the record of a rule that is accepted.
+pub const RULE: usize = 6 + 2 * SIDE;
+
+const _: () = assert!(BOOK == BOOK_MOST);
 
 /// A record does not fit: the buffer has no room for it, or a run is longer than its field can say.
 #[derive(Debug, Clone, Copy, PartialEq, Eq, Hash)]
@@ -80,4 +85,19 @@ impl<'a> BookWriter<'a> {
         self.lent[self.length..][..bytes.len()].copy_from_slice(bytes);
         self.length += bytes.len();
     }
+}
+
+/// Writes the record of a rule alone into a lent buffer, for [`add`](crate::add), and gives its bytes. [`RULE`] bytes are room for every rule that is accepted.
+///
+/// ```
+/// use vanecitron::{rule_record, RULE};
+///
+/// let mut bytes = [0; RULE];
+/// assert_eq!(rule_record(&mut bytes, &[0, 1], &[2])?, [5, 0, 2, 0, 2, 1, 0, 1, 2]);
+/// # Ok::<(), vanecitron::NoRoom>(())
+/// ```
+pub fn rule_record<'a>(lent: &'a mut [u8], left: &[u8], right: &[u8]) -> Result<&'a [u8], NoRoom> {
+    let mut alone = BookWriter { lent, length: 0 };
+    alone.rule(left, right)?;
+    Ok(&alone.lent[..alone.length])
 }

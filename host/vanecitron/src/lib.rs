@@ -1,15 +1,16 @@
 //! Safe Rust functions over the proved library: the C(4) check of a book, its cut sheet, the comparison of two runs, one single round of it, the least
-//! run that exchanges make of a run, and the whole program as bytes to bytes.
+//! run that exchanges make of a run, the whole program as bytes to bytes, and a book that is held and changed rule by rule.
 //!
 //! A step is a byte below the book's number of letters; a run is a slice of steps; a rule has two sides, which are runs. A book is given as bytes
 //! (docs/SPECIFICATION.md, "Book bytes"), which [`BookWriter`] writes.
 //!
 //! Every call is reentrant, and a refusal leaves every lent byte as it was. Every call checks its book again, since nothing is kept between calls: under
 //! a microsecond for a book of one rule with sides of 4 steps, 3 microseconds for one with sides of 64, and 0.8 milliseconds for a full book, 32 such rules
-//! (docs/DECISIONS.md, "Cost grows"). [`program_into`] checks its book once for all comparisons of its input.
+//! (docs/DECISIONS.md, "Cost grows"). [`program_into`] checks its book once for all comparisons of its input. A change of a held book, by [`add`] or
+//! [`withdraw`], costs one check, that of the new book, which gives its sheet too.
 //!
-//! The crate needs `core` alone. The functions whose names end in `_into` write to buffers that the caller lends; those that allocate what they give back
-//! come with the feature `alloc`, which is on unless it is turned off.
+//! The crate needs `core` alone. The functions whose names end in `_into`, and those on a held book, write to buffers that the caller lends; those that
+//! allocate what they give back, and `HeldBook`, come with the feature `alloc`, which is on unless it is turned off.
 //!
 //! ```
 //! use vanecitron::{ample_allowance, compare, cut_sheet_into, BookWriter, Comparison, BOOK, SHEET, SHEET_SIDE};
@@ -38,16 +39,18 @@
 extern crate alloc;
 
 mod book;
+mod held;
 #[cfg(feature = "alloc")]
 mod owned;
 mod raw;
 mod refusal;
 mod sheet;
 
-pub use book::{BookWriter, NoRoom, BOOK};
+pub use book::{rule_record, BookWriter, NoRoom, BOOK, RULE};
+pub use held::{add, book_of, changes, load, withdraw};
 #[cfg(feature = "alloc")]
-pub use owned::{cut_sheet, least, program, round, Round};
-pub use refusal::{Place, Reason, Refusal, Run, PLACE_SPACING};
+pub use owned::{cut_sheet, least, program, round, HeldBook, Round};
+pub use refusal::{Place, Reason, Refusal, Run, HELD_BUFFER, PLACE_SPACING};
 pub use sheet::{cuts, Cut, PieceCount};
 
 /// The most letters of a book.
@@ -56,6 +59,8 @@ pub const LETTERS: usize = 64;
 pub const RULES: usize = 32;
 /// The most steps of a side.
 pub const SIDE: usize = 64;
+/// The most bytes of a book that is accepted.
+pub const BOOK_MOST: usize = 4_293;
 /// The most steps of a run that is compared, or whose least run is asked for.
 pub const RUN: usize = 4_096;
 /// The most steps of the single round's u and v.
@@ -88,6 +93,10 @@ pub const LEAST: usize = 262_144;
 pub const INPUT: usize = 60_000;
 /// The least size of the buffer lent for the program's output.
 pub const OUTPUT: usize = 110_022;
+/// The least size of the buffer lent for a held book, whatever its rules.
+pub const HELD: usize = 4_297;
+/// The most that a held book's count of changes says: it then stays as it is, and there may have been more.
+pub const CHANGES_MOST: u64 = 65_535;
 
 /// A comparison's answer, with the count of rounds.
 #[derive(Debug, Clone, Copy, PartialEq, Eq, Hash)]

@@ -1,10 +1,12 @@
-//! The functions that allocate what they give back.
+//! The functions that allocate what they give back, and a held book that owns its buffer.
 
+use alloc::boxed::Box;
 use alloc::vec;
 use alloc::vec::Vec;
+use core::fmt;
 
-use crate::{cut_sheet_into, cuts, least_into, program_into, round_into, Cut, Refusal, RoundLengths};
-use crate::{NEXT_MARK, NEXT_RUN, OUTPUT, RUN, SHEET, SHEET_SIDE, SIDE};
+use crate::{add, book_of, changes, cut_sheet_into, cuts, least_into, load, program_into, round_into, withdraw, Cut, Refusal, RoundLengths};
+use crate::{HELD, NEXT_MARK, NEXT_RUN, OUTPUT, RUN, SHEET, SHEET_SIDE, SIDE};
 
 /// What a single round gives: the end, or the next u, v and p.
 #[derive(Debug, Clone, PartialEq, Eq, Hash)]
@@ -96,4 +98,74 @@ pub fn program(input: &[u8]) -> Result<Vec<u8>, Refusal> {
     let length = program_into(input, &mut output)?;
     output.truncate(length);
     Ok(output)
+}
+
+/// A held book in a buffer of its own: a book that is accepted, and that a rule can be added to and withdrawn from. A change that is refused leaves it as
+/// it was. [`load`](crate::load) and the functions beside it do the same over a lent array, for `core` alone.
+///
+/// ```
+/// use vanecitron::{compare, rule_record, Comparison, HeldBook, Place, Reason, RULE};
+///
+/// // four letters, and the rule abdc = cadb
+/// let mut held = HeldBook::load(&[1, 0, 1, 0, 4, 10, 0, 2, 0, 4, 4, 0, 1, 3, 2, 2, 0, 3, 1])?;
+///
+/// // with cadb = bcda beside it, abdc and bcda are of one family
+/// let (u, v) = ([0, 1, 3, 2], [1, 2, 3, 0]);
+/// let mut bytes = [0; RULE];
+/// let cuts = held.add(rule_record(&mut bytes, &[2, 0, 3, 1], &v)?)?;
+/// assert_eq!(cuts.len(), 4);
+/// assert_eq!(compare(held.book(), &u, &v, 100)?, Comparison::Same { rounds: 2 });
+///
+/// // a = aa is loose, on side 4 of the book that it would make
+/// let refusal = held.add(rule_record(&mut bytes, &[0], &[0, 0])?).unwrap_err();
+/// assert_eq!((refusal.reason, refusal.place), (Reason::Loose, Place::Side(4)));
+/// assert_eq!((held.book().len(), held.changes()), (33, 1));
+///
+/// // without abdc = cadb there is one rule left, cadb = bcda
+/// assert_eq!(held.withdraw(0)?.len(), 2);
+/// assert_eq!(compare(held.book(), &u, &v, 100)?, Comparison::Different { rounds: 0 });
+/// # Ok::<(), Box<dyn std::error::Error>>(())
+/// ```
+#[derive(Clone)]
+pub struct HeldBook {
+    held: Box<[u8]>,
+}
+
+impl HeldBook {
+    /// Checks a book and holds it.
+    pub fn load(book: &[u8]) -> Result<HeldBook, Refusal> {
+        let mut held = vec![0; HELD].into_boxed_slice();
+        load(book, &mut held)?;
+        Ok(HeldBook { held })
+    }
+
+    /// Adds a rule, given as its record and nothing else, behind the others; gives the cut of each side of the new book in order.
+    pub fn add(&mut self, record: &[u8]) -> Result<Vec<Cut>, Refusal> {
+        let mut sheet = [0; SHEET];
+        let rules = add(&mut self.held, record, &mut sheet)?;
+        Ok(cuts(&sheet[..2 * SHEET_SIDE * rules]).collect())
+    }
+
+    /// Withdraws a rule by its index from 0; gives the cut of each side of the new book in order. It is refused by 15 alone: there is no such rule.
+    pub fn withdraw(&mut self, rule: usize) -> Result<Vec<Cut>, Refusal> {
+        let mut sheet = [0; SHEET];
+        let rules = withdraw(&mut self.held, rule, &mut sheet)?;
+        Ok(cuts(&sheet[..2 * SHEET_SIDE * rules]).collect())
+    }
+
+    /// The book, for every function that takes one.
+    pub fn book(&self) -> &[u8] {
+        book_of(&self.held)
+    }
+
+    /// How often it was changed since it was loaded; [`CHANGES_MOST`](crate::CHANGES_MOST) says that often or more.
+    pub fn changes(&self) -> u64 {
+        changes(&self.held)
+    }
+}
+
+impl fmt::Debug for HeldBook {
+    fn fmt(&self, f: &mut fmt::Formatter<'_>) -> fmt::Result {
+        f.debug_struct("HeldBook").field("book", &self.book()).field("changes", &self.changes()).finish()
+    }
 }

@@ -8,7 +8,7 @@ pub const DIFFERENT: u32 = 2;
 /// Of a round alone: it went on.
 pub const NEXT: u32 = 3;
 
-/// Of the check and of the cut sheet.
+/// Of the check and of the cut sheet, and of loading and changing a held book.
 #[repr(C)]
 pub struct CheckResult {
     pub refusal: u32,
@@ -52,6 +52,14 @@ pub struct ProgramResult {
     pub length: u64,
 }
 
+/// Of a buffer with a held book.
+#[repr(C)]
+pub struct HeldResult {
+    pub start: u64,
+    pub length: u64,
+    pub changes: u64,
+}
+
 // The structs lie in memory as the archive has them; the C header asserts the same numbers.
 const _: () = {
     assert!(size_of::<usize>() == 8);
@@ -79,6 +87,10 @@ const _: () = {
     assert!(offset_of!(ProgramResult, refusal) == 0);
     assert!(offset_of!(ProgramResult, place) == 8);
     assert!(offset_of!(ProgramResult, length) == 16);
+    assert!(size_of::<HeldResult>() == 24);
+    assert!(offset_of!(HeldResult, start) == 0);
+    assert!(offset_of!(HeldResult, length) == 8);
+    assert!(offset_of!(HeldResult, changes) == 16);
 };
 
 extern "C" {
@@ -120,6 +132,11 @@ extern "C" {
         offset: usize,
     ) -> LeastResult;
     fn vanecitron_program(input: *const u8, input_length: usize, output: *mut u8, output_length: usize) -> ProgramResult;
+    fn vanecitron_load(book: *const u8, book_length: usize, held: *mut u8, held_length: usize) -> CheckResult;
+    fn vanecitron_add(held: *mut u8, held_length: usize, record: *const u8, record_length: usize, sheet: *mut u8, sheet_length: usize)
+        -> CheckResult;
+    fn vanecitron_withdraw(held: *mut u8, held_length: usize, rule: usize, sheet: *mut u8, sheet_length: usize) -> CheckResult;
+    fn vanecitron_held_book(held: *const u8, held_length: usize) -> HeldResult;
 }
 
 // Each call below passes slices that live through the call, the lent ones by unique borrow, as pointer and length of the same slice;
@@ -175,4 +192,24 @@ pub fn least(book: &[u8], run: &[u8], buffer: &mut [u8], offset: usize) -> Least
 pub fn program(input: &[u8], output: &mut [u8]) -> ProgramResult {
     // SAFETY: as said above
     unsafe { vanecitron_program(input.as_ptr(), input.len(), output.as_mut_ptr(), output.len()) }
+}
+
+pub fn load(book: &[u8], held: &mut [u8]) -> CheckResult {
+    // SAFETY: as said above
+    unsafe { vanecitron_load(book.as_ptr(), book.len(), held.as_mut_ptr(), held.len()) }
+}
+
+pub fn add(held: &mut [u8], record: &[u8], sheet: &mut [u8]) -> CheckResult {
+    // SAFETY: as said above
+    unsafe { vanecitron_add(held.as_mut_ptr(), held.len(), record.as_ptr(), record.len(), sheet.as_mut_ptr(), sheet.len()) }
+}
+
+pub fn withdraw(held: &mut [u8], rule: usize, sheet: &mut [u8]) -> CheckResult {
+    // SAFETY: as said above
+    unsafe { vanecitron_withdraw(held.as_mut_ptr(), held.len(), rule, sheet.as_mut_ptr(), sheet.len()) }
+}
+
+pub fn held_book(held: &[u8]) -> HeldResult {
+    // SAFETY: as said above
+    unsafe { vanecitron_held_book(held.as_ptr(), held.len()) }
 }

@@ -4,6 +4,8 @@ use core::fmt;
 
 /// How far apart the places of the given runs lie in refusals 9 and 10.
 pub const PLACE_SPACING: u64 = 5_000;
+/// The number of a held book's buffer in refusal 12; that of the sheet is 0.
+pub const HELD_BUFFER: usize = 1;
 
 /// Why a call was refused.
 #[derive(Debug, Clone, Copy, PartialEq, Eq, Hash)]
@@ -35,12 +37,14 @@ pub enum Reason {
     Heavy,
     /// 14: the offset lies past the buffer's end, or the least run is longer than what follows it
     NoSpace,
+    /// 15: the held book has no rule of the index that is to be withdrawn
+    NoSuchRule,
     /// a number that this version does not know
     Other(u32),
 }
 
 /// Each reason with its number, the specification's word for it and an explanation; the C header has the same. 7 is not used: a side may equal an earlier one.
-const KNOWN: [(u32, Reason, &str, &str); 13] = [
+const KNOWN: [(u32, Reason, &str, &str); 14] = [
     (1, Reason::Short, "short", "the bytes end inside a record, or there is no book"),
     (2, Reason::Kind, "kind", "the first record is no head, or a later one is no rule"),
     (3, Reason::Length, "length", "a record's length does not fit it"),
@@ -54,6 +58,7 @@ const KNOWN: [(u32, Reason, &str, &str); 13] = [
     (12, Reason::Narrow, "narrow", "a lent buffer is too small"),
     (13, Reason::Heavy, "heavy", "the program's input is over its limit"),
     (14, Reason::NoSpace, "no space", "the offset lies past the buffer's end, or the least run is longer than what follows it"),
+    (15, Reason::NoSuchRule, "no such rule", "the held book has no rule of the index that is to be withdrawn"),
 ];
 
 impl Reason {
@@ -101,9 +106,10 @@ pub enum Run {
 #[derive(Debug, Clone, Copy, PartialEq, Eq, Hash)]
 #[non_exhaustive]
 pub enum Place {
-    /// Reasons 1 to 6: the first byte of the record at fault, counted from the start of the book.
+    /// Reasons 1 to 6: the first byte of the record at fault, counted from the start of the book; of a record that is to be added, the number of the held
+    /// book's bytes, where it would begin.
     Byte(usize),
-    /// Reason 8: the side at fault; rule `i`, counted from 0, has the sides `2 * i`, its left one, and `2 * i + 1`.
+    /// Reason 8: the side at fault, of a change in the new book; rule `i`, counted from 0, has the sides `2 * i`, its left one, and `2 * i + 1`.
     Side(usize),
     /// Reason 9: the run that is too long.
     Run(Run),
@@ -111,10 +117,13 @@ pub enum Place {
     Step { run: Run, position: usize },
     /// Reason 11: the rounds done.
     Rounds(u64),
-    /// Reasons 12 and 14: the buffer that is too small, counted from 0 in the order of the call; where 14 applies there is but one.
+    /// Reasons 12 and 14: the buffer that is too small, by its number: the sheet 0, a held book [`HELD_BUFFER`]; the next u, v and p 0, 1 and 2; the
+    /// program's output 0; that of a least run 0.
     Buffer(usize),
     /// Reason 13: the most bytes of an input.
     Limit(usize),
+    /// Reason 15, which has no place; its number is 0.
+    Nowhere,
     /// The place of a reason that this version does not know.
     Other(u64),
 }
@@ -137,7 +146,8 @@ impl Place {
             (Reason::Spent, _) => Place::Rounds(place),
             (Reason::Narrow | Reason::NoSpace, _) => Place::Buffer(number),
             (Reason::Heavy, _) => Place::Limit(number),
-            (Reason::Long | Reason::Stranger | Reason::Other(_), _) => Place::Other(place),
+            (Reason::NoSuchRule, _) if place == 0 => Place::Nowhere,
+            (Reason::Long | Reason::Stranger | Reason::NoSuchRule | Reason::Other(_), _) => Place::Other(place),
         }
     }
 
@@ -148,6 +158,7 @@ impl Place {
             Place::Step { run, position } => PLACE_SPACING * run as u64 + position as u64,
             Place::Byte(number) | Place::Side(number) | Place::Buffer(number) | Place::Limit(number) => number as u64,
             Place::Rounds(number) | Place::Other(number) => number,
+            Place::Nowhere => 0,
         }
     }
 }
@@ -172,6 +183,7 @@ impl fmt::Display for Place {
             Place::Rounds(rounds) => write!(f, "rounds done: {rounds}"),
             Place::Buffer(buffer) => write!(f, "buffer {buffer}"),
             Place::Limit(bytes) => write!(f, "at most {bytes} bytes"),
+            Place::Nowhere => f.write_str("no place"),
             Place::Other(place) => write!(f, "place {place}"),
         }
     }
@@ -197,7 +209,11 @@ pub struct Refusal {
 
 impl fmt::Display for Refusal {
     fn fmt(&self, f: &mut fmt::Formatter<'_>) -> fmt::Result {
-        write!(f, "{}: {} ({})", self.reason.word(), self.reason.text(), self.place)
+        write!(f, "{}: {}", self.reason.word(), self.reason.text())?;
+        match self.place {
+            Place::Nowhere => Ok(()),
+            place => write!(f, " ({place})"),
+        }
     }
 }
 

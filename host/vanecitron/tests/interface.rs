@@ -1,10 +1,11 @@
-//! What the wrapper adds to the archive: typed places and reasons, the sides of the cut sheet, the writer of books with its bounds, and room enough for a least
-//! run.
+//! What the wrapper adds to the archive: typed places and reasons, the sides of the cut sheet, the writer of books with its bounds, room enough for a least
+//! run, and held books.
 
 use vanecitron::{
-    ample_allowance, check, cut_sheet, cut_sheet_into, cuts, least, least_into, BookWriter, Cut, NoRoom, PieceCount, Place, Reason, Run,
+    add, ample_allowance, book_of, changes, check, compare, cut_sheet, cut_sheet_into, cuts, least, least_into, load, rule_record, withdraw,
+    BookWriter, Comparison, Cut, HeldBook, NoRoom, PieceCount, Place, Reason, Refusal, Run,
 };
-use vanecitron::{BOOK, LEAST, NO_PRODUCT, RULES, RUN, SHEET, SHEET_SIDE, SIDE};
+use vanecitron::{BOOK, BOOK_MOST, CHANGES_MOST, HELD, HELD_BUFFER, LEAST, NO_PRODUCT, RULE, RULES, RUN, SHEET, SHEET_SIDE, SIDE};
 
 /// Book Q and the comparison abdc, cadb with the allowance 100, as the specification writes their bytes ("The program").
 const EXAMPLE: [u8; 39] = [
@@ -70,7 +71,7 @@ fn reasons_and_places_have_their_numbers() {
     for number in 0..40 {
         let reason = Reason::from_number(number);
         assert_eq!(reason.number(), number);
-        assert_eq!(matches!(reason, Reason::Other(_)), !(1..=14).contains(&number) || number == 7, "{number}");
+        assert_eq!(matches!(reason, Reason::Other(_)), !(1..=15).contains(&number) || number == 7, "{number}");
         for place in [0, 1, 4_999, 5_000, 5_003, 10_000, 10_063, 15_000, 60_000, u64::MAX] {
             // the place of 9 is the start of a run
             if reason != Reason::Long || place % 5_000 == 0 {
@@ -86,7 +87,13 @@ fn reasons_and_places_have_their_numbers() {
     assert_eq!(Place::from_number(Reason::Narrow, 2), Place::Buffer(2));
     assert_eq!(Place::from_number(Reason::Heavy, 60_000), Place::Limit(60_000));
     assert_eq!(Place::from_number(Reason::NoSpace, 0), Place::Buffer(0));
-    assert_eq!(Place::from_number(Reason::Other(15), 7), Place::Other(7));
+    assert_eq!(Place::from_number(Reason::Narrow, 1), Place::Buffer(HELD_BUFFER));
+    assert_eq!(Place::from_number(Reason::NoSuchRule, 0), Place::Nowhere);
+    assert_eq!(Place::from_number(Reason::NoSuchRule, 7), Place::Other(7));
+    assert_eq!(Place::from_number(Reason::Other(16), 7), Place::Other(7));
+    let refusal = Refusal { reason: Reason::NoSuchRule, place: Place::Nowhere };
+    assert_eq!(refusal.to_string(), "no such rule: the held book has no rule of the index that is to be withdrawn");
+    assert_eq!(refusal.place.to_string(), "no place");
 }
 
 /// Book Q is the front of the example.
@@ -191,4 +198,270 @@ fn the_longest_least_run_has_room() {
     assert_eq!(longest.len(), LEAST);
     assert!(longest.chunks(SIDE).all(|part| part == side));
     assert_eq!(least_into(book.bytes(), &[1; RUN], &mut vec![0; LEAST - 1], 0).unwrap_err().reason, Reason::NoSpace);
+}
+
+/// A refusal by its reason and place.
+fn told<T: std::fmt::Debug>(result: Result<T, Refusal>) -> (Reason, Place) {
+    let refusal = result.unwrap_err();
+    (refusal.reason, refusal.place)
+}
+
+/// The record of a rule.
+fn record(left: &[u8], right: &[u8]) -> Vec<u8> {
+    rule_record(&mut [0; 6 + 2 * 255], left, right).unwrap().to_vec()
+}
+
+/// A held book in a buffer of so many bytes, which is filled before.
+fn held_in(room: usize, book: &[u8]) -> Vec<u8> {
+    let mut held = vec![0xa5; room];
+    load(book, &mut held).unwrap();
+    held
+}
+
+/// Changes that are refused: each with this reason and place, and with no byte changed, of the buffer or of the sheet.
+fn kept(held: &mut [u8], change: impl Fn(&mut [u8], &mut [u8]) -> Result<usize, Refusal>, reason: Reason, place: Place) {
+    let (before, mut sheet) = (held.to_vec(), [0x5a; SHEET]);
+    assert_eq!(told(change(held, &mut sheet)), (reason, place));
+    assert!(held == before && sheet == [0x5a; SHEET], "{reason:?} changed a byte");
+}
+
+#[test]
+fn the_record_of_a_rule_keeps_within_its_buffer() {
+    let expected = &Q[5..];
+    for room in 0..expected.len() + 2 {
+        let mut bytes = [0xa5; 20];
+        let written = rule_record(&mut bytes[..room], &[0, 1, 3, 2], &[2, 0, 3, 1]).map(<[u8]>::to_vec);
+        assert_eq!(written, if room < expected.len() { Err(NoRoom) } else { Ok(expected.to_vec()) }, "{room}");
+        let untouched = if room < expected.len() { 0 } else { expected.len() };
+        assert!(bytes[untouched..].iter().all(|&byte| byte == 0xa5), "{room}");
+    }
+    assert_eq!(record(&[0; SIDE], &[0; SIDE]).len(), RULE);
+    assert_eq!(record(&[], &[]), [2, 0, 2, 0, 0, 0]);
+    assert_eq!(rule_record(&mut [0; 1_000], &[0; 256], &[]), Err(NoRoom));
+    assert_eq!((BOOK, HELD), (BOOK_MOST, BOOK_MOST + 4));
+}
+
+#[test]
+fn a_book_is_loaded_into_room_enough() {
+    for room in [0, 1, 3, 4, 5, HELD - 1, HELD, HELD + 1] {
+        let mut held = vec![0xa5; room];
+        let result = load(Q, &mut held);
+        if room < HELD {
+            assert_eq!(told(result), (Reason::Narrow, Place::Buffer(HELD_BUFFER)), "{room}");
+            assert!(held.iter().all(|&byte| byte == 0xa5));
+        } else {
+            assert_eq!(result, Ok(1));
+            assert_eq!(held[..4], [19, 0, 0, 0]);
+            assert_eq!(held[4..23], *Q);
+            assert!(held[23..].iter().all(|&byte| byte == 0xa5));
+        }
+    }
+    // what is wrong with the book comes first
+    assert_eq!(told(load(&[], &mut [])), (Reason::Short, Place::Byte(0)));
+    assert_eq!(told(load(&Q[..18], &mut [])), (Reason::Short, Place::Byte(5)));
+    assert_eq!(told(load(&[1, 0, 1, 0, 4, 5, 0, 2, 0, 1, 2, 0, 0, 0], &mut [])), (Reason::Loose, Place::Side(0)));
+}
+
+/// The rules abdc = cadb, cadb = bcda and accb = bbaa over four letters: no two letters stand together twice in the sides, so that each side is a product of four
+/// pieces, its letters.
+#[test]
+fn rules_come_and_go() {
+    let cut = [1, 2, 1, 4];
+    let (second, third) = (record(&[2, 0, 3, 1], &[1, 2, 3, 0]), record(&[0, 2, 2, 1], &[1, 1, 0, 0]));
+    let books = |rules: &[&[u8]]| [&Q[..5], &rules.concat()].concat();
+    let mut held = held_in(HELD + 3, Q);
+    for (rules, added) in [(2, &second), (3, &third)] {
+        let mut sheet = [0x5a; SHEET];
+        assert_eq!(add(&mut held, added, &mut sheet), Ok(rules));
+        assert!(sheet[..8 * rules].chunks(4).all(|side| side == cut));
+        assert!(sheet[8 * rules..].iter().all(|&byte| byte == 0x5a));
+    }
+    let first = &Q[5..];
+    assert_eq!((book_of(&held), changes(&held)), (&books(&[first, &second, &third])[..], 2));
+    assert!(held[4 + 47..].iter().all(|&byte| byte == 0xa5));
+
+    // the middle one, then the last, then the first; what stands behind the new book stays
+    for (rule, rules, book) in [(1, 2, books(&[first, &third])), (1, 1, books(&[first])), (0, 0, books(&[]))] {
+        let (before, mut sheet) = (held.clone(), [0x5a; SHEET]);
+        assert_eq!(withdraw(&mut held, rule, &mut sheet), Ok(rules));
+        assert_eq!((book_of(&held), changes(&held)), (&book[..], 5 - rules as u64));
+        assert_eq!(held[4 + book.len()..], before[4 + book.len()..]);
+        assert!(sheet[..8 * rules].chunks(4).all(|side| side == cut));
+        assert!(sheet[8 * rules..].iter().all(|&byte| byte == 0x5a));
+    }
+    kept(&mut held, |held, sheet| withdraw(held, 0, sheet), Reason::NoSuchRule, Place::Nowhere);
+}
+
+#[test]
+fn a_refused_addition_changes_nothing() {
+    let good = record(&[0, 2, 2, 1], &[1, 1, 0, 0]);
+    let with = |at: usize, byte: u8| {
+        let mut bytes = good.clone();
+        bytes[at] = byte;
+        bytes
+    };
+    let behind = |mut bytes: Vec<u8>| {
+        bytes.push(0);
+        bytes
+    };
+    let cases = [
+        (vec![], Reason::Short),
+        (good[..3].to_vec(), Reason::Short),
+        (good[..13].to_vec(), Reason::Short),
+        (with(2, 1)[..13].to_vec(), Reason::Short),
+        (with(2, 1), Reason::Kind),
+        (behind(with(2, 3)), Reason::Kind),
+        (with(3, 1), Reason::Kind),
+        (behind(good.clone()), Reason::Length),
+        (behind(with(6, 4)), Reason::Length),
+        (with(4, 5), Reason::Length),
+        (with(4, 0), Reason::Length),
+        (vec![1, 0, 2, 0, 1], Reason::Length),
+        (record(&[], &[0]), Reason::Range),
+        (record(&[0], &[]), Reason::Range),
+        (record(&[4; 65], &[0]), Reason::Range),
+        (with(13, 4), Reason::UnknownStep),
+    ];
+    let mut held = held_in(HELD, Q);
+    for (bytes, reason) in &cases {
+        // the sheet is not asked for before
+        kept(&mut held, |held, _| add(held, bytes, &mut []), *reason, Place::Byte(19));
+    }
+    kept(&mut held, |held, sheet| add(held, &record(&[0], &[0, 0]), &mut sheet[..0]), Reason::Loose, Place::Side(2));
+    kept(&mut held, |held, sheet| add(held, &record(&[3], &[0, 1]), sheet), Reason::Loose, Place::Side(0));
+    for room in [0, 1, 15] {
+        kept(&mut held, |held, sheet| add(held, &good, &mut sheet[..room]), Reason::Narrow, Place::Buffer(0));
+    }
+    assert_eq!(add(&mut held, &good, &mut [0; 16]), Ok(2));
+}
+
+#[test]
+fn a_refused_withdrawal_changes_nothing() {
+    let mut held = held_in(HELD, Q);
+    add(&mut held, &record(&[0, 2, 2, 1], &[1, 1, 0, 0]), &mut [0; SHEET]).unwrap();
+    for rule in [2, 3, 32, usize::MAX] {
+        kept(&mut held, |held, sheet| withdraw(held, rule, &mut sheet[..0]), Reason::NoSuchRule, Place::Nowhere);
+    }
+    kept(&mut held, |held, sheet| withdraw(held, 1, &mut sheet[..7]), Reason::Narrow, Place::Buffer(0));
+    assert_eq!(withdraw(&mut held, 1, &mut [0; 8]), Ok(1));
+    assert_eq!(withdraw(&mut held, 0, &mut []), Ok(0));
+}
+
+/// 31 rules, then 32, and no 33rd: the longest book just fits.
+#[test]
+fn a_full_book_is_held() {
+    let mut state = 1_u32;
+    let mut side = || {
+        let mut steps = [0; SIDE];
+        steps.fill_with(|| {
+            state = state.wrapping_mul(1_664_525).wrapping_add(1_013_904_223);
+            (state >> 26) as u8
+        });
+        steps
+    };
+    let mut bytes = [0; BOOK];
+    let mut book = BookWriter::new(&mut bytes, 64).unwrap();
+    for _ in 1..RULES {
+        book.rule(&side(), &side()).unwrap();
+    }
+    let last = record(&side(), &side());
+    let mut held = held_in(HELD, book.bytes());
+    let mut sheet = [0; SHEET];
+    assert_eq!(add(&mut held, &last, &mut sheet), Ok(RULES));
+    assert_eq!(book_of(&held).len(), BOOK_MOST);
+    assert!(cuts(&sheet).eq(cut_sheet(book_of(&held)).unwrap()));
+    kept(&mut held, |held, sheet| add(held, &last, sheet), Reason::Thick, Place::Byte(BOOK_MOST));
+    // a 33rd record is told to be one before its length is looked at, and not before its kind
+    kept(&mut held, |held, sheet| add(held, &[0, 0, 2, 0, 0], sheet), Reason::Thick, Place::Byte(BOOK_MOST));
+    kept(&mut held, |held, sheet| add(held, &[0, 0, 1, 0], sheet), Reason::Kind, Place::Byte(BOOK_MOST));
+    assert_eq!(withdraw(&mut held, RULES - 1, &mut sheet), Ok(RULES - 1));
+    assert_eq!(book_of(&held), book.bytes());
+}
+
+/// Whatever a buffer holds, it is refused or taken as the book that it says.
+#[test]
+fn an_altered_buffer_is_refused_or_taken_as_it_is() {
+    let added = record(&[0, 2, 2, 1], &[1, 1, 0, 0]);
+    for room in [0, 3, 4, HELD - 1] {
+        let mut held = vec![19; room];
+        kept(&mut held, |held, sheet| add(held, &[], sheet), Reason::Narrow, Place::Buffer(HELD_BUFFER));
+        kept(&mut held, |held, sheet| withdraw(held, 9, sheet), Reason::Narrow, Place::Buffer(HELD_BUFFER));
+    }
+    for (at, byte, reason, place) in [
+        (0, 0, Reason::Short, 0),
+        (0, 18, Reason::Short, 5),
+        (0, 20, Reason::Short, 19),
+        (1, 255, Reason::Kind, 19),
+        (6, 2, Reason::Kind, 0),
+        (11, 1, Reason::Kind, 5),
+        (13, 5, Reason::Length, 5),
+        (8, 65, Reason::Range, 0),
+        (22, 4, Reason::UnknownStep, 5),
+    ] {
+        let mut held = held_in(HELD, Q);
+        held[23..].fill(0);
+        held[at] = byte;
+        kept(&mut held, |held, sheet| add(held, &added, sheet), reason, Place::Byte(place));
+        kept(&mut held, |held, sheet| withdraw(held, 0, sheet), reason, Place::Byte(place));
+    }
+    // abdc = acbd is loose, which a change asks of the new book alone
+    let mut held = held_in(HELD, Q);
+    held[19..23].copy_from_slice(&[0, 2, 1, 3]);
+    kept(&mut held, |held, sheet| add(held, &record(&[0], &[1]), sheet), Reason::Loose, Place::Side(0));
+    assert_eq!(told(check(book_of(&held))), (Reason::Loose, Place::Side(0)));
+    assert_eq!(withdraw(&mut held, 0, &mut []), Ok(0));
+    // a longer one is read in a longer buffer: 33 rules
+    let mut held = vec![0; HELD + RULE];
+    load(&Q[..5], &mut held).unwrap();
+    let rules = record(&[0], &[1]).repeat(RULES + 1);
+    held[4 + 5..][..rules.len()].copy_from_slice(&rules);
+    held[..2].copy_from_slice(&(5 + rules.len() as u16).to_le_bytes());
+    kept(&mut held, |held, sheet| withdraw(held, 0, sheet), Reason::Thick, Place::Byte(5 + 8 * RULES));
+}
+
+#[test]
+fn the_book_of_any_buffer_lies_in_it() {
+    let bytes = [3, 0, 1, 2, 10, 11, 12, 13];
+    for room in 0..=bytes.len() {
+        assert_eq!(book_of(&bytes[..room]), if room < 4 { &[] } else { &bytes[4..room.min(7)] }, "{room}");
+        assert_eq!(changes(&bytes[..room]), if room < 4 { 0 } else { 0x201 }, "{room}");
+    }
+    assert_eq!(book_of(&[255; HELD]).len(), HELD - 4);
+    assert_eq!(changes(&[255; HELD]), CHANGES_MOST);
+}
+
+#[test]
+fn the_count_of_changes_stays_at_its_most() {
+    let mut held = held_in(HELD, Q);
+    held[2..4].copy_from_slice(&[254, 255]);
+    for expected in [CHANGES_MOST - 1, CHANGES_MOST, CHANGES_MOST] {
+        assert_eq!(changes(&held), expected);
+        let rules = check(book_of(&held)).unwrap();
+        match rules {
+            0 => add(&mut held, &Q[5..], &mut [0; SHEET]),
+            _ => withdraw(&mut held, 0, &mut [0; SHEET]),
+        }
+        .unwrap();
+    }
+    load(Q, &mut held).unwrap();
+    assert_eq!(changes(&held), 0);
+}
+
+#[test]
+fn a_held_book_owns_its_buffer() {
+    assert_eq!(told(HeldBook::load(&Q[..18])), (Reason::Short, Place::Byte(5)));
+    let mut held = HeldBook::load(Q).unwrap();
+    let loaded = held.clone();
+    let cut = Cut { x: 1, y: 2, z: 1, pieces: PieceCount::Pieces(4) };
+    assert_eq!(held.add(&record(&[2, 0, 3, 1], &[1, 2, 3, 0])).unwrap(), [cut; 4]);
+    assert_eq!(told(held.add(&[])), (Reason::Short, Place::Byte(33)));
+    assert_eq!(told(held.withdraw(2)), (Reason::NoSuchRule, Place::Nowhere));
+    assert_eq!((held.book().len(), held.changes()), (33, 1));
+    let bcda = [1, 2, 3, 0];
+    assert_eq!(compare(held.book(), &[0, 1, 3, 2], &bcda, 2), Ok(Comparison::Same { rounds: 2 }));
+    assert_eq!(compare(loaded.book(), &[0, 1, 3, 2], &bcda, 2), Ok(Comparison::Different { rounds: 0 }));
+    assert_eq!(held.withdraw(0).unwrap(), [cut; 2]);
+    assert_eq!(held.withdraw(0).unwrap(), []);
+    assert_eq!(format!("{held:?}"), "HeldBook { book: [1, 0, 1, 0, 4], changes: 3 }");
+    assert_eq!((loaded.book(), loaded.changes()), (Q, 0));
 }

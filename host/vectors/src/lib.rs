@@ -1,9 +1,13 @@
-//! The recorded calls of the entries (`entries.txt`; `least.txt` of least words; `shared.txt` under books whose relations share words), the recorded inputs and
-//! outputs of the program (`program/`) and the executed cases of the proved part (`crates/cases`), as tests read them.
+//! The recorded calls of the entries (`entries.txt`; `least.txt` of least words; `shared.txt` under books whose relations share words; `held.txt` of held books),
+//! the recorded inputs and outputs of the program (`program/`) and the executed cases of the proved part (`crates/cases`), as tests read them.
 //! Their answers are written down, so no implementation has a part in this crate.
+
+pub mod held;
 
 use std::fs;
 use std::path::PathBuf;
+
+pub use held::Change;
 
 /// A call of an entry, with what it takes; lent buffers by their sizes.
 pub enum Call {
@@ -11,13 +15,16 @@ pub enum Call {
     Sheet { book: Vec<u8>, size: usize },
     Round { book: Vec<u8>, words: [Vec<u8>; 3], sizes: [usize; 3] },
     Least { book: Vec<u8>, word: Vec<u8>, size: usize, offset: usize },
+    Held { book: Vec<u8>, changes: Vec<Change> },
 }
 
 impl Call {
     /// The bytes of the book, which every call has.
     pub fn book(&self) -> &[u8] {
-        let (Call::Compare { book, .. } | Call::Sheet { book, .. } | Call::Round { book, .. } | Call::Least { book, .. }) = self;
-        book
+        match self {
+            Call::Compare { book, .. } | Call::Sheet { book, .. } | Call::Round { book, .. } => book,
+            Call::Least { book, .. } | Call::Held { book, .. } => book,
+        }
     }
 }
 
@@ -43,7 +50,8 @@ pub struct Run {
 
 /// All recorded calls.
 pub fn calls() -> Vec<Recorded> {
-    [calls_of("entries.txt", 381), calls_of("least.txt", 148), calls_of("shared.txt", 178)].into_iter().flatten().collect()
+    let files = [("entries.txt", 381), ("least.txt", 148), ("shared.txt", 178), ("held.txt", 70)];
+    files.into_iter().flat_map(|(name, count)| calls_of(name, count)).collect()
 }
 
 /// The recorded calls of a file that has so many.
@@ -113,6 +121,7 @@ pub fn call(line: &str) -> Call {
         "sheet" => Call::Sheet { book, size: number(2) },
         "round" => Call::Round { book, words: [2, 3, 4].map(word), sizes: [5, 6, 7].map(number) },
         "least" => Call::Least { book, word: word(2), size: number(3), offset: number(4) },
+        "held" => Call::Held { book, changes: fields[2..].iter().map(|text| held::change(text)).collect() },
         other => panic!("no entry {other}"),
     }
 }

@@ -38,4 +38,6 @@ number-and-place-spec =
     (λ c. search places)
     (λ c. search places)
     (λ c. search places)
+    (λ c. search places)
+    (λ c. search places)
     (λ c. search places))

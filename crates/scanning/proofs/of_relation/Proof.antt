@@ -1,6 +1,6 @@
-use Rattle.reader.proofs.Books.{answers}
-use Rattle.reader.proofs.of_relation.Statement.{statement}
-use Rattle.reader.proofs.of_relation.Tie as tie
+use Rattle.scanning.proofs.Records.{answers}
+use Rattle.scanning.proofs.of_relation.Statement.{statement}
+use Rattle.scanning.proofs.of_relation.Tie as tie
 
 pub of-relation-spec : {M : Type 1} → statement M
 of-relation-spec =

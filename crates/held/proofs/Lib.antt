@@ -1,0 +1,4 @@
+pub mod Buffers
+pub mod Steps
+pub mod Theorems
+pub mod Examples

@@ -1,0 +1,4 @@
+pub mod Held
+pub mod Changes
+pub mod Demands
+pub mod Examples

@@ -1,0 +1,3 @@
+pub mod Additions
+pub mod Laws
+pub mod Changes
