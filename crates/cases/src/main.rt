@@ -24,7 +24,7 @@ use layout::Text;
 use libc::STDIN_FILENO;
 
 fn main() {
-    let mut buffer = io::large_buffer();
+    let mut buffer = fields::large_room();
     answer_input(&mut buffer);
 }
 

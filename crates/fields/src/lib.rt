@@ -176,7 +176,7 @@ pub fn lent_room() -> [u8; 8192]
     [0xaa; 8192]
 }
 
-// A larger buffer to be lent, filled with aa: the longest least word has 262,144 letters.
+// A larger buffer, filled with aa, for the longest lines, records and least words: a least word has up to 262,144 letters.
 pub fn large_room() -> [u8; 270336]
     ensures { λ r. ⌜ 270336 ≡ length r ⌝ }
 {

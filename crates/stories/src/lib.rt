@@ -56,7 +56,7 @@ fn answer_field(field: &[u8], held: &mut [u8])
     requires { ⌜ Roomy (now held) ⌝ }
     ensures { λ _. ⌜ Roomy (now (held .exit)) ⌝ }
 {
-    let mut text = fields::field_room();
+    let mut text = fields::large_room();
     let n = fields::put_spaced(field, &mut text);
     answer_change(&text[..n], held);
 }
@@ -92,7 +92,7 @@ fn lend_addition(text: &[u8], held: &mut [u8], sheet: &mut [u8], n: usize) -> Ve
     requires { ⌜ Roomy (now held) × Filled n (now sheet) ⌝ }
     ensures { λ _. ⌜ Roomy (now (held .exit)) ⌝ }
 {
-    let mut bytes = fields::field_room();
+    let mut bytes = fields::large_room();
     let m = fields::put_field(text, 1, &mut bytes);
     heldbook::add_relation(&mut held[..Held::ROOM], &bytes[..m], &mut sheet[..n])
 }
