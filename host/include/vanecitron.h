@@ -2,7 +2,7 @@
  * vanecitron: does a chain of exchanges join two runs of steps under a book of exchange rules, and which is the least run that one reaches?
  * A book can be held in a buffer of the caller's and changed there, rule by rule.
  *
- * The functions of the archive are proved against their contracts (crates/vanecitron and crates/entries of this tree; docs/AUDIT.md says what that
+ * The functions of the archive are proved against their contracts (crates/vanecitron, over crates/entries and crates/heldbook; docs/AUDIT.md says what that
  * means). This header is written by hand: host/limits.py compares its numbers, words and structs with those of the proved sources. The functions that
  * are `static inline` here and in vanecitron_book.h are plain C, outside the proof.
  * The words are those of docs/SPECIFICATION.md, which "the specification" means below: a step is a byte below the book's number of letters, a run is

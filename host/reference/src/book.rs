@@ -68,6 +68,11 @@ fn read_rule(kind: usize, payload: &[u8], letters: u8, before: usize, at: usize)
     if before == 32 {
         return refuse(6, at);
     }
+    read_sides(payload, letters, at)
+}
+
+/// The two sides of a rule's payload: 3, 4 and 5, in that order.
+pub fn read_sides(payload: &[u8], letters: u8, at: usize) -> Result<(Word, Word), Refusal> {
     if payload.len() < 2 {
         return refuse(3, at);
     }

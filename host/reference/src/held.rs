@@ -3,7 +3,7 @@
 //! A change takes the book apart into its rules, makes the list of the new ones, writes them out as a book, and has that book's sheet written as if no other
 //! had been there.
 
-use crate::book::{accept, read, two_bytes, Presentation};
+use crate::book::{accept, read, read_sides, two_bytes, Presentation};
 use crate::entries::cut_sheet;
 use crate::{refuse, Refusal, Word};
 
@@ -115,21 +115,7 @@ fn read_added(record: &[u8], book: &Presentation, place: usize) -> Result<(Word,
     if record.len() > 4 + payload.len() {
         return refuse(3, place);
     }
-    if payload.len() < 2 {
-        return refuse(3, place);
-    }
-    let m = payload[0] as usize;
-    let n = payload[1] as usize;
-    if payload.len() != 2 + m + n {
-        return refuse(3, place);
-    }
-    if !(1..=64).contains(&m) || !(1..=64).contains(&n) {
-        return refuse(4, place);
-    }
-    if payload[2..].iter().any(|&code| code >= book.letters) {
-        return refuse(5, place);
-    }
-    Ok((payload[2..2 + m].to_vec(), payload[2 + m..].to_vec()))
+    read_sides(payload, book.letters, place)
 }
 
 /// The new book takes the place of the old one: 8 of it, then 12 of the sheet's buffer, and its sheet as of any book.
