@@ -47,6 +47,10 @@ LIMITS = {
     "Held::ROOM": "HELD",
     "Held::COUNTED": "CHANGES_MOST",
     "Held::BUFFER": "HELD_BUFFER",
+    "Ticket::ROOM": "TICKET",
+    "Ticket::BUFFER": "TICKET_BUFFER",
+    "Ticket::ADDITION": "TICKET_ADDITION",
+    "Ticket::WITHDRAWAL": "TICKET_WITHDRAWAL",
 }
 
 # the header's name where it is another

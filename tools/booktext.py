@@ -426,6 +426,12 @@ class Explainer:
     def refusal_15(self, place, of):
         return "no such rule: a book that the library holds has no rule of the index that is to be withdrawn; neither program prints this of a text"
 
+    def refusal_16(self, place, of):
+        return "stale ticket: a book that the library holds has another count of changes than the ticket that is posted; neither program prints this of a text"
+
+    def refusal_17(self, place, of):
+        return "book worn: a book that the library holds has had all the changes that it takes, 60,000; neither program prints this of a text"
+
 
 # --- lines that a program answers ---
 

@@ -1,6 +1,6 @@
 /*
  * vanecitron: does a chain of exchanges join two runs of steps under a book of exchange rules, and which is the least run that one reaches?
- * A book can be held in a buffer of the caller's and changed there, rule by rule.
+ * A book can be held in a buffer of the caller's and changed there, rule by rule, and a change can be proposed before it is made.
  *
  * The functions of the archive are proved against their contracts (crates/vanecitron, over crates/entries and crates/heldbook; docs/AUDIT.md says what that
  * means). This header is written by hand: host/limits.py compares its numbers, words and structs with those of the proved sources. The functions that
@@ -19,7 +19,8 @@
  *   Every call checks its book again, since nothing is kept between calls: under a microsecond for a book of one rule with sides of 4 steps, 3
  *   microseconds for one with sides of 64, and 0.8 milliseconds for a full book, 32 such rules (docs/DECISIONS.md, "Cost grows"). vanecitron_program
  *   checks its book once for all comparisons of its input: give it many pairs of runs at a time where that matters. A change of a held book costs one
- *   check, that of the new book, which gives its sheet too; the old book is read, and not checked again.
+ *   check, that of the new book, which gives its sheet too; the old book is read, and not checked again. A proposal costs one check as well, and so does
+ *   a posting, which makes it again.
  *   No measured call needs more than VANECITRON_STACK bytes of stack; a call gives them back when it returns. This is measured, not proved:
  *   host/stack calls each function on a painted stack, with the memcpy and memset of the C library there, and host/test fails where a call needs more.
  *   The calls take every row of a round and meet every kind of refusal, with books, runs, marks and inputs at their limits.
@@ -36,6 +37,9 @@
  *   content is the caller's to keep, and may be copied and stored. A change reads it as any bytes and trusts none of them: a buffer that was altered is
  *   only ever refused, or taken as the book that it says. The bytes behind the book are as they were, so that after a withdrawal the last bytes of the
  *   longer book still stand there.
+ *   A proposal only reads the held book. So proposals may be made of one held book at the same time, each with a sheet and a ticket of its own.
+ *   A ticket lies in a lent buffer of at least VANECITRON_TICKET bytes. It may be copied, stored and handed in later. A posting reads it as any bytes, of
+ *   any number, and trusts none of them: whatever they are, it is refused, or makes a change that would be accepted directly.
  *
  * Results
  *   Each result has a refusal and a place, but that of vanecitron_held_book, which is never refused. The refusal is 0 where the call was not refused;
@@ -45,7 +49,9 @@
  *   If several refusals could apply, the one that is given is fixed: records of the book in turn, each in the order 1, 2, 6, 3, 4, 5; then 8;
  *   then 9 and 10 for u, for v, for p; then 12, or 14 of the least run; 11 last.
  *   Of a change it is: 12 of the held buffer; the records of the book that is held, in turn, as above, and not its 8; then of an addition 1, 2, 6, 3, 4,
- *   5 of its record, of a withdrawal 15; then 8 of the new book; then 12 of the sheet. A withdrawal from a book that loads is never refused by 8.
+ *   5 of its record, of a withdrawal 15; then 8 of the new book; then 12 of the sheet; 17 last. A withdrawal from a book that loads is never refused by 8.
+ *   Of a proposal it is that of its change, with 12 of the ticket's buffer in the place of 17: a book that has had all its changes is no reason to refuse
+ *   one. Of a posting it is: 16; 17; then that of the ticket's change, up to 12 of the sheet.
  */
 #ifndef VANECITRON_H
 #define VANECITRON_H
@@ -59,10 +65,10 @@ extern "C" {
 
 /* The version of this header; vanecitron_version gives that of the archive. */
 #define VANECITRON_VERSION_MAJOR 0u
-#define VANECITRON_VERSION_MINOR 6u
+#define VANECITRON_VERSION_MINOR 7u
 #define VANECITRON_VERSION_PATCH 0u
 #define VANECITRON_VERSION (10000u * VANECITRON_VERSION_MAJOR + 100u * VANECITRON_VERSION_MINOR + VANECITRON_VERSION_PATCH)
-#define VANECITRON_VERSION_TEXT "0.6.0"
+#define VANECITRON_VERSION_TEXT "0.7.0"
 
 /* Limits: more than these is refused. */
 #define VANECITRON_LETTERS 64u           /* the most letters of a book; at least 1 */
@@ -90,12 +96,17 @@ extern "C" {
 #define VANECITRON_NEXT_MARK 64u         /* the next p of a single round */
 #define VANECITRON_OUTPUT 110022u        /* the program's output: no input has a longer one */
 #define VANECITRON_HELD 4297u            /* a held book, whatever its rules */
+#define VANECITRON_TICKET 140u           /* a ticket, whatever its change */
 
 /* The most steps of a least run: 64 for each step of the given run. A buffer with so many bytes behind the offset is enough for every one. */
 #define VANECITRON_LEAST_MOST 262144u
 
-/* The most that a held book's count of changes says: it then stays as it is, and there may have been more. */
-#define VANECITRON_CHANGES_MOST 65535u
+/* The most changes that a held book takes from loading. Then it is worn: every further change is refused by 17, until a book is loaded there anew. */
+#define VANECITRON_CHANGES_MOST 60000u
+
+/* The kinds of change that a ticket says; see vanecitron_propose_add. */
+#define VANECITRON_TICKET_ADDITION 0u
+#define VANECITRON_TICKET_WITHDRAWAL 1u
 
 /* Enough stack for a call, in bytes: no measured call needs more (see "Calls" above). */
 #define VANECITRON_STACK 32768u
@@ -123,12 +134,16 @@ extern "C" {
                                        position of the first such step */
 #define VANECITRON_SPENT 11u        /* another round was due and the allowance was used up; place: the rounds done, which are the allowance */
 #define VANECITRON_NARROW 12u       /* a lent buffer is too small; place: its number: the sheet 0; next u 0, next v 1, next p 2, lowest first;
-                                       the program's output 0; a held book VANECITRON_HELD_BUFFER, and the sheet beside it 0 */
+                                       the program's output 0; a held book VANECITRON_HELD_BUFFER, a ticket VANECITRON_TICKET_BUFFER, and the sheet
+                                       beside them 0 */
 #define VANECITRON_HEAVY 13u        /* the program's input is over its limit; place: 60000. Only printed by the program, as a line of its output */
 #define VANECITRON_NO_SPACE 14u     /* the offset lies past the buffer's end, or the least run is longer than what follows it; place: 0 */
 #define VANECITRON_NO_SUCH_RULE 15u /* the held book has no rule of the index that is to be withdrawn; place: 0 */
+#define VANECITRON_STALE_TICKET 16u /* the count of the ticket that is posted is not that of the held book; place: 0 */
+#define VANECITRON_BOOK_WORN 17u    /* the held book has had VANECITRON_CHANGES_MOST changes; place: 0 */
 
 #define VANECITRON_HELD_BUFFER 1u      /* the number of a held book's buffer in 12 */
+#define VANECITRON_TICKET_BUFFER 2u    /* the number of a ticket's buffer in 12 */
 #define VANECITRON_PLACE_SPACING 5000u /* how far apart the places of the given runs lie in 9 and 10 */
 #define VANECITRON_PLACE_RUN(place) ((place) / VANECITRON_PLACE_SPACING)
 #define VANECITRON_PLACE_POSITION(place) ((place) % VANECITRON_PLACE_SPACING)
@@ -139,11 +154,12 @@ extern "C" {
 #define VANECITRON_DIFFERENT 2u
 #define VANECITRON_NEXT 3u          /* of a round alone: it went on, and the next u, v and p are written */
 
-/* Of the check and of the cut sheet, and of loading and changing a held book. */
+/* Of the check and of the cut sheet, and of loading and changing a held book, with proposals and postings. */
 typedef struct {
     uint32_t refusal;
     uint64_t place;
-    uint64_t rules; /* the number of the book's rules, of a change the new book's; 0 of a refused one too, so look at its refusal first */
+    uint64_t rules; /* the number of the book's rules, of a change the new book's, of a proposal those that there would be; 0 of a refused one too, so
+                       look at its refusal first */
 } vanecitron_check_result;
 
 /* Of a single round. */
@@ -307,6 +323,8 @@ vanecitron_program_result vanecitron_program(const uint8_t *input, size_t input_
  * Loads a book into a held one (the specification, "Rules that come and go"): it is checked, as by vanecitron_check, and put into `held`, which is lent and
  * has at least VANECITRON_HELD bytes. There stand the length of the book and the count of changes, none so far, in two bytes each, the lowest first; and
  * then the book's bytes. Bytes behind them are as they were.
+ * A held book takes VANECITRON_CHANGES_MOST changes from here on. To go on then, copy its bytes, which vanecitron_held_book tells of, and load the copy: the
+ * count begins anew.
  * Refusals 1 to 6, 8; then 12 of the held buffer.
  */
 vanecitron_check_result vanecitron_load(const uint8_t *book, size_t book_length, uint8_t *held, size_t held_length);
@@ -318,7 +336,7 @@ vanecitron_check_result vanecitron_load(const uint8_t *book, size_t book_length,
  * since a rule can change the cuts and the numbers of pieces of all others.
  *
  * `held` and `sheet` are lent. The sheet has at least VANECITRON_SHEET(rules) bytes by the new number of rules; VANECITRON_SHEET_MOST is always enough.
- * Refusals 1 to 6, 8, 12, in the order that "Results" gives. A refusal leaves the held book and the sheet as they were.
+ * Refusals 1 to 6, 8, 12, 17, in the order that "Results" gives. A refusal leaves the held book and the sheet as they were.
  */
 vanecitron_check_result vanecitron_add(
     uint8_t *held, size_t held_length,
@@ -328,11 +346,68 @@ vanecitron_check_result vanecitron_add(
 /*
  * Withdraws a rule from a held book: that with so many rules before it, the first being 0. Those behind it move down one. The new book is checked, takes
  * the place of the old one and has its sheet written as by vanecitron_add; a book without rules has an empty sheet.
- * Refusals 1 to 6, 8, 12, 15, in the order that "Results" gives. From a book that loads only 12 and 15 are met: fewer sides have no more pieces.
+ * Refusals 1 to 6, 8, 12, 15, 17, in the order that "Results" gives. From a book that loads only 12, 15 and 17 are met: fewer sides have no more pieces.
  */
 vanecitron_check_result vanecitron_withdraw(
     uint8_t *held, size_t held_length,
     size_t rule,
+    uint8_t *sheet, size_t sheet_length);
+
+/*
+ * Proposes an addition (the specification, "Propose, then post"): what vanecitron_add would answer, the sheet that it would write, and a ticket, which
+ * vanecitron_post makes the change of. The held book is only read, so that nothing is changed by a proposal, however it is answered. A book that has had
+ * all its changes is answered as any other; only changes and postings are refused then.
+ *
+ * The ticket is the change and the count of changes that the held book has now. Its bytes, numbers with the lowest byte first:
+ *   2 bytes  the count of changes;
+ *   2 bytes  the kind of change, VANECITRON_TICKET_ADDITION or VANECITRON_TICKET_WITHDRAWAL;
+ *   2 bytes  n, of an addition the number of its record's bytes, of a withdrawal the index of its rule;
+ *   n bytes  of an addition its record; a withdrawal has nothing here.
+ * Bytes behind them are as they were. No record of a rule has more than 134 bytes, so that VANECITRON_TICKET bytes are room for every ticket.
+ *
+ * `sheet` and `ticket` are lent; they must overlap neither each other nor what is read. The sheet has the room that vanecitron_add asks, and `ticket`
+ * has at least VANECITRON_TICKET bytes.
+ * Refusals 1 to 6, 8, 12, in the order that "Results" gives. A refusal leaves the sheet and the ticket's buffer as they were.
+ */
+vanecitron_check_result vanecitron_propose_add(
+    const uint8_t *held, size_t held_length,
+    const uint8_t *record, size_t record_length,
+    uint8_t *sheet, size_t sheet_length,
+    uint8_t *ticket, size_t ticket_length);
+
+/*
+ * Proposes a withdrawal, as vanecitron_propose_add proposes an addition: what vanecitron_withdraw would answer, its sheet, and a ticket.
+ * Refusals 1 to 6, 8, 12, 15, in the order that "Results" gives.
+ */
+vanecitron_check_result vanecitron_propose_withdraw(
+    const uint8_t *held, size_t held_length,
+    size_t rule,
+    uint8_t *sheet, size_t sheet_length,
+    uint8_t *ticket, size_t ticket_length);
+
+/*
+ * Posts a ticket: makes its change, where the held book has had none since the ticket was given. It then answers, changes and writes what vanecitron_add or
+ * vanecitron_withdraw would; all their checks are made again, that of the sheet's room by the buffer that is lent here.
+ *
+ * A ticket is stale, and refused by 16, after any change that was accepted since it was given, made directly or posted: its own is one, and a change that
+ * was undone again counts as well. Of two tickets that were given with no change between, the first that is posted is good, and the other is then stale;
+ * propose its change again. Proposals and refusals make no ticket stale.
+ *
+ * The count is all that a ticket is told by. It has no mark of its book: one of another held book with the same count, or from before a new loading,
+ * cannot be told apart from its own, and its change is made where the checks of that change accept it. Whoever keeps several held books keeps their
+ * tickets apart.
+ *
+ * `ticket` may be of any length and any content, and none is malformed. Bytes that are not there are read as 0; every kind but VANECITRON_TICKET_ADDITION
+ * is a withdrawal; an addition has the n bytes behind the fields, as far as they are there. Bytes that are all 0 are the addition of no bytes, which 1
+ * refuses. So a ticket that was damaged or made up is refused, or is a change that the library would accept directly, and the book that is then held is
+ * an accepted one.
+ *
+ * `held` and `sheet` are lent, and overlap neither each other nor the ticket.
+ * Refusals 16, 17, then those of the change, in the order that "Results" gives. A refusal leaves the held book and the sheet as they were.
+ */
+vanecitron_check_result vanecitron_post(
+    uint8_t *held, size_t held_length,
+    const uint8_t *ticket, size_t ticket_length,
     uint8_t *sheet, size_t sheet_length);
 
 /*
@@ -379,6 +454,8 @@ static inline const char *vanecitron_refusal_text(uint32_t refusal)
     case VANECITRON_HEAVY: return "heavy: the program's input is over its limit";
     case VANECITRON_NO_SPACE: return "no space: the offset lies past the buffer's end, or the least run is longer than what follows it";
     case VANECITRON_NO_SUCH_RULE: return "no such rule: the held book has no rule of the index that is to be withdrawn";
+    case VANECITRON_STALE_TICKET: return "stale ticket: the held book's count of changes is not that of the ticket";
+    case VANECITRON_BOOK_WORN: return "book worn: the held book has had all the changes that it takes, and must be loaded anew";
     default: return "a refusal that this header does not know";
     }
 }

@@ -94,8 +94,9 @@ static inline int vanecitron_book_rule(vanecitron_book *book, const uint8_t *lef
 }
 
 /*
- * Writes the record of a rule alone, for vanecitron_add: VANECITRON_BOOK_RULE_MOST bytes are room for every rule that can be accepted. It gives the
- * number of its bytes, and 0 where it does not fit; vanecitron_add refuses a record of no bytes as VANECITRON_SHORT, so that a caller need not look.
+ * Writes the record of a rule alone, for vanecitron_add and vanecitron_propose_add: VANECITRON_BOOK_RULE_MOST bytes are room for every rule that can be
+ * accepted. It gives the number of its bytes, and 0 where it does not fit; both refuse a record of no bytes as VANECITRON_SHORT, so that a caller need not
+ * look.
  */
 static inline size_t vanecitron_book_rule_record(uint8_t *bytes, size_t room, const uint8_t *left, size_t left_length, const uint8_t *right,
                                                  size_t right_length)

@@ -1,6 +1,6 @@
 /*
  * Tests of what the C headers add to the archive: outcomes that no refusal has, the sides of the cut sheet, least runs and where they stand, held books
- * and where theirs stand, the version, the texts of refusals, and the writer of books with its bounds.
+ * and where theirs stand, proposals and tickets, the version, the texts of refusals, and the writer of books with its bounds.
  * Built and run by host/test. Each claim that fails is printed, and the program then ends with 1.
  */
 #include <stdio.h>
@@ -165,15 +165,18 @@ static void least_runs(void)
     CLAIM(VANECITRON_LEAST_MOST == VANECITRON_RUN * VANECITRON_SIDE);
 }
 
-/* a held book in a buffer with guards behind it, and the sheet beside it; and what both were before a call */
+/* a held book and a ticket, with guards behind them, and the sheet beside them; and what they were before a call */
 static uint8_t held[VANECITRON_HELD + 4], held_before[VANECITRON_HELD + 4], sheet_of_held[VANECITRON_SHEET_MOST], sheet_before[VANECITRON_SHEET_MOST];
+static uint8_t ticket[VANECITRON_TICKET + 4], ticket_before[VANECITRON_TICKET + 4];
 
-/* before a call: the sheet is filled, and both are kept for comparison */
+/* before a call: the sheet and the ticket are filled, and all are kept for comparison */
 static void keep(void)
 {
     memset(sheet_of_held, 0xa5, sizeof sheet_of_held);
+    memset(ticket, 0xa5, sizeof ticket);
     memcpy(held_before, held, sizeof held);
     memcpy(sheet_before, sheet_of_held, sizeof sheet_of_held);
+    memcpy(ticket_before, ticket, sizeof ticket);
 }
 
 /* what is held: so many bytes and changes, and this book */
@@ -185,35 +188,87 @@ static void holds(const uint8_t *book, size_t length, uint64_t changes)
     CLAIM(vanecitron_check(held + h.start, h.length).refusal == VANECITRON_ACCEPTED);
 }
 
-/* a change that is refused says its number and place, and changes no lent byte */
+/* a change, a proposal or a posting that is refused says its number and place, and changes no lent byte */
 static void refused_change(vanecitron_check_result r, uint32_t refusal, uint64_t place)
 {
     CLAIM(r.refusal == refusal && r.place == place && r.rules == 0);
     CLAIM(memcmp(held, held_before, sizeof held) == 0 && memcmp(sheet_of_held, sheet_before, sizeof sheet_of_held) == 0);
+    CLAIM(memcmp(ticket, ticket_before, sizeof ticket) == 0);
 }
 
-/* a change that is not: so many rules, whose sides all have the cut 1 2 1 and 4 pieces; what lies behind the book and behind the sheet is as it was */
-static void accepted_change(vanecitron_check_result r, uint64_t rules, const uint8_t *book, size_t length, uint64_t changes)
+/* one that is not: so many rules, whose sides all have the cut 1 2 1 and 4 pieces; what lies behind the sheet is as it was */
+static void accepted_sheet(vanecitron_check_result r, uint64_t rules)
 {
     CLAIM(r.refusal == VANECITRON_ACCEPTED && r.place == 0 && r.rules == rules);
-    holds(book, length, changes);
     for (const uint8_t *side = sheet_of_held; side < sheet_of_held + VANECITRON_SHEET(rules); side += VANECITRON_SHEET_SIDE) {
         CLAIM(side[VANECITRON_SHEET_X] == 1 && side[VANECITRON_SHEET_Y] == 2 && side[VANECITRON_SHEET_Z] == 1 && side[VANECITRON_SHEET_PIECES] == 4);
     }
-    CLAIM(memcmp(held + 4 + length, held_before + 4 + length, sizeof held - 4 - length) == 0);
     CLAIM(memcmp(sheet_of_held + VANECITRON_SHEET(rules), sheet_before + VANECITRON_SHEET(rules), sizeof sheet_before - VANECITRON_SHEET(rules)) == 0);
 }
 
-static void add_refused(const uint8_t *record, size_t length, size_t sheet_room, uint32_t refusal, uint64_t place)
+/* a change, and the book that is held then; what lies behind it is as it was */
+static void accepted_change(vanecitron_check_result r, uint64_t rules, const uint8_t *book, size_t length, uint64_t changes)
 {
-    keep();
-    refused_change(vanecitron_add(held, VANECITRON_HELD, record, length, sheet_of_held, sheet_room), refusal, place);
+    accepted_sheet(r, rules);
+    holds(book, length, changes);
+    CLAIM(memcmp(held + 4 + length, held_before + 4 + length, sizeof held - 4 - length) == 0);
+    CLAIM(memcmp(ticket, ticket_before, sizeof ticket) == 0);
 }
 
-static void withdraw_refused(size_t rule, size_t sheet_room, uint32_t refusal, uint64_t place)
+/* the fields of a ticket that is made up */
+static size_t ticket_of(uint8_t *bytes, size_t count, size_t kind, size_t number)
+{
+    const size_t fields[] = {count, kind, number};
+    for (size_t i = 0; i < 6; i++) {
+        bytes[i] = (uint8_t)(fields[i / 2] >> 8 * (i % 2));
+    }
+    return 6;
+}
+
+/* and the record of an addition behind them */
+static size_t addition_of(uint8_t *bytes, size_t count, const uint8_t *record, size_t length)
+{
+    size_t fields = ticket_of(bytes, count, VANECITRON_TICKET_ADDITION, length);
+    memcpy(bytes + fields, length == 0 ? bytes : record, length);
+    return fields + length;
+}
+
+/* a proposal: the answer and the sheet of its change, and its ticket; what is held is as it was, and so is what lies behind the ticket */
+static void accepted_proposal(vanecitron_check_result r, uint64_t rules, const uint8_t *expected, size_t length)
+{
+    accepted_sheet(r, rules);
+    CLAIM(memcmp(held, held_before, sizeof held) == 0);
+    CLAIM(memcmp(ticket, expected, length) == 0 && memcmp(ticket + length, ticket_before + length, sizeof ticket - length) == 0);
+}
+
+static void post_refused(const uint8_t *bytes, size_t length, size_t sheet_room, uint32_t refusal, uint64_t place)
 {
     keep();
+    refused_change(vanecitron_post(held, VANECITRON_HELD, bytes, length, sheet_of_held, sheet_room), refusal, place);
+}
+
+/* what refuses an addition refuses its proposal, whatever the ticket's room, and its ticket, unless that is stale */
+static void add_refused(const uint8_t *record, size_t length, size_t sheet_room, uint32_t refusal, uint64_t place)
+{
+    uint8_t bytes[VANECITRON_TICKET];
+    size_t count = held[2] + 256u * held[3];
+    keep();
+    refused_change(vanecitron_add(held, VANECITRON_HELD, record, length, sheet_of_held, sheet_room), refusal, place);
+    refused_change(vanecitron_propose_add(held, VANECITRON_HELD, record, length, sheet_of_held, sheet_room, NULL, 0), refusal, place);
+    post_refused(bytes, addition_of(bytes, count, record, length), sheet_room, refusal, place);
+    post_refused(bytes, addition_of(bytes, count + 1, record, length), sheet_room, VANECITRON_STALE_TICKET, 0);
+}
+
+/* and so of a withdrawal; a ticket has two bytes for the index */
+static void withdraw_refused(size_t rule, size_t sheet_room, uint32_t refusal, uint64_t place)
+{
+    uint8_t bytes[VANECITRON_TICKET];
+    size_t count = held[2] + 256u * held[3];
+    keep();
     refused_change(vanecitron_withdraw(held, VANECITRON_HELD, rule, sheet_of_held, sheet_room), refusal, place);
+    refused_change(vanecitron_propose_withdraw(held, VANECITRON_HELD, rule, sheet_of_held, sheet_room, NULL, 0), refusal, place);
+    post_refused(bytes, ticket_of(bytes, count, VANECITRON_TICKET_WITHDRAWAL, rule), sheet_room, refusal, place);
+    post_refused(bytes, ticket_of(bytes, count + 1, VANECITRON_TICKET_WITHDRAWAL, rule), sheet_room, VANECITRON_STALE_TICKET, 0);
 }
 
 static void load_example(void)
@@ -278,14 +333,6 @@ static void changes(void)
     keep();
     accepted_change(vanecitron_withdraw(held, VANECITRON_HELD, 0, NULL, 0), 0, bytes, VANECITRON_BOOK_HEAD, 5);
     withdraw_refused(0, 0, VANECITRON_NO_SUCH_RULE, 0);
-
-    /* the count stays at its most */
-    held[2] = 254;
-    held[3] = 255;
-    keep();
-    accepted_change(vanecitron_add(held, VANECITRON_HELD, second, rule, sheet_of_held, VANECITRON_SHEET(1)), 1, bytes, Q, VANECITRON_CHANGES_MOST);
-    keep();
-    accepted_change(vanecitron_withdraw(held, VANECITRON_HELD, 0, NULL, 0), 0, bytes, VANECITRON_BOOK_HEAD, VANECITRON_CHANGES_MOST);
 }
 
 /* each refusal of a change of book Q, in their order: what comes later is wrong as well */
@@ -348,6 +395,10 @@ static void altered(void)
     for (size_t room = 0; room < VANECITRON_HELD; room += room == 8 ? VANECITRON_HELD - 9 : 1) {
         refused_change(vanecitron_add(held, room, NULL, 0, NULL, 0), VANECITRON_NARROW, VANECITRON_HELD_BUFFER);
         refused_change(vanecitron_withdraw(held, room, 9, NULL, 0), VANECITRON_NARROW, VANECITRON_HELD_BUFFER);
+        refused_change(vanecitron_propose_add(held, room, NULL, 0, NULL, 0, NULL, 0), VANECITRON_NARROW, VANECITRON_HELD_BUFFER);
+        refused_change(vanecitron_propose_withdraw(held, room, 9, NULL, 0, NULL, 0), VANECITRON_NARROW, VANECITRON_HELD_BUFFER);
+        refused_change(vanecitron_post(held, room, NULL, 0, NULL, 0), VANECITRON_NARROW, VANECITRON_HELD_BUFFER);
+        refused_change(vanecitron_post(held, room, rule, 1, NULL, 0), VANECITRON_STALE_TICKET, 0); /* the count 4 */
     }
 
     /* abdc = abda is loose, since abd and a are pieces: what is held is not checked for that, and a book without it is accepted */
@@ -368,7 +419,166 @@ static void altered(void)
     CLAIM(h.start == 0 && h.length == 0 && h.changes == 0);
     memset(held, 255, sizeof held);
     h = vanecitron_held_book(held, VANECITRON_HELD);
-    CLAIM(h.start == 4 && h.length == VANECITRON_BOOK_MOST && h.changes == VANECITRON_CHANGES_MOST);
+    CLAIM(h.start == 4 && h.length == VANECITRON_BOOK_MOST && h.changes == UINT16_MAX);
+}
+
+static const uint8_t cadb_bcda[] = {10, 0, 2, 0, 4, 4, 2, 0, 3, 1, 1, 2, 3, 0}, accb_bbaa[] = {10, 0, 2, 0, 4, 4, 0, 2, 2, 1, 1, 1, 0, 0};
+
+/* the rules of `changes`, each proposed and then posted; and the room of a ticket */
+static void proposals(void)
+{
+    static const uint8_t bytes[] = {1, 0, 1, 0, 4, 10, 0, 2, 0, 4, 4, 0, 1, 3, 2, 2, 0, 3, 1, 10, 0, 2, 0, 4, 4, 2, 0, 3, 1, 1, 2, 3, 0};
+    static const uint8_t added[] = {0, 0, 0, 0, 14, 0, 10, 0, 2, 0, 4, 4, 2, 0, 3, 1, 1, 2, 3, 0}, withdrawn[] = {1, 0, 1, 0, 1, 0};
+    static const size_t rooms[] = {0, 1, 6, VANECITRON_TICKET - 1};
+    CLAIM(VANECITRON_TICKET == 6 + VANECITRON_BOOK_RULE_MOST);
+    load_example();
+    for (size_t i = 0; i < sizeof rooms / sizeof rooms[0]; i++) {
+        keep();
+        refused_change(vanecitron_propose_add(held, VANECITRON_HELD, cadb_bcda, sizeof cadb_bcda, sheet_of_held, VANECITRON_SHEET(2), ticket, rooms[i]),
+                       VANECITRON_NARROW, VANECITRON_TICKET_BUFFER);
+        refused_change(vanecitron_propose_withdraw(held, VANECITRON_HELD, 0, NULL, 0, ticket, rooms[i]), VANECITRON_NARROW, VANECITRON_TICKET_BUFFER);
+    }
+    keep();
+    accepted_proposal(vanecitron_propose_add(held, VANECITRON_HELD, cadb_bcda, sizeof cadb_bcda, sheet_of_held, VANECITRON_SHEET(2), ticket,
+                                             VANECITRON_TICKET),
+                      2, added, sizeof added);
+    holds(example, Q, 0);
+    post_refused(added, sizeof added, VANECITRON_SHEET(2) - 1, VANECITRON_NARROW, 0);
+    keep();
+    accepted_change(vanecitron_post(held, VANECITRON_HELD, added, sizeof added, sheet_of_held, VANECITRON_SHEET(2)), 2, bytes, sizeof bytes, 1);
+    post_refused(added, sizeof added, 0, VANECITRON_STALE_TICKET, 0);
+
+    keep();
+    accepted_proposal(vanecitron_propose_withdraw(held, sizeof held, 1, sheet_of_held, sizeof sheet_of_held, ticket, sizeof ticket), 1, withdrawn,
+                      sizeof withdrawn);
+    keep();
+    accepted_change(vanecitron_post(held, sizeof held, withdrawn, sizeof withdrawn, sheet_of_held, sizeof sheet_of_held), 1, bytes, Q, 2);
+    post_refused(withdrawn, sizeof withdrawn, 0, VANECITRON_STALE_TICKET, 0);
+}
+
+/* a ticket in the buffer, for the addition of accb = bbaa */
+static void propose_third(void)
+{
+    keep();
+    CLAIM(vanecitron_propose_add(held, VANECITRON_HELD, accb_bbaa, sizeof accb_bbaa, sheet_of_held, sizeof sheet_of_held, ticket, sizeof ticket).refusal ==
+          VANECITRON_ACCEPTED);
+}
+
+/* what makes a ticket stale, and what does not */
+static void stale_tickets(void)
+{
+    uint8_t first[VANECITRON_TICKET], second[VANECITRON_TICKET];
+    load_example();
+    propose_third();
+    memcpy(first, ticket, sizeof first);
+    CLAIM(vanecitron_propose_withdraw(held, VANECITRON_HELD, 0, NULL, 0, ticket, sizeof ticket).refusal == VANECITRON_ACCEPTED);
+    memcpy(second, ticket, sizeof second);
+    withdraw_refused(1, 0, VANECITRON_NO_SUCH_RULE, 0);
+    keep();
+    CLAIM(vanecitron_post(held, VANECITRON_HELD, first, sizeof first, sheet_of_held, sizeof sheet_of_held).rules == 2);
+    post_refused(second, sizeof second, sizeof sheet_of_held, VANECITRON_STALE_TICKET, 0);
+
+    /* a change that is undone counts twice, and a new loading begins the count anew, for old tickets too */
+    CLAIM(vanecitron_withdraw(held, VANECITRON_HELD, 1, sheet_of_held, sizeof sheet_of_held).rules == 1);
+    holds(example, Q, 2);
+    post_refused(first, sizeof first, sizeof sheet_of_held, VANECITRON_STALE_TICKET, 0);
+    load_example();
+    keep();
+    accepted_change(vanecitron_post(held, VANECITRON_HELD, second, sizeof second, NULL, 0), 0, example, VANECITRON_BOOK_HEAD, 1);
+}
+
+/* tickets of book Q with no change, of any length and content: bytes that are not there are 0, and every kind but 0 is a withdrawal */
+static void made_up_tickets(void)
+{
+    static const struct {
+        uint8_t bytes[8];
+        size_t length;
+        uint32_t refusal;
+        uint64_t place;
+    } cases[] = {
+        {{0}, 1, VANECITRON_SHORT, Q},
+        {{0}, 8, VANECITRON_SHORT, Q},
+        {{0, 0, 0, 0, 14}, 5, VANECITRON_SHORT, Q},
+        {{0, 0, 0, 0, 1, 0, 9, 9}, 8, VANECITRON_SHORT, Q},
+        {{1}, 1, VANECITRON_STALE_TICKET, 0},
+        {{0, 1}, 2, VANECITRON_STALE_TICKET, 0},
+        {{0, 0, 1, 0, 1}, 5, VANECITRON_NO_SUCH_RULE, 0},
+        {{0, 0, 1, 0, 0, 1}, 6, VANECITRON_NO_SUCH_RULE, 0},
+        {{0, 0, 1, 0, 255, 255, 9, 9}, 8, VANECITRON_NO_SUCH_RULE, 0},
+        {{0, 0, 1}, 3, VANECITRON_ACCEPTED, 0},
+        {{0, 0, 0, 1}, 4, VANECITRON_ACCEPTED, 0},
+        {{0, 0, 2, 0, 0, 0, 9, 9}, 8, VANECITRON_ACCEPTED, 0},
+        {{0, 0, 255, 255, 0, 0}, 6, VANECITRON_ACCEPTED, 0},
+    };
+    for (size_t i = 0; i < sizeof cases / sizeof cases[0]; i++) {
+        load_example();
+        if (cases[i].refusal != VANECITRON_ACCEPTED) {
+            post_refused(cases[i].bytes, cases[i].length, sizeof sheet_of_held, cases[i].refusal, cases[i].place);
+            continue;
+        }
+        keep();
+        accepted_change(vanecitron_post(held, VANECITRON_HELD, cases[i].bytes, cases[i].length, NULL, 0), 0, example, VANECITRON_BOOK_HEAD, 1);
+    }
+
+    /* an addition has the bytes that are there; what lies behind them is no part of it */
+    uint8_t bytes[VANECITRON_TICKET + 60];
+    memset(bytes, 0xaa, sizeof bytes);
+    load_example();
+    post_refused(NULL, 0, 0, VANECITRON_SHORT, Q);
+    post_refused(bytes, VANECITRON_TICKET, sizeof sheet_of_held, VANECITRON_STALE_TICKET, 0);
+    size_t length = addition_of(bytes, 0, accb_bbaa, sizeof accb_bbaa);
+    post_refused(bytes, length - 1, sizeof sheet_of_held, VANECITRON_SHORT, Q);
+    ticket_of(bytes, 0, VANECITRON_TICKET_ADDITION, UINT16_MAX);
+    post_refused(bytes, length + 1, sizeof sheet_of_held, VANECITRON_LENGTH, Q);
+    keep();
+    CLAIM(vanecitron_post(held, VANECITRON_HELD, bytes, length, sheet_of_held, sizeof sheet_of_held).rules == 2);
+    load_example();
+    addition_of(bytes, 0, accb_bbaa, sizeof accb_bbaa);
+    CLAIM(vanecitron_post(held, VANECITRON_HELD, bytes, sizeof bytes, sheet_of_held, sizeof sheet_of_held).rules == 2);
+}
+
+/* book Q after all its changes, by its count: no change is made, and a proposal is answered; a = aa would be loose on side 2 */
+static void worn(uint64_t count)
+{
+    static const uint8_t loose[] = {5, 0, 2, 0, 1, 2, 0, 0, 0};
+    uint8_t good[6], stale[6], looser[6 + sizeof loose];
+    ticket_of(good, count, VANECITRON_TICKET_WITHDRAWAL, 0);
+    ticket_of(stale, count - 1, VANECITRON_TICKET_WITHDRAWAL, 0);
+    holds(example, Q, count);
+    keep();
+    refused_change(vanecitron_withdraw(held, VANECITRON_HELD, 0, NULL, 0), VANECITRON_BOOK_WORN, 0);
+    refused_change(vanecitron_add(held, VANECITRON_HELD, accb_bbaa, sizeof accb_bbaa, sheet_of_held, VANECITRON_SHEET(2)), VANECITRON_BOOK_WORN, 0);
+    accepted_proposal(vanecitron_propose_withdraw(held, VANECITRON_HELD, 0, NULL, 0, ticket, VANECITRON_TICKET), 0, good, sizeof good);
+    post_refused(good, sizeof good, 0, VANECITRON_BOOK_WORN, 0);
+    post_refused(stale, sizeof stale, 0, VANECITRON_STALE_TICKET, 0);
+
+    /* what else is wrong comes first of a change and of a proposal, and not of a posting */
+    keep();
+    refused_change(vanecitron_withdraw(held, VANECITRON_HELD, 1, NULL, 0), VANECITRON_NO_SUCH_RULE, 0);
+    refused_change(vanecitron_add(held, VANECITRON_HELD, accb_bbaa, sizeof accb_bbaa, NULL, 0), VANECITRON_NARROW, 0);
+    refused_change(vanecitron_add(held, VANECITRON_HELD, loose, sizeof loose, NULL, 0), VANECITRON_LOOSE, 2);
+    refused_change(vanecitron_propose_add(held, VANECITRON_HELD, loose, sizeof loose, NULL, 0, NULL, 0), VANECITRON_LOOSE, 2);
+    post_refused(looser, addition_of(looser, count, loose, sizeof loose), 0, VANECITRON_BOOK_WORN, 0);
+}
+
+/* 60000 changes, one by one, half of them posted; then none, whatever more the count says, until a book is loaded anew */
+static void wear(void)
+{
+    load_example();
+    for (uint32_t change = 0; change < VANECITRON_CHANGES_MOST; change += 2) {
+        uint8_t bytes[VANECITRON_TICKET];
+        size_t length = addition_of(bytes, change + 1, example + VANECITRON_BOOK_HEAD, Q - VANECITRON_BOOK_HEAD);
+        CLAIM(vanecitron_withdraw(held, VANECITRON_HELD, 0, NULL, 0).refusal == VANECITRON_ACCEPTED);
+        CLAIM(vanecitron_post(held, VANECITRON_HELD, bytes, length, sheet_of_held, sizeof sheet_of_held).refusal == VANECITRON_ACCEPTED);
+    }
+    worn(60000);
+    held[2]++;
+    worn(60001);
+    held[2] = held[3] = 255;
+    worn(UINT16_MAX);
+    load_example();
+    keep();
+    accepted_change(vanecitron_withdraw(held, VANECITRON_HELD, 0, NULL, 0), 0, example, VANECITRON_BOOK_HEAD, 1);
 }
 
 static void version(void)
@@ -383,13 +593,13 @@ static void version(void)
 static void texts(void)
 {
     const char *unknown = vanecitron_refusal_text(UINT32_MAX);
-    for (uint32_t refusal = VANECITRON_ACCEPTED; refusal <= VANECITRON_NO_SUCH_RULE; refusal++) {
+    for (uint32_t refusal = VANECITRON_ACCEPTED; refusal <= VANECITRON_BOOK_WORN; refusal++) {
         CLAIM((strcmp(vanecitron_refusal_text(refusal), unknown) == 0) == (refusal == VANECITRON_THICK + 1));
         for (uint32_t earlier = 0; earlier < refusal; earlier++) {
             CLAIM(strcmp(vanecitron_refusal_text(refusal), vanecitron_refusal_text(earlier)) != 0);
         }
     }
-    CLAIM(strcmp(vanecitron_refusal_text(VANECITRON_NO_SUCH_RULE + 1), unknown) == 0);
+    CLAIM(strcmp(vanecitron_refusal_text(VANECITRON_BOOK_WORN + 1), unknown) == 0);
 }
 
 /* the example written into a buffer of this size, between guards: byte for byte where it fits, else no book at all */
@@ -472,6 +682,10 @@ int main(void)
     changes();
     refused_changes();
     altered();
+    proposals();
+    stale_tickets();
+    made_up_tickets();
+    wear();
     version();
     texts();
     writer();

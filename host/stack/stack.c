@@ -5,7 +5,7 @@
  * refusal that it is there for.
  *
  * The library has no recursion and no arrays whose size depends on the input, so a call needs as much as its deepest chain of functions. The calls take
- * each row of a round, meet each kind of refusal that a function has, and have books, held ones too, runs, marks and inputs at their limits.
+ * each row of a round, meet each kind of refusal that a function has, and have books, held ones too, tickets, runs, marks and inputs at their limits.
  */
 #define _XOPEN_SOURCE 700
 #include <stdint.h>
@@ -25,13 +25,13 @@
 static uint8_t book[VANECITRON_BOOK_MOST + RULE], input[VANECITRON_INPUT + 1];
 static uint8_t u[VANECITRON_ROUND_RUN + 1], v[VANECITRON_ROUND_RUN + 1], p[VANECITRON_ROUND_MARK + 1];
 static uint8_t record[RULE + 1];
-static size_t book_length, input_length, u_length, v_length, p_length, record_length, withdrawn;
+static size_t book_length, input_length, u_length, v_length, p_length, record_length, withdrawn, ticket_length;
 static uint32_t allowance;
 
-/* what it is lent, and how much of that; the held book has room for one rule over the limit */
+/* what it is lent, and how much of that; the held book has room for one rule over the limit, and the ticket, which is given too, for one byte */
 static uint8_t sheet[VANECITRON_SHEET_MOST], next_u[VANECITRON_NEXT_RUN], next_v[VANECITRON_NEXT_RUN], next_p[VANECITRON_NEXT_MARK];
-static uint8_t least[VANECITRON_LEAST_MOST], output[VANECITRON_OUTPUT], held[VANECITRON_HELD + RULE];
-static size_t sheet_room, next_u_room, next_v_room, next_p_room, least_room, output_room, held_room;
+static uint8_t least[VANECITRON_LEAST_MOST], output[VANECITRON_OUTPUT], held[VANECITRON_HELD + RULE], ticket[VANECITRON_TICKET + 1];
+static size_t sheet_room, next_u_room, next_v_room, next_p_room, least_room, output_room, held_room, ticket_room;
 static size_t offset;
 
 /* what it answers */
@@ -87,6 +87,21 @@ static void call_add(void)
 static void call_withdraw(void)
 {
     checked = vanecitron_withdraw(held, held_room, withdrawn, sheet, sheet_room);
+}
+
+static void call_propose_add(void)
+{
+    checked = vanecitron_propose_add(held, held_room, record, record_length, sheet, sheet_room, ticket, ticket_room);
+}
+
+static void call_propose_withdraw(void)
+{
+    checked = vanecitron_propose_withdraw(held, held_room, withdrawn, sheet, sheet_room, ticket, ticket_room);
+}
+
+static void call_post(void)
+{
+    checked = vanecitron_post(held, held_room, ticket, ticket_length, sheet, sheet_room);
 }
 
 static void call_held_book(void)
@@ -209,9 +224,12 @@ static struct function program = {"program", call_program, tell_printed, 0, 0};
 static struct function load = {"load", call_load, tell_checked, 0, 0};
 static struct function addition = {"add", call_add, tell_checked, 0, 0};
 static struct function withdrawal = {"withdraw", call_withdraw, tell_checked, 0, 0};
+static struct function proposed_addition = {"propose_add", call_propose_add, tell_checked, 0, 0};
+static struct function proposed_withdrawal = {"propose_withdraw", call_propose_withdraw, tell_checked, 0, 0};
+static struct function posting = {"post", call_post, tell_checked, 0, 0};
 static struct function held_book = {"held_book", call_held_book, tell_found, 0, 0};
-static struct function *const functions[] = {&check,   &cut_sheet, &single_round, &compare,    &least_run,
-                                             &program, &load,      &addition,     &withdrawal, &held_book};
+static struct function *const functions[] = {&check,    &cut_sheet,  &single_round,      &compare,             &least_run, &program,  &load,
+                                             &addition, &withdrawal, &proposed_addition, &proposed_withdrawal, &posting,   &held_book};
 #define OF_BOOK 7u /* so many of them are given a book as it is */
 static int failed;
 
@@ -338,6 +356,8 @@ static void begin_call(void)
     least_room = sizeof least;
     output_room = sizeof output;
     held_room = VANECITRON_HELD;
+    ticket_room = VANECITRON_TICKET;
+    ticket_length = sizeof ticket;
     offset = 0;
     allowance = VANECITRON_ALLOWANCE;
     u_length = v_length = p_length = 0;
@@ -620,6 +640,18 @@ static void limits(void)
     measure(&least_run, "least 262080");
 }
 
+/* a change of what is held that gives this answer: proposed, posted, when the ticket is then stale, and made directly instead */
+static void measure_change(struct function *proposal, struct function *change, const char *expected)
+{
+    static uint8_t held_before[sizeof held];
+    memcpy(held_before, held, sizeof held);
+    measure(proposal, expected);
+    measure(&posting, expected);
+    measure(&posting, "refused 16 0");
+    memcpy(held, held_before, sizeof held);
+    measure(change, expected);
+}
+
 /* full books that are held: loaded, each with a rule less, the first, one between and the last, and with the last one added again */
 static void full_held_books(void (*make_book)(void))
 {
@@ -630,11 +662,11 @@ static void full_held_books(void (*make_book)(void))
         measure(&load, "rules 32");
         measure(&held_book, "held 4293 0");
         withdrawn = rules[i];
-        measure(&withdrawal, "rules 31");
+        measure_change(&proposed_withdrawal, &withdrawal, "rules 31");
         measure(&held_book, "held 4159 1");
     }
     hold_all_but_last(make_book);
-    measure(&addition, "rules 32");
+    measure_change(&proposed_addition, &addition, "rules 32");
     measure(&held_book, "held 4293 1");
 }
 
@@ -645,9 +677,9 @@ static void small_held_books(void)
     begin_call();
     measure(&load, "rules 0");
     record_length = vanecitron_book_rule_record(record, sizeof record, (const uint8_t *)"\0", 1, (const uint8_t *)"\1", 1);
-    measure(&addition, "rules 1");
+    measure_change(&proposed_addition, &addition, "rules 1");
     withdrawn = 0;
-    measure(&withdrawal, "rules 0");
+    measure_change(&proposed_withdrawal, &withdrawal, "rules 0");
     measure(&held_book, "held 5 2");
     held_room = 7;
     measure(&held_book, "held 3 2");
@@ -672,6 +704,26 @@ static void spoiled_book(uint32_t refusal)
     }
 }
 
+/* the ticket of the change that a call is given, made up where a proposal gives none; its count is that of the held book */
+static void make_up_ticket(int is_addition)
+{
+    size_t kind = is_addition ? VANECITRON_TICKET_ADDITION : VANECITRON_TICKET_WITHDRAWAL;
+    const size_t fields[] = {held[2] + 256u * held[3], kind, is_addition ? record_length : withdrawn};
+    for (size_t i = 0; i < 6; i++) {
+        ticket[i] = (uint8_t)(fields[i / 2] >> 8 * (i % 2));
+    }
+    memcpy(ticket + 6, record, sizeof record);
+}
+
+/* a change that is refused, its proposal, and its ticket */
+static void measure_refused(struct function *proposal, struct function *change, const char *expected)
+{
+    measure(change, expected);
+    measure(proposal, expected);
+    make_up_ticket(change == &addition);
+    measure(&posting, expected);
+}
+
 /* refusals 1 to 6 and 8 in each function that has them; the program prints them */
 static void refused_books(void)
 {
@@ -693,8 +745,8 @@ static void refused_books(void)
         if (books[spoiled].refusal != VANECITRON_LOOSE) {
             hold();
             held_room = sizeof held;
-            measure(&addition, books[spoiled].expected);
-            measure(&withdrawal, books[spoiled].expected);
+            measure_refused(&proposed_addition, &addition, books[spoiled].expected);
+            measure_refused(&proposed_withdrawal, &withdrawal, books[spoiled].expected);
         }
     }
 }
@@ -722,18 +774,18 @@ static void refused_additions(void)
         case VANECITRON_LOOSE: memset(record + RULE - VANECITRON_SIDE, 0, VANECITRON_SIDE); break;
         default: abort();
         }
-        measure(&addition, records[i].expected);
+        measure_refused(&proposed_addition, &addition, records[i].expected);
     }
     hold_all_but_last(full_random_book);
     record_length = 0;
-    measure(&addition, "refused 1 4159");
+    measure_refused(&proposed_addition, &addition, "refused 1 4159");
     record_length = RULE + 1;
-    measure(&addition, "refused 3 4159");
+    measure_refused(&proposed_addition, &addition, "refused 3 4159");
     record_length = RULE;
     sheet_room = VANECITRON_SHEET_MOST - 1;
-    measure(&addition, "refused 12 0");
+    measure_refused(&proposed_addition, &addition, "refused 12 0");
     held_room = VANECITRON_HELD - 1;
-    measure(&addition, "refused 12 1");
+    measure_refused(&proposed_addition, &addition, "refused 12 1");
 }
 
 /* each refusal of a withdrawal from a full book; 8 is of one that would not load, and whose last side, which is at fault, moves from 63 to 61 */
@@ -743,18 +795,37 @@ static void refused_withdrawals(void)
     begin_call();
     hold();
     withdrawn = VANECITRON_RULES;
-    measure(&withdrawal, "refused 15 0");
+    measure_refused(&proposed_withdrawal, &withdrawal, "refused 15 0");
     withdrawn = SIZE_MAX;
-    measure(&withdrawal, "refused 15 0");
+    measure_refused(&proposed_withdrawal, &withdrawal, "refused 15 0");
     withdrawn = 0;
     sheet_room = VANECITRON_SHEET(VANECITRON_RULES - 1) - 1;
-    measure(&withdrawal, "refused 12 0");
+    measure_refused(&proposed_withdrawal, &withdrawal, "refused 12 0");
     held_room = VANECITRON_HELD - 1;
-    measure(&withdrawal, "refused 12 1");
+    measure_refused(&proposed_withdrawal, &withdrawal, "refused 12 1");
     spoiled_book(VANECITRON_LOOSE);
     begin_call();
     hold();
-    measure(&withdrawal, "refused 8 61");
+    measure_refused(&proposed_withdrawal, &withdrawal, "refused 8 61");
+}
+
+/* of full books: 12 of the ticket's buffer, and 17, with the proposals that are answered all the same */
+static void refused_tickets(void)
+{
+    hold_all_but_last(full_random_book);
+    withdrawn = VANECITRON_RULES - 2;
+    ticket_room--;
+    measure(&proposed_addition, "refused 12 2");
+    measure(&proposed_withdrawal, "refused 12 2");
+    ticket_room++;
+    held[2] = VANECITRON_CHANGES_MOST & 255u;
+    held[3] = VANECITRON_CHANGES_MOST >> 8;
+    measure(&proposed_addition, "rules 32");
+    measure(&posting, "refused 17 0");
+    measure(&addition, "refused 17 0");
+    measure(&proposed_withdrawal, "rules 30");
+    measure(&posting, "refused 17 0");
+    measure(&withdrawal, "refused 17 0");
 }
 
 /* a full book whose last side is the first one: three of its runs are a family */
@@ -864,11 +935,12 @@ int main(void)
     refused_books();
     refused_additions();
     refused_withdrawals();
+    refused_tickets();
     refused_runs();
     narrow_buffers();
     refused_inputs();
     for (size_t i = 0; i < sizeof functions / sizeof functions[0]; i++) {
-        printf("vanecitron_%-10s %6zu bytes of stack, the most of %u calls\n", functions[i]->name, functions[i]->most, functions[i]->calls);
+        printf("vanecitron_%-16s %6zu bytes of stack, the most of %u calls\n", functions[i]->name, functions[i]->most, functions[i]->calls);
         if (functions[i]->most > VANECITRON_STACK) {
             printf("vanecitron_%s needs more than VANECITRON_STACK, %u bytes\n", functions[i]->name, VANECITRON_STACK);
             failed = 1;

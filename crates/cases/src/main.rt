@@ -8,8 +8,14 @@
 //   compare BOOK U V N         a comparison with an allowance of N rounds: `same ROUNDS` or `different ROUNDS`
 //   held BOOK OP OP ..         a held book, loaded and then changed: a word for the loading and one for each OP
 // or `refused N P` (number, place). Any other line is a heading, and is printed as it is. Lent buffers are filled with aa before the call; `touched` stands
-// before an answer that came with a change of a byte which it must keep. An OP is `add:RECORD:N` or `drop:INDEX:N`, with a sheet of N bytes; the words are `accepted:R` for the
-// loading, `accepted:R:BYTES` for a change, with the bytes of its sheet alone, and `refused:N:P`; a refused loading ends the line.
+// before an answer that came with a change of a byte which it must keep. An OP of a held book has a sheet of N bytes:
+//   add:RECORD:N               an addition, made at once
+//   drop:INDEX:N               a withdrawal, made at once
+//   plan-add:RECORD:N          the proposal of an addition, with a ticket's buffer that has just the room of one
+//   plan-drop:INDEX:N          the proposal of a withdrawal, likewise
+//   post:T:N                   the posting of ticket T of those that the line's proposals gave, counted from 0; any other ticket is all aa
+// The words are `accepted:R` for the loading, `accepted:R:BYTES` for an OP, with the bytes of its sheet alone, and `refused:N:P`; a refused loading ends
+// the line, and a refused proposal gives no ticket.
 ghost use Prim.Native.Nat.{_≤_};
 ghost use lib.ListN.{length};
 ghost use Rattle.fields.specs.Places.{Filled};

@@ -1,4 +1,9 @@
 pub mod Buffers
+pub mod Effects
 pub mod Steps
+pub mod Tickets
+pub mod Numbers
 pub mod Theorems
+pub mod Postings
 pub mod Examples
+pub mod TicketExamples

@@ -22,19 +22,15 @@ use Rattle.format.proofs.Unique.{without-within, adding-within}
 use Rattle.format.proofs.Additions.{addition-within, addition-few}
 use Rattle.presentation.specs.Loading.{byVerdict, loadBook}
 use Rattle.sheet.specs.Sheet.{cutSheet}
-use Rattle.answers.specs.Answers.{accepted, refusal}
+use Rattle.answers.specs.Answers.{accepted}
 use Rattle.answers.specs.Entries.{onLoaded}
 use Rattle.held.specs.Held.{bookIn, changesAfter, holding, takenUp}
-use Rattle.held.specs.Changes.{Change, addition, withdrawal, changed, changedIn, ChangeOutcome, settled, changeOf}
+use Rattle.held.specs.Changes.{Change, addition, withdrawal, changed, changedIn, Effect, refuses, leads, settled, effectOf, ChangeOutcome, changeOf}
+use Rattle.held.proofs.Effects.{leads-or-refuses, change-accepted}
 
 -- nothing is read and refused
 pub read-or-refused : (presentation : Presentation) (r : Refusal) → refused r ≡ read presentation → ⊥
 read-or-refused presentation r e = let z : _≡_ {A = ℕ} 0 1 = cc in omega arith
-
--- an outcome is not of an acceptance and of a refusal
-accepted-or-refused : (n : ℕ) (held sheet : List ℕ) (held′ sheet′ : List ℕ) (r : Refusal)
-    → ChangeOutcome.after (refusal r) held sheet ≡ ChangeOutcome.after (accepted n) held′ sheet′ → ⊥
-accepted-or-refused n held sheet held′ sheet′ r e = let z : _≡_ {A = ℕ} 0 1 = cc in omega arith
 
 -- where a refusal would give something else, there was a presentation
 pub passed-loaded : {A : Type 0} (o : BookReading) (stop : Refusal → A) (next : Presentation → A) (good : A) → ((r : Refusal) → stop r ≡ good → ⊥)
@@ -79,7 +75,7 @@ unfolding changedIn takenUp
 changed-in change held presentation t = rw (le-ltb (length held) 4297 (t .room), t .is)
 
 -- a change that is made was made of what is held
-taken-of : (change : Change) (held : List ℕ) (after : Presentation) → changedIn change held ≡ read after
+pub taken-of : (change : Change) (held : List ℕ) (after : Presentation) → changedIn change held ≡ read after
     → (presentation : Presentation) × (Taken held presentation) × (changed change (length (bookIn held)) presentation ≡ read after)
 unfolding changedIn takenUp
 taken-of change held after e =
@@ -116,45 +112,42 @@ changed-within (withdrawal i) place presentation after w e =
     let g : without presentation i ≡ after = cc in
     subst Within g (without-within presentation i w)
 
--- a new book is accepted with so many relations: it is held, and the sheet of its presentation is written
-abbrev pub acceptedAs : List ℕ → List ℕ → List ℕ → Presentation → ℕ → ChangeOutcome
-acceptedAs held sheet book presentation n =
-    ChangeOutcome.after (accepted n) (holding (changesAfter held) book held) (over (cutSheet (relationWords (presentation .relations))) sheet)
+-- where a new book with so many relations leads: to its bytes, and to the sheet of its presentation
+abbrev pub leadsTo : List ℕ → Presentation → ℕ → Effect
+leadsTo book presentation n = leads n book (cutSheet (relationWords (presentation .relations)))
 
 -- that is so where it loads and its sheet has room
-pub settles : (held sheet book : List ℕ) (presentation : Presentation) → loadBook book ≡ read presentation
-    → sheetColumns * (2 * length (presentation .relations)) ≤ length sheet
-    → settled held sheet book ≡ acceptedAs held sheet book presentation (length (presentation .relations))
+pub settles : (room : ℕ) (book : List ℕ) (presentation : Presentation) → loadBook book ≡ read presentation
+    → sheetColumns * (2 * length (presentation .relations)) ≤ room → settled room book ≡ leadsTo book presentation (length (presentation .relations))
 unfolding settled
-settles held sheet book presentation e h = rw (e, le-ltb (length sheet) (4 * (2 * length (presentation .relations))) h)
+settles room book presentation e h = rw (e, le-ltb room (4 * (2 * length (presentation .relations))) h)
 
--- the parts of outcomes that are the same
-outcome-parts : (m n : ℕ) (held sheet held′ sheet′ : List ℕ) → ChangeOutcome.after (accepted m) held sheet ≡ ChangeOutcome.after (accepted n) held′ sheet′
-    → (n ≡ m) × (held′ ≡ held) × (sheet′ ≡ sheet)
-outcome-parts m n held sheet held′ sheet′ e =
+-- the parts of effects that are the same
+effect-parts : (m n : ℕ) (book cuts book′ cuts′ : List ℕ) → leads m book cuts ≡ leads n book′ cuts′ → (n ≡ m) × (book′ ≡ book) × (cuts′ ≡ cuts)
+effect-parts m n book cuts book′ cuts′ e =
     let a : n ≡ m = cc in
-    let b : held′ ≡ held = cc in
-    let c : sheet′ ≡ sheet = cc in
+    let b : book′ ≡ book = cc in
+    let c : cuts′ ≡ cuts = cc in
     (a, b, c)
 
-module _ (held sheet book : List ℕ) (n : ℕ) (held′ sheet′ : List ℕ) (e : settled held sheet book ≡ ChangeOutcome.after (accepted n) held′ sheet′) where
-  -- a new book that is accepted loads
+module _ (room : ℕ) (book : List ℕ) (n : ℕ) (book′ cuts : List ℕ) (e : settled room book ≡ leads n book′ cuts) where
+  -- a new book that leads somewhere loads
   settled-loads : (presentation : Presentation) × (loadBook book ≡ read presentation)
   unfolding settled
   settled-loads =
-      let (presentation, l, f) = passed-loaded (loadBook book) _ _ _ (accepted-or-refused n held sheet held′ sheet′) e in
+      let (presentation, l, f) = passed-loaded (loadBook book) _ _ _ (λ r. leads-or-refuses r n book′ cuts) e in
       (presentation, l)
 
-  -- its sheet has room, and both are written
+  -- its sheet has room, and both are what it leads to
   settled-parts : (presentation : Presentation) → loadBook book ≡ read presentation
-      → (sheetColumns * (2 * length (presentation .relations)) ≤ length sheet) × (n ≡ length (presentation .relations))
-      × (held′ ≡ holding (changesAfter held) book held) × (sheet′ ≡ over (cutSheet (relationWords (presentation .relations))) sheet)
+      → (sheetColumns * (2 * length (presentation .relations)) ≤ room) × (n ≡ length (presentation .relations))
+      × (book′ ≡ book) × (cuts ≡ cutSheet (relationWords (presentation .relations)))
   unfolding settled
   settled-parts presentation l =
-      let other = accepted-or-refused n held sheet held′ sheet′ (Narrow 0) in
-      let (b, d) = passed (ltb (length sheet) (4 * (2 * length (presentation .relations)))) _ _ _ other (rw l at e) in
-      let (counted, holds, sheets) = outcome-parts _ n _ _ held′ sheet′ d in
-      (ltb-false (length sheet) (4 * (2 * length (presentation .relations))) b, counted, holds, sheets)
+      let other = leads-or-refuses (Narrow 0) n book′ cuts in
+      let (b, d) = passed (ltb room (4 * (2 * length (presentation .relations)))) _ _ _ other (rw l at e) in
+      let (counted, books, sheets) = effect-parts _ n _ _ book′ cuts d in
+      (ltb-false room (4 * (2 * length (presentation .relations))) b, counted, books, sheets)
 
 -- an accepted change of what is held: the presentation that it makes is within the limits and loads, and its bytes and its sheet are written
 pub record Accepted (change : Change) (held lent : List ℕ) (presentation : Presentation) (n : ℕ) (held′ sheet : List ℕ) : Type 0 where
@@ -171,23 +164,38 @@ pub record Accepted (change : Change) (held lent : List ℕ) (presentation : Pre
 loads-back : (after q : Presentation) → Within after → loadBook (bookBytes after) ≡ read q → loadBook (bookBytes after) ≡ read after
 loads-back after q w l = l ∙ sym (loaded-read (bookBytes after) q l .0) ∙ read-bytes after w
 
+-- a change that leads to a book makes a presentation, whose bytes are settled
+pub made-first : (change : Change) (held : List ℕ) (room n : ℕ) (book cuts : List ℕ) → effectOf change held room ≡ leads n book cuts
+    → (after : Presentation) × (changedIn change held ≡ read after) × (settled room (bookBytes after) ≡ leads n book cuts)
+unfolding effectOf
+made-first change held room n book cuts e = passed-loaded (changedIn change held) refuses _ (leads n book cuts) (λ r. leads-or-refuses r n book cuts) e
+
 pub accepted-change : (change : Change) (held lent : List ℕ) (presentation : Presentation) (n : ℕ) (held′ sheet : List ℕ) → Taken held presentation
     → changeOf change held lent ≡ ChangeOutcome.after (accepted n) held′ sheet → Accepted change held lent presentation n held′ sheet
-unfolding changeOf
 accepted-change change held lent presentation n held′ sheet t e =
-    let (after, m, f) = passed-loaded (changedIn change held) _ _ _ (accepted-or-refused n held lent held′ sheet) e in
+    let c = change-accepted change held lent n held′ sheet e in
+    let (after, m, f) = made-first change held (length lent) n (c .book) (c .cuts) (c .is) in
     let made = sym (changed-in change held presentation t) ∙ m in
     let within = changed-within change (length (bookIn held)) presentation after (read-within (bookIn held) presentation (t .is)) made in
-    let (q, l) = settled-loads held lent (bookBytes after) n held′ sheet f in
+    let (q, l) = settled-loads (length lent) (bookBytes after) n (c .book) (c .cuts) f in
     let loads = loads-back after q within l in
-    let (room, counted, holds, sheets) = settled-parts held lent (bookBytes after) n held′ sheet f after loads in
-    record { after = after; made = made; within = within; loads = loads; room = room; counted = counted; holds = holds; sheets = sheets }
+    let (room, counted, books, sheets) = settled-parts (length lent) (bookBytes after) n (c .book) (c .cuts) f after loads in
+    record {
+      after = after;
+      made = made;
+      within = within;
+      loads = loads;
+      room = room;
+      counted = counted;
+      holds = c .holds ∙ ap (λ (book : List ℕ). holding (changesAfter held) book held) books;
+      sheets = c .sheets ∙ ap (λ (cuts : List ℕ). over cuts lent) sheets;
+    }
 
 -- a change that is accepted was made of what is held
 pub accepted-taken : (change : Change) (held lent : List ℕ) (n : ℕ) (held′ sheet : List ℕ) → changeOf change held lent ≡ ChangeOutcome.after (accepted n) held′ sheet
     → (presentation : Presentation) × Taken held presentation
-unfolding changeOf
 accepted-taken change held lent n held′ sheet e =
-    let (after, m, f) = passed-loaded (changedIn change held) _ _ _ (accepted-or-refused n held lent held′ sheet) e in
+    let c = change-accepted change held lent n held′ sheet e in
+    let (after, m, f) = made-first change held (length lent) n (c .book) (c .cuts) (c .is) in
     let (presentation, t, g) = taken-of change held after m in
     (presentation, t)

@@ -1,11 +1,9 @@
 -- The demands on held books.
 use Prim.Native.Nat.{ℕ, _*_, _-_, _≤_, _<_}
-use mathlib.Core.Bool.{Bool, true, false}
 use mathlib.Core.List.{List, [], _∷_}
 use mathlib.Core.Path.{_≡_, refl, sym, ap, _∙_, subst}
 use native.Mathlib.Omega.{arith}
 use borrow.Author.Tests.{lt-ltb, le-ltb, le-leb, lt-leb}
-use lib.Dec.{ltb}
 use lib.ListN.{length, length-append}
 use Rattle.words.specs.Relations.{relationWords}
 use Rattle.words.proofs.Relations.{withdrawn-sides, added-sides}
@@ -13,7 +11,8 @@ use Rattle.overlap.specs.Verdict.{Verdict, judge}
 use Rattle.overlap.proofs.Fewer.{fewer-accepted}
 use Rattle.writing.specs.Writing.{over}
 use Rattle.limits.specs.Limits.{sheetColumns, heldRoom}
-use Rattle.format.specs.Book.{Presentation, adding, without, BookReading, read, relationIn}
+use Rattle.refusals.specs.declared.Refusal.the-variants.{Narrow, NoSuchRelation, BookWorn}
+use Rattle.format.specs.Book.{Presentation, adding, without, read, relationIn}
 use Rattle.format.specs.Bytes.{bookBytes}
 use Rattle.format.proofs.Lengths.{bytes-few}
 use Rattle.format.proofs.Bytes.{read-bytes}
@@ -21,13 +20,15 @@ use Rattle.format.proofs.Unique.{bytes-unique, without-within, without-length}
 use Rattle.format.proofs.Additions.{without-last}
 use Rattle.presentation.specs.Loading.{loadBook}
 use Rattle.sheet.specs.Sheet.{cutSheet}
-use Rattle.answers.specs.Answers.{accepted, refused, refusal}
+use Rattle.answers.specs.Answers.{accepted}
 use Rattle.answers.specs.Entries.{SheetOutcome, sheetOf}
-use Rattle.held.specs.Held.{bookIn, changesAfter, holding}
-use Rattle.held.specs.Changes.{loadOf, Change, addition, withdrawal, changed, changedIn, ChangeOutcome, settled, changeOf}
+use Rattle.held.specs.Held.{bookIn, changesAfter, worn, holding}
+use Rattle.held.specs.Changes.{loadOf, Change, addition, withdrawal, changed, changedIn, refuses, settled, effectOf, lastly, ChangeOutcome, made, changeOf}
+use Rattle.held.specs.Tickets.{changeIn}
 use Rattle.held.specs.Demands.{Holds, HeldFits, LoadedHolds, LoadingsHold, RefusedKeeps, WithdrawalsHold, AdditionsNeedC4, Changes, ChangesTo, Fresh, ChangesFresh, AdditionsUndone}
 use Rattle.held.proofs.Buffers.{book-held, changes-held, holding-long, book-bytes}
-use Rattle.held.proofs.Steps.{loaded-read, loaded-within, read-loads, Taken, changed-in, added, acceptedAs, settles, Accepted, accepted-change, accepted-taken}
+use Rattle.held.proofs.Effects.{made-refused, change-fresh, change-worn, change-refused, posted-direct}
+use Rattle.held.proofs.Steps.{loaded-read, loaded-within, read-loads, Taken, changed-in, added, leadsTo, settles, Accepted, accepted-change, accepted-taken}
 
 pub held-fits : HeldFits
 held-fits changes presentation w = omega (arith, bytes-few presentation w)
@@ -58,38 +59,11 @@ loadings-hold book held presentation are e room =
       unchanged = changes-held 0 book held;
     }
 
--- a refused new book changes nothing
-settled-keeps : (held sheet book : List ℕ) (n place : ℕ) (held′ sheet′ : List ℕ) → settled held sheet book ≡ ChangeOutcome.after (refused n place) held′ sheet′
-    → (held′ ≡ held) × (sheet′ ≡ sheet)
-unfolding settled
-settled-keeps held sheet book n place held′ sheet′ e = go (loadBook book) refl
-  where
-    on : (presentation : Presentation) → loadBook book ≡ read presentation → (b : Bool) → ltb (length sheet) (4 * (2 * length (presentation .relations))) ≡ b
-        → (held′ ≡ held) × (sheet′ ≡ sheet)
-    on presentation f true g =
-        let d : ChangeOutcome.after (refused 12 0) held sheet ≡ ChangeOutcome.after (refused n place) held′ sheet′ = rw (f, g) at e in
-        (cc, cc)
-    on presentation f false g =
-        let n′ = length (presentation .relations) in
-        let d : acceptedAs held sheet book presentation n′ ≡ ChangeOutcome.after (refused n place) held′ sheet′ = rw (f, g) at e in
-        let z : _≡_ {A = ℕ} 0 1 = cc in
-        absurd (omega arith)
-
-    go : (o : BookReading) → loadBook book ≡ o → (held′ ≡ held) × (sheet′ ≡ sheet)
-    go (BookReading.read presentation) f = on presentation f (ltb (length sheet) (4 * (2 * length (presentation .relations)))) refl
-    go (BookReading.refused r) f =
-        let d : ChangeOutcome.after (refusal r) held sheet ≡ ChangeOutcome.after (refused n place) held′ sheet′ = rw f at e in
-        (cc, cc)
-
 pub refused-keeps : RefusedKeeps
 unfolding changeOf
-refused-keeps change held sheet n place held′ sheet′ e = go (changedIn change held) refl
-  where
-    go : (o : BookReading) → changedIn change held ≡ o → (held′ ≡ held) × (sheet′ ≡ sheet)
-    go (BookReading.read presentation) f = settled-keeps held sheet (bookBytes presentation) n place held′ sheet′ (rw f at e)
-    go (BookReading.refused r) f =
-        let d : ChangeOutcome.after (refusal r) held sheet ≡ ChangeOutcome.after (refused n place) held′ sheet′ = rw f at e in
-        (cc, cc)
+refused-keeps change held sheet n place held′ sheet′ e =
+    let (k, h, s) = made-refused held sheet (lastly (worn held) BookWorn (effectOf change held (length sheet))) n place held′ sheet′ e in
+    (h, s)
 
 -- what a buffer holds is taken up
 taken : (held : List ℕ) (presentation : Presentation) → Holds held presentation → Taken held presentation
@@ -110,25 +84,39 @@ withdrawn : (held : List ℕ) (presentation : Presentation) (i : ℕ) → Holds 
     → changedIn (withdrawal i) held ≡ read (without presentation i)
 withdrawn held presentation i h l = changed-in (withdrawal i) held presentation (taken held presentation h) ∙ rw (lt-leb (length (presentation .relations)) i l)
 
-absent : (held sheet : List ℕ) (presentation : Presentation) (i : ℕ) → Holds held presentation → length (presentation .relations) ≤ i
-    → changeOf (withdrawal i) held sheet ≡ ChangeOutcome.after (refused 15 0) held sheet
-unfolding changeOf
-absent held sheet presentation i h l =
+-- what a withdrawal comes to: 15 where there is no such relation
+withdrawal-absent : (held : List ℕ) (room : ℕ) (presentation : Presentation) (i : ℕ) → Holds held presentation → length (presentation .relations) ≤ i
+    → effectOf (withdrawal i) held room ≡ refuses NoSuchRelation
+unfolding effectOf
+withdrawal-absent held room presentation i h l =
     rw (changed-in (withdrawal i) held presentation (taken held presentation h), le-leb (length (presentation .relations)) i l)
 
+module _ (held : List ℕ) (room : ℕ) (presentation : Presentation) (i : ℕ) (h : Holds held presentation) (l : i < length (presentation .relations)) where
+  -- 12 where the sheet of the relations that are left has no room
+  withdrawal-narrow : room < sheetColumns * (2 * (length (presentation .relations) - 1)) → effectOf (withdrawal i) held room ≡ refuses (Narrow 0)
+  unfolding effectOf settled
+  withdrawal-narrow s =
+      let n = without-length presentation i l in
+      rw (withdrawn held presentation i h l, without-loads held presentation i h, n, lt-ltb room (4 * (2 * (length (presentation .relations) - 1))) s)
+
+  -- else it leads to them
+  withdrawal-leads : sheetColumns * (2 * (length (presentation .relations) - 1)) ≤ room
+      → effectOf (withdrawal i) held room ≡ leadsTo (bookBytes (without presentation i)) (without presentation i) (length (presentation .relations) - 1)
+  unfolding effectOf
+  withdrawal-leads s =
+      let n = without-length presentation i l in
+      let left = without presentation i in
+      let w = settles room (bookBytes left) left (without-loads held presentation i h) (omega arith) in
+      rw (withdrawn held presentation i h l) (w ∙ ap (leadsTo (bookBytes left) left) n)
+
 pub withdrawals-hold : WithdrawalsHold
-unfolding changeOf settled
 withdrawals-hold held sheet presentation i h =
+    let room = length sheet in
     record {
-      absent = absent held sheet presentation i h;
-      narrow = λ l s.
-          let n = without-length presentation i l in
-          rw (withdrawn held presentation i h l, without-loads held presentation i h, n, lt-ltb (length sheet) (4 * (2 * (length (presentation .relations) - 1))) s);
-      roomy = λ l s.
-          let n = without-length presentation i l in
-          let left = without presentation i in
-          let w = settles held sheet (bookBytes left) left (without-loads held presentation i h) (omega arith) in
-          rw (withdrawn held presentation i h l) (w ∙ ap (acceptedAs held sheet (bookBytes left) left) n);
+      absent = λ l. change-refused (withdrawal i) held sheet NoSuchRelation (withdrawal-absent held room presentation i h l);
+      narrow = λ l s. change-refused (withdrawal i) held sheet (Narrow 0) (withdrawal-narrow held room presentation i h l s);
+      worn = λ l s w. change-worn (withdrawal i) held sheet _ _ _ w (withdrawal-leads held room presentation i h l s);
+      roomy = λ l s w. change-fresh (withdrawal i) held sheet w ∙ ap (made held sheet) (withdrawal-leads held room presentation i h l s);
     }
 
 pub additions-need-c4 : AdditionsNeedC4
@@ -182,28 +170,38 @@ sheets-fresh : (held : List ℕ) (presentation : Presentation) → Holds held pr
 sheets-fresh held presentation h change lent n held′ sheet e =
     sheet-after change held lent presentation n held′ sheet h (change-of change held lent presentation n held′ sheet h e)
 
--- the changes one by one
+-- one more change after others that made what is held
+fresh-more : (first presentation : Presentation) (changes : List Change) (change : Change) (held lent : List ℕ) (n : ℕ) (held′ sheet : List ℕ)
+    → ChangesTo first changes presentation → Holds held presentation → changeOf change held lent ≡ ChangeOutcome.after (accepted n) held′ sheet
+    → Fresh first (change ∷ changes) held′
+fresh-more first presentation changes change held lent n held′ sheet made h e =
+    let a = change-of change held lent presentation n held′ sheet h e in
+    let k = holds-after change held lent presentation n held′ sheet h a in
+    record {
+      after = a .after;
+      made = ChangesTo.more change made (made-of change held lent presentation n held′ sheet h a);
+      holds = k;
+      sheets = sheets-fresh held′ (a .after) k;
+    }
+
+-- the changes one by one; one that was posted is the same change made directly
 fresh : {held held′ : List ℕ} {changes : List Change} (presentation : Presentation) → Holds held presentation → Changes held changes held′
     → Fresh presentation changes held′
 fresh {held} presentation h Changes.none = record { after = presentation; made = ChangesTo.none; holds = h; sheets = sheets-fresh held presentation h }
-fresh presentation h (Changes.more {held′ = before} {held″ = last} change lent sheet n c e) =
+fresh presentation h (Changes.more {held′ = before} {held″ = last} {changes = changes} change lent sheet n c e) =
     let f = fresh presentation h c in
-    let g = f .holds in
-    let a = change-of change before lent (f .after) n last sheet g e in
-    let k = holds-after change before lent (f .after) n last sheet g a in
-    record {
-      after = a .after;
-      made = ChangesTo.more change (f .made) (made-of change before lent (f .after) n last sheet g a);
-      holds = k;
-      sheets = sheets-fresh last (a .after) k;
-    }
+    fresh-more presentation (f .after) changes change before lent n last sheet (f .made) (f .holds) e
+fresh presentation h (Changes.posted {held′ = before} {held″ = last} {changes = changes} ticket lent sheet n c e) =
+    let f = fresh presentation h c in
+    let d = posted-direct ticket before lent n last sheet e in
+    fresh-more presentation (f .after) changes (changeIn ticket) before lent n last sheet (f .made) (f .holds) d
 
 pub changes-fresh : ChangesFresh
 changes-fresh held held′ presentation changes h c = fresh presentation h c
 
 -- what was added last is withdrawn
 pub additions-undone : AdditionsUndone
-additions-undone bytes held sheet n held′ sheet′ lent presentation h e room =
+additions-undone bytes held sheet n held′ sheet′ lent presentation h e below room =
     let a = change-of (addition bytes) held sheet presentation n held′ sheet′ h e in
     let k = holds-after (addition bytes) held sheet presentation n held′ sheet′ h a in
     let (start, middle, to, f, g) = added bytes (length (bookIn held)) presentation (a .after) (a .made) in
@@ -211,13 +209,14 @@ additions-undone bytes held sheet n held′ sheet′ lent presentation h e room 
     let i = length (presentation .relations) in
     let j = subst (λ (p : Presentation). Holds held′ p) g k in
     let l = length-append (presentation .relations) (r ∷ []) in
-    let w = withdrawals-hold held′ lent (adding presentation r) i j .roomy (omega arith) (omega arith) in
     let m : length (adding presentation r .relations) - 1 ≡ i = omega arith in
     let left = without (adding presentation r) i in
+    let w = withdrawal-leads held′ (length lent) (adding presentation r) i j (omega arith) (omega arith) ∙ ap (leadsTo (bookBytes left) left) m in
+    let v = w ∙ ap (λ (p : Presentation). leadsTo (bookBytes p) p i) (without-last presentation r) in
     record {
       after = holding (changesAfter held′) (bookBytes presentation) held′;
       sheet = over (cutSheet (relationWords (presentation .relations))) lent;
-      is = w ∙ ap (acceptedAs held′ lent (bookBytes left) left) m ∙ ap (λ (p : Presentation). acceptedAs held′ lent (bookBytes p) p i) (without-last presentation r);
+      is = change-fresh (withdrawal i) held′ lent below ∙ ap (made held′ lent) v;
       same = book-held (changesAfter held′) (bookBytes presentation) held′ ∙ sym (h .written);
       fresh = sheet-of (bookIn held) lent presentation (h .loads) room;
     }

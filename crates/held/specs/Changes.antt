@@ -1,21 +1,22 @@
 -- What loading a held book and changing it give (document 01, "Rules that come and go"), for every content of every lent buffer. A change is a value, and one definition
--- says what it makes of a held book and of the sheet.
+-- says what it comes to.
 use Prim.Native.Nat.{ℕ, _*_}
-use mathlib.Core.Bool.{cond}
+use mathlib.Core.Bool.{Bool, cond}
 use mathlib.Core.List.{List}
 use lib.Dec.{ltb, leb}
 use lib.ListN.{length}
 use Rattle.words.specs.Relations.{relationWords}
 use Rattle.writing.specs.Writing.{over}
 use Rattle.limits.specs.Limits.{sheetColumns, heldRoom, heldBuffer}
-use Rattle.refusals.specs.declared.Refusal.the-variants.{Narrow, NoSuchRelation}
+use Rattle.refusals.specs.declared.Refusal.{Refusal}
+use Rattle.refusals.specs.declared.Refusal.the-variants.{Narrow, NoSuchRelation, BookWorn}
 use Rattle.format.specs.Book.{Presentation, adding, without, BookReading, read, refused, additionAt, relationIn, onRelation}
 use Rattle.format.specs.Bytes.{bookBytes}
 use Rattle.presentation.specs.Loading.{loadBook}
 use Rattle.sheet.specs.Sheet.{cutSheet}
 use Rattle.answers.specs.Answers.{Answer, accepted, refusal}
 use Rattle.answers.specs.Entries.{onLoaded}
-use Rattle.held.specs.Held.{bookIn, changesAfter, holding, takenUp}
+use Rattle.held.specs.Held.{bookIn, changesAfter, worn, holding, takenUp}
 
 -- the outcome of loading: an answer, and the lent buffer after it
 pub data LoadOutcome : Type 0 where
@@ -44,17 +45,40 @@ changed (withdrawal i) place presentation = cond (leb (length (presentation .rel
 unfoldable pub changedIn : Change → List ℕ → BookReading
 changedIn change held = onLoaded (takenUp held) refused (changed change (length (bookIn held)))
 
+-- what a change comes to: a refusal, or the number of relations, the bytes and the cut sheet of the new book
+pub data Effect : Type 0 where
+  refuses : Refusal → Effect
+  leads : ℕ → List ℕ → List ℕ → Effect
+
+-- what a new book comes to, beside a buffer of so many bytes for its sheet: 8 of it, then 12 of the buffer
+unfoldable pub settled : ℕ → List ℕ → Effect
+settled room book =
+    onLoaded (loadBook book) refuses (λ presentation.
+    cond (ltb room (sheetColumns * (2 * length (presentation .relations)))) (refuses (Narrow 0))
+    (leads (length (presentation .relations)) book (cutSheet (relationWords (presentation .relations)))))
+
+-- what a change comes to: the refusals of what is held, and of the change itself; else the bytes of the presentation that it makes are the new book. Proposing,
+-- posting and making it directly are told by this one definition
+unfoldable pub effectOf : Change → List ℕ → ℕ → Effect
+effectOf change held room = onLoaded (changedIn change held) refuses (λ presentation. settled room (bookBytes presentation))
+
+-- a refusal that comes before all others, where it is due, and one that comes behind all others
+abbrev pub firstly : Bool → Refusal → Effect → Effect
+firstly due r effect = cond due (refuses r) effect
+
+abbrev pub lastly : Bool → Refusal → Effect → Effect
+lastly due r (refuses s) = refuses s
+lastly due r (leads n book cuts) = cond due (refuses r) (leads n book cuts)
+
 -- the outcome of a change: an answer, and both lent buffers after it
 pub data ChangeOutcome : Type 0 where
   after : Answer → List ℕ → List ℕ → ChangeOutcome
 
--- a new book in place of the one that is held: 8 of it, then 12 of its sheet; else its bytes are held, with one more change counted, and its sheet is written
-unfoldable pub settled : List ℕ → List ℕ → List ℕ → ChangeOutcome
-settled held sheet book =
-    onLoaded (loadBook book) (λ r. ChangeOutcome.after (refusal r) held sheet) (λ presentation.
-    cond (ltb (length sheet) (sheetColumns * (2 * length (presentation .relations)))) (ChangeOutcome.after (refusal (Narrow 0)) held sheet)
-    (ChangeOutcome.after (accepted (length (presentation .relations))) (holding (changesAfter held) book held) (over (cutSheet (relationWords (presentation .relations))) sheet)))
+-- what a change comes to is made: a refusal keeps both buffers; else the new book is held, with one more change counted, and its sheet is written
+abbrev pub made : List ℕ → List ℕ → Effect → ChangeOutcome
+made held sheet (refuses r) = ChangeOutcome.after (refusal r) held sheet
+made held sheet (leads n book cuts) = ChangeOutcome.after (accepted n) (holding (changesAfter held) book held) (over cuts sheet)
 
--- a change: the refusals of what is held, and of the change itself; else the bytes of the presentation that it makes are the new book
+-- a change that is made directly: 17 comes behind the refusals of the change
 unfoldable pub changeOf : Change → List ℕ → List ℕ → ChangeOutcome
-changeOf change held sheet = onLoaded (changedIn change held) (λ r. ChangeOutcome.after (refusal r) held sheet) (λ presentation. settled held sheet (bookBytes presentation))
+changeOf change held sheet = made held sheet (lastly (worn held) BookWorn (effectOf change held (length sheet)))

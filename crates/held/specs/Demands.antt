@@ -5,15 +5,16 @@ use mathlib.Core.Path.{_≡_}
 use lib.ListN.{length}
 use Rattle.words.specs.Relations.{relationWords}
 use Rattle.writing.specs.Writing.{over}
-use Rattle.limits.specs.Limits.{sheetColumns, heldRoom}
+use Rattle.limits.specs.Limits.{sheetColumns, heldRoom, changesMost}
 use Rattle.format.specs.Book.{Presentation, without, read}
 use Rattle.format.specs.Bytes.{AreBytes, bookBytes, Within}
 use Rattle.presentation.specs.Loading.{loadBook}
 use Rattle.sheet.specs.Sheet.{cutSheet}
 use Rattle.answers.specs.Answers.{accepted, refused}
 use Rattle.answers.specs.Entries.{SheetOutcome, sheetOf}
-use Rattle.held.specs.Held.{bookIn, changesIn, changesAfter, heldBytes, holding}
+use Rattle.held.specs.Held.{bookIn, changesIn, changesTold, changesAfter, heldBytes, holding}
 use Rattle.held.specs.Changes.{LoadOutcome, loadOf, Change, addition, withdrawal, changed, ChangeOutcome, changeOf}
+use Rattle.held.specs.Tickets.{changeIn, postOf}
 
 -- a buffer holds a presentation: it has the room of a held book, what it holds loads as this presentation, and is its bytes
 pub record Holds (held : List ℕ) (presentation : Presentation) : Type 0 where
@@ -45,13 +46,15 @@ abbrev pub RefusedKeeps : Type 0
 RefusedKeeps = (change : Change) (held sheet : List ℕ) (n place : ℕ) (held′ sheet′ : List ℕ)
     → changeOf change held sheet ≡ ChangeOutcome.after (refused n place) held′ sheet′ → (held′ ≡ held) × (sheet′ ≡ sheet)
 
--- a withdrawal from what a buffer holds: 15 where there is no such relation, before all else; 12 where the sheet of the relations that are left has no room; else
--- they are held, and their sheet is written. So it is never refused by 8
+-- a withdrawal from what a buffer holds: 15 where there is no such relation, before all else; 12 where the sheet of the relations that are left has no room; 17 where
+-- no more changes are taken; else they are held, and their sheet is written. So it is never refused by 8
 pub record Withdraws (held sheet : List ℕ) (presentation : Presentation) (i : ℕ) : Type 0 where
   pub absent : length (presentation .relations) ≤ i → changeOf (withdrawal i) held sheet ≡ ChangeOutcome.after (refused 15 0) held sheet
   pub narrow : i < length (presentation .relations) → length sheet < sheetColumns * (2 * (length (presentation .relations) - 1))
       → changeOf (withdrawal i) held sheet ≡ ChangeOutcome.after (refused 12 0) held sheet
-  pub roomy : i < length (presentation .relations) → sheetColumns * (2 * (length (presentation .relations) - 1)) ≤ length sheet
+  pub worn : i < length (presentation .relations) → sheetColumns * (2 * (length (presentation .relations) - 1)) ≤ length sheet → changesMost ≤ changesTold held
+      → changeOf (withdrawal i) held sheet ≡ ChangeOutcome.after (refused 17 0) held sheet
+  pub roomy : i < length (presentation .relations) → sheetColumns * (2 * (length (presentation .relations) - 1)) ≤ length sheet → changesTold held < changesMost
       → changeOf (withdrawal i) held sheet
       ≡ ChangeOutcome.after (accepted (length (presentation .relations) - 1)) (holding (changesAfter held) (bookBytes (without presentation i)) held) (over (cutSheet (relationWords (without presentation i .relations))) sheet)
 
@@ -63,11 +66,13 @@ abbrev pub AdditionsNeedC4 : Type 0
 AdditionsNeedC4 = (bytes held sheet : List ℕ) (n : ℕ) (held′ sheet′ : List ℕ) → AreBytes held
     → changeOf (addition bytes) held sheet ≡ ChangeOutcome.after (accepted n) held′ sheet′ → (presentation : Presentation) × Holds held presentation
 
--- from one held book to another by accepted changes, the last one first, each with a sheet buffer of its own
+-- from one held book to another by accepted changes, made directly or posted, the last one first, each with a sheet buffer of its own
 pub data Changes : List ℕ → List Change → List ℕ → Type 0 where
   none : {held : List ℕ} → Changes held [] held
   more : {held held′ held″ : List ℕ} {changes : List Change} (change : Change) (lent sheet : List ℕ) (n : ℕ) → Changes held changes held′
       → changeOf change held′ lent ≡ ChangeOutcome.after (accepted n) held″ sheet → Changes held (change ∷ changes) held″
+  posted : {held held′ held″ : List ℕ} {changes : List Change} (ticket lent sheet : List ℕ) (n : ℕ) → Changes held changes held′
+      → postOf ticket held′ lent ≡ ChangeOutcome.after (accepted n) held″ sheet → Changes held (changeIn ticket ∷ changes) held″
 
 -- the same of presentations
 pub data ChangesTo : Presentation → List Change → Presentation → Type 0 where
@@ -87,7 +92,7 @@ pub record Fresh (presentation : Presentation) (changes : List Change) (held : L
 abbrev pub ChangesFresh : Type 0
 ChangesFresh = (held held′ : List ℕ) (presentation : Presentation) (changes : List Change) → Holds held presentation → Changes held changes held′ → Fresh presentation changes held′
 
--- what was added and is withdrawn again leaves the book as it was, and its sheet
+-- what was added and is withdrawn again, where one more change is taken, leaves the book as it was, and its sheet
 pub record Undone (held held′ lent : List ℕ) (presentation : Presentation) : Type 0 where
   pub after : List ℕ
   pub sheet : List ℕ
@@ -98,4 +103,4 @@ pub record Undone (held held′ lent : List ℕ) (presentation : Presentation) :
 abbrev pub AdditionsUndone : Type 0
 AdditionsUndone = (bytes held sheet : List ℕ) (n : ℕ) (held′ sheet′ lent : List ℕ) (presentation : Presentation) → Holds held presentation
     → changeOf (addition bytes) held sheet ≡ ChangeOutcome.after (accepted n) held′ sheet′
-    → sheetColumns * (2 * length (presentation .relations)) ≤ length lent → Undone held held′ lent presentation
+    → changesTold held′ < changesMost → sheetColumns * (2 * length (presentation .relations)) ≤ length lent → Undone held held′ lent presentation

@@ -5,7 +5,7 @@ use mathlib.Core.List.{List, [], _∷_, _++_}
 use mathlib.Core.Path.{_≡_}
 use lib.ListN.{take, replicate}
 use Rattle.writing.specs.Writing.{over}
-use Rattle.limits.specs.Limits.{heldRoom, changesMost}
+use Rattle.limits.specs.Limits.{heldRoom}
 use Rattle.format.specs.Examples.{four, abdc-cadb, times}
 use Rattle.answers.specs.Answers.{accepted, refused}
 use Rattle.held.specs.Held.{holding}
@@ -76,6 +76,10 @@ rows2 = row ++ row
 abbrev pub rows4 : List ℕ
 rows4 = rows2 ++ rows2
 
+-- a relation of Q and bbaa = ccda is withdrawn after so many changes
+abbrev pub withdrawsAt : ℕ → ℕ → ℕ → Gives → Example
+withdrawsAt changes i lent gives = record { held = heldIn heldRoom changes both; change = withdrawal i; lent = lent; gives = gives }
+
 unfoldable pub examples : List Example
 examples =
     -- a relation is added: bytes behind the sheet are kept; a sheet of just the room, and one byte below it
@@ -131,9 +135,17 @@ examples =
     ∷ withdraws [] 0 0 (refuses 1 0)
     -- a buffer one byte below the room, which comes before what it holds
     ∷ record { held = heldIn 4296 0 (take 18 Q); change = withdrawal 5; lent = 0; gives = refuses 12 1 }
-    -- the count of changes goes up, and stays at its most
+    -- the count of changes goes up to 60,000; then a change is refused, behind all its other refusals; so it is of a count that no call leaves behind
     ∷ record { held = heldIn 5000 300 both; change = withdrawal 1; lent = 8; gives = counts 1 301 Q rows2 }
-    ∷ record { held = heldIn heldRoom changesMost both; change = withdrawal 1; lent = 8; gives = counts 1 changesMost Q rows2 }
+    ∷ withdrawsAt 59999 1 8 (counts 1 60000 Q rows2)
+    ∷ withdrawsAt 60000 1 8 (refuses 17 0)
+    ∷ withdrawsAt 60000 1 7 (refuses 12 0)
+    ∷ withdrawsAt 60000 2 8 (refuses 15 0)
+    ∷ withdrawsAt 60001 1 8 (refuses 17 0)
+    ∷ withdrawsAt 65535 1 8 (refuses 17 0)
+    ∷ record { held = heldIn heldRoom 60000 Q; change = addition bbaa-ccda; lent = 16; gives = refuses 17 0 }
+    ∷ record { held = heldIn heldRoom 60000 Q; change = addition a-b; lent = 16; gives = refuses 8 2 }
+    ∷ record { held = heldIn heldRoom 60000 Q; change = addition []; lent = 16; gives = refuses 1 19 }
     ∷ []
 
 -- each change gives what stands beside it

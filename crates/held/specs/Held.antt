@@ -1,9 +1,9 @@
 -- What a held book is (document 01, "Rules that come and go"): in a lent buffer, the length of a book, the count of changes since it was loaded, and the book's own
 -- bytes. Nothing is kept beside them: every call reads the book again.
 use Prim.Native.Nat.{ℕ, _+_, min}
-use mathlib.Core.Bool.{cond}
+use mathlib.Core.Bool.{Bool, cond}
 use mathlib.Core.List.{List, _++_}
-use lib.Dec.{ltb}
+use lib.Dec.{ltb, leb}
 use lib.ListN.{length, take, drop}
 use Rattle.writing.specs.Writing.{over}
 use Rattle.limits.specs.Limits.{heldLength, heldChanges, heldPrefix, heldRoom, changesMost, heldBuffer}
@@ -19,16 +19,21 @@ bookIn held = take (field held heldLength) (drop heldPrefix held)
 abbrev pub bookStart : List ℕ → ℕ
 bookStart held = min heldPrefix (length held)
 
--- the count of changes, and what it is after one more; it stays where its field ends
+-- the count of changes
 abbrev pub changesIn : List ℕ → ℕ
 changesIn held = field held heldChanges
 
-abbrev pub changesAfter : List ℕ → ℕ
-changesAfter held = min (changesIn held + 1) changesMost
-
--- what is told of the count: nothing is counted in a buffer that has no room for the two fields
+-- what is told of it: nothing is counted in a buffer that has no room for the two fields
 unfoldable pub changesTold : List ℕ → ℕ
 changesTold held = cond (ltb (length held) heldPrefix) 0 (changesIn held)
+
+-- what it is after one more
+abbrev pub changesAfter : List ℕ → ℕ
+changesAfter held = changesTold held + 1
+
+-- no more changes are taken (document 01, "Propose, then post": worn)
+abbrev pub worn : List ℕ → Bool
+worn held = leb changesMost (changesTold held)
 
 -- a held book in bytes
 abbrev pub heldBytes : ℕ → List ℕ → List ℕ

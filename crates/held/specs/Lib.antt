@@ -1,4 +1,8 @@
 pub mod Held
 pub mod Changes
+pub mod Asked
+pub mod Tickets
 pub mod Demands
+pub mod Postings
 pub mod Examples
+pub mod TicketExamples

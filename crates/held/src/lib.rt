@@ -1,13 +1,22 @@
-// What a held book is, and what loading and changing it give. specs/Held.antt says what lies in its buffer, specs/Changes.antt defines the answers, and specs/Demands.antt
-// says in words what is owed; the functions here do nothing and carry it as theorems on these definitions.
+// What a held book is, what loading and changing it give, and what proposing a change and posting it give. specs/Held.antt says what lies in its buffer, specs/Changes.antt
+// and specs/Tickets.antt define the answers, and specs/Demands.antt and specs/Postings.antt say in words what is owed; the functions here do nothing and carry it as
+// theorems on these definitions.
 ghost use Rattle.held.specs.Examples.{Hold, examples};
+ghost use Rattle.held.specs.TicketExamples.{Shown, proposals, Given, postings};
 ghost use Rattle.held.specs.Demands.{HeldFits, LoadedHolds, LoadingsHold, RefusedKeeps, WithdrawalsHold, AdditionsNeedC4, ChangesFresh, AdditionsUndone};
+ghost use Rattle.held.specs.Postings.{TicketsRead, TicketsFit, ProposalsKeep, PostingsKeep, ProposalsOfChange, NeverStale, PostingsHold, PostedOnTheSpot, ChangesCounted, ChangesLimited};
 use refusals::Refusal;
 
 // The new book of a change is made, with the number of its bytes, or the change is refused.
 pub enum Made {
     Book(usize),
     Refused(Refusal),
+}
+
+// A change that is asked for: an addition, whose record is handed on beside it, or the withdrawal of the relation of an index.
+pub enum Asked {
+    Addition,
+    Withdrawal(usize),
 }
 
 // The worked examples of what changes give hold of their definition.
@@ -53,4 +62,62 @@ pub fn changes_are_fresh()
 // What was added and is withdrawn again leaves the book as it was.
 pub fn additions_are_undone()
     ensures { λ _. ⌜ AdditionsUndone ⌝ }
+{}
+
+// Those of proposals hold, and those of postings.
+pub fn proposed_examples_hold()
+    ensures { λ _. ⌜ Shown proposals ⌝ }
+{}
+
+pub fn posted_examples_hold()
+    ensures { λ _. ⌜ Given postings ⌝ }
+{}
+
+// A ticket is read as it was written.
+pub fn tickets_are_read()
+    ensures { λ _. ⌜ TicketsRead ⌝ }
+{}
+
+// The room of a ticket suffices for every change that can be proposed.
+pub fn tickets_fit()
+    ensures { λ _. ⌜ TicketsFit ⌝ }
+{}
+
+// A refused proposal changes nothing, nor does a refused posting.
+pub fn refused_proposals_keep()
+    ensures { λ _. ⌜ ProposalsKeep ⌝ }
+{}
+
+pub fn refused_postings_keep()
+    ensures { λ _. ⌜ PostingsKeep ⌝ }
+{}
+
+// A proposal is refused by what is wrong with the change alone, also where no more changes are taken.
+pub fn proposals_are_of_the_change()
+    ensures { λ _. ⌜ ProposalsOfChange ⌝ }
+{}
+
+// A change that is made directly is never stale.
+pub fn changes_are_never_stale()
+    ensures { λ _. ⌜ NeverStale ⌝ }
+{}
+
+// Posting after proposing, with no change between, is the direct change; after any change between, it is refused as stale.
+pub fn postings_hold()
+    ensures { λ _. ⌜ PostingsHold ⌝ }
+{}
+
+// A direct change is a proposal posted on the spot.
+pub fn changes_are_posted_on_the_spot()
+    ensures { λ _. ⌜ PostedOnTheSpot ⌝ }
+{}
+
+// Each accepted change is counted.
+pub fn changes_are_counted()
+    ensures { λ _. ⌜ ChangesCounted ⌝ }
+{}
+
+// A held book takes at most 60,000 changes from loading.
+pub fn changes_are_limited()
+    ensures { λ _. ⌜ ChangesLimited ⌝ }
 {}

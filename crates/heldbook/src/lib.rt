@@ -1,20 +1,19 @@
-// The public entries of held books: what a customer calls to load one, to change it and to have its book back. None has a `requires`; each promises that its answer
-// and its lent buffers equal a definition's (crate held, specs/Changes.antt), for every content of the buffers. What is owed in words is in crate held, specs/Demands.antt.
+// The public entries of held books: what a customer calls to load one, to change it, to propose a change and post it, and to have its book back. None has a `requires`;
+// each promises that its answer and its lent buffers equal a definition's (crate held, specs/Changes.antt and specs/Tickets.antt), for every content of the buffers. What
+// is owed in words is in crate held, specs/Demands.antt and specs/Postings.antt.
 ghost use mathlib.Core.Path.{_≡_};
 ghost use Rattle.answers.specs.Answers.{ofVerdict};
 ghost use Rattle.held.specs.Held.{bookIn, bookStart, changesTold};
-ghost use Rattle.held.specs.Changes.{LoadOutcome as Loads, loadOf, addition, withdrawal, ChangeOutcome as Changes, settled, changeOf};
-ghost use Rattle.heldbook.specs.Settling.{Settleable};
+ghost use Rattle.held.specs.Changes.{LoadOutcome as Loads, loadOf, addition, withdrawal, ChangeOutcome as Changes, changeOf};
+ghost use Rattle.held.specs.Tickets.{ProposalOutcome as Proposals, proposeOf, postOf};
 use answers::Verdict;
 use entries::check_book;
-use entries::cut_sheet;
-use held::Made;
-use holding::changes_after;
+use held::Asked;
 use holding::hold;
 use limits::Held;
 use refusals::Refusal;
-use renewing::make_addition;
-use renewing::make_withdrawal;
+use settling::change_held;
+use settling::propose_change;
 
 // Loads a book into the lent buffer of a held book.
 pub fn load_held(book: &[u8], held: &mut [u8]) -> Verdict
@@ -52,40 +51,46 @@ pub fn changes_of(held: &[u8]) -> usize
     holding::changes_of(held)
 }
 
-// Writes the sheet of a new book, worked out afresh, and, where that is not refused, holds the book in place of the old one.
-fn settle(book: &[u8], held: &mut [u8], sheet: &mut [u8]) -> Verdict
-    requires { ⌜ Settleable (now book) (now held) ⌝ }
-    ensures { λ r. ⌜ Changes.after (ofVerdict r) (now (held .exit)) (now (sheet .exit)) ≡ settled (now (held .entry)) (now (sheet .entry)) (now (book .entry)) ⌝ }
-{
-    let verdict = cut_sheet(book, sheet);
-    let Verdict::Accepted(_) = verdict else {
-        return verdict;
-    };
-    let changes = changes_after(held);
-    hold(book, changes, held);
-    verdict
-}
-
 // Adds a relation, given as one record, at the end of a held book, and writes the new sheet.
 pub fn add_relation(held: &mut [u8], bytes: &[u8], sheet: &mut [u8]) -> Verdict
     ensures { λ r. ⌜ Changes.after (ofVerdict r) (now (held .exit)) (now (sheet .exit)) ≡ changeOf (addition (now (bytes .entry))) (now (held .entry)) (now (sheet .entry)) ⌝ }
 {
-    let mut fresh = [0u8; Held::BOOK];
-    let made = make_addition(held, bytes, &mut fresh);
-    match made {
-        Made::Refused(refusal) => Verdict::Refused(refusal),
-        Made::Book(n) => settle(&fresh[..n], held, sheet),
-    }
+    change_held(Asked::Addition, held, bytes, sheet)
 }
 
 // Withdraws the relation of an index from a held book, and writes the new sheet.
 pub fn withdraw_relation(held: &mut [u8], i: usize, sheet: &mut [u8]) -> Verdict
     ensures { λ r. ⌜ Changes.after (ofVerdict r) (now (held .exit)) (now (sheet .exit)) ≡ changeOf (withdrawal i) (now (held .entry)) (now (sheet .entry)) ⌝ }
 {
-    let mut fresh = [0u8; Held::BOOK];
-    let made = make_withdrawal(held, i, &mut fresh);
-    match made {
-        Made::Refused(refusal) => Verdict::Refused(refusal),
-        Made::Book(n) => settle(&fresh[..n], held, sheet),
+    change_held(Asked::Withdrawal(i), held, b"", sheet)
+}
+
+// Proposes the addition of a relation: writes the sheet that it would lead to, and a ticket for it. The held book is only read.
+pub fn propose_addition(held: &[u8], bytes: &[u8], sheet: &mut [u8], ticket: &mut [u8]) -> Verdict
+    ensures { λ r. ⌜ Proposals.after (ofVerdict r) (now (sheet .exit)) (now (ticket .exit)) ≡ proposeOf (addition (now (bytes .entry))) (now (held .entry)) (now (sheet .entry)) (now (ticket .entry)) ⌝ }
+{
+    propose_change(Asked::Addition, held, bytes, sheet, ticket)
+}
+
+// Proposes the withdrawal of the relation of an index, likewise.
+pub fn propose_withdrawal(held: &[u8], i: usize, sheet: &mut [u8], ticket: &mut [u8]) -> Verdict
+    ensures { λ r. ⌜ Proposals.after (ofVerdict r) (now (sheet .exit)) (now (ticket .exit)) ≡ proposeOf (withdrawal i) (now (held .entry)) (now (sheet .entry)) (now (ticket .entry)) ⌝ }
+{
+    propose_change(Asked::Withdrawal(i), held, b"", sheet, ticket)
+}
+
+// Posts a ticket: makes its change, and writes the new sheet.
+pub fn post_ticket(held: &mut [u8], ticket: &[u8], sheet: &mut [u8]) -> Verdict
+    ensures { λ r. ⌜ Changes.after (ofVerdict r) (now (held .exit)) (now (sheet .exit)) ≡ postOf (now (ticket .entry)) (now (held .entry)) (now (sheet .entry)) ⌝ }
+{
+    let changes = holding::changes_of(held);
+    if tickets::count_of(ticket) != changes {
+        return Verdict::Refused(Refusal::StaleTicket);
     }
+    if Held::COUNTED <= changes {
+        return Verdict::Refused(Refusal::BookWorn);
+    }
+    let asked = tickets::asked_in(ticket);
+    let bytes = tickets::record_of(ticket);
+    change_held(asked, held, bytes, sheet)
 }

@@ -68,15 +68,22 @@ pub ruleset lengths = (book-none, book-some, told-none, told-some, needs)
 front-own : (n : ℕ) (l : List ℕ) → take (length (take n l)) l ≡ take n l
 front-own n l = ap (take (length (take n l))) (sym (take-append-drop n l)) ∙ take-append-seam (take n l) (drop n l)
 
+-- so many elements behind a place, as far as they are there, as a part of a list
+module _ (l : List ℕ) (place many start n : ℕ) (e : start ≡ min place (length l)) (f : n ≡ length (take many (drop place l))) where
+  -- what lies behind the place begins at the part's start, also where there is nothing
+  part-behind : drop start l ≡ drop place l
+  part-behind =
+      by-cases (decLe place (length l))
+      (λ h. let s : start ≡ place = omega arith in rw s)
+      (λ h. drop-of-length-le l {i = start} (omega arith) ∙ sym (drop-of-length-le l {i = place} (omega arith)))
+
+  pub part-whole : take (start + n - start) (drop start l) ≡ take many (drop place l)
+  part-whole =
+      let z : start + n - start ≡ n = omega arith in
+      rw (z, part-behind, f) (front-own many (drop place l))
+
 -- the book that is held as a part of its buffer
 module _ (held : List ℕ) (start n : ℕ) (e : start ≡ bookStart held) (f : n ≡ length (bookIn held)) where
-  -- what lies behind the two fields begins at its start, also where there is nothing
-  book-behind : drop start held ≡ drop heldPrefix held
-  book-behind =
-      by-cases (decLe heldPrefix (length held))
-      (λ h. let s : start ≡ heldPrefix = omega arith in rw s)
-      (λ h. drop-of-length-le held {i = start} (omega arith) ∙ sym (drop-of-length-le held {i = heldPrefix} (omega arith)))
-
   -- it ends in the buffer
   pub book-fits : start + n ≤ length held
   book-fits = omega (arith, book-long held)
@@ -88,9 +95,7 @@ module _ (held : List ℕ) (start n : ℕ) (e : start ≡ bookStart held) (f : n
   -- the part is the book
   pub book-part : take (start + n - start) (drop start held) ≡ bookIn held
   unfolding bookIn
-  book-part =
-      let z : start + n - start ≡ n = omega arith in
-      rw (z, book-behind, f) (front-own (field held heldLength) (drop heldPrefix held))
+  book-part = part-whole held heldPrefix (field held heldLength) start n e f
 
 pub ruleset parts = (book-fits, book-counted, book-part, needs)
 

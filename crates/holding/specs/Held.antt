@@ -1,18 +1,11 @@
 -- What the parts that read and write a held book ask.
 use Prim.Native.Nat.{ℕ, _≤_}
 use mathlib.Core.List.{List}
-use mathlib.Core.Path.{_≡_}
 use lib.ListN.{length}
 use Rattle.limits.specs.Limits.{bookMost, heldRoom, changesMost}
-use Rattle.held.specs.Held.{changesAfter}
 
 -- a book with its count of changes can be held in the buffer
 pub record Holdable (book : List ℕ) (changes : ℕ) (held : List ℕ) : Type 0 where
   pub few : length book ≤ bookMost
   pub counted : changes ≤ changesMost
   pub room : heldRoom ≤ length held
-
--- r is the count of changes after one more, which its field can say
-pub record Count (held : List ℕ) (r : ℕ) : Type 0 where
-  pub same : r ≡ changesAfter held
-  pub small : r ≤ changesMost

@@ -3,11 +3,10 @@ ghost use mathlib.Core.Path.{_≡_};
 ghost use Prim.Native.Nat.{_+_, _≤_};
 ghost use lib.ListN.{length};
 ghost use Rattle.writing.specs.Writing.{written};
-ghost use Rattle.limits.specs.Limits.{heldRoom};
 ghost use Rattle.format.specs.Book.{readBook, readingOf};
 ghost use Rattle.format.specs.Bytes.{fieldBytes};
 ghost use Rattle.held.specs.Held.{bookIn, bookStart, changesTold, holding, takenUp};
-ghost use Rattle.holding.specs.Held.{Holdable, Count};
+ghost use Rattle.holding.specs.Held.{Holdable};
 use format::Reading;
 use limits::Held;
 use numbers::narrow;
@@ -70,16 +69,8 @@ pub fn changes_of(held: &[u8]) -> usize
     field_at(held, Held::CHANGES)
 }
 
-// The count of changes after one more.
-pub fn changes_after(held: &[u8]) -> usize
-    requires { ⌜ heldRoom ≤ length (now held) ⌝ }
-    ensures { λ r. ⌜ Count (now (held .entry)) r ⌝ }
-{
-    smaller(field_at(held, Held::CHANGES) + 1, Held::COUNTED)
-}
-
 // Writes a two-byte field, little-endian.
-fn put_field(x: u16, out: &mut [u8], at: usize)
+pub fn put_field(x: u16, out: &mut [u8], at: usize)
     requires { ⌜ at + 2 ≤ length (now out) ⌝ }
     ensures { λ _. ⌜ now (out .exit) ≡ written at (fieldBytes x) (now (out .entry)) ⌝ }
 {

@@ -111,13 +111,42 @@ bookMost = 4293
 abbrev pub heldRoom : ℕ
 heldRoom = 4297
 
--- the count of changes says at most
+-- a held book takes at most so many changes from loading
 abbrev pub changesMost : ℕ
-changesMost = 65535
+changesMost = 60000
 
 -- the number of a held book's buffer in refusal 12
 abbrev pub heldBuffer : ℕ
 heldBuffer = 1
+
+-- a ticket: two-byte fields for a count of changes, for the kind of a change and for a number, at these places, and then the bytes of a record
+abbrev pub ticketChanges : ℕ
+ticketChanges = 0
+
+abbrev pub ticketKind : ℕ
+ticketKind = 2
+
+abbrev pub ticketNumber : ℕ
+ticketNumber = 4
+
+-- the bytes before the record
+abbrev pub ticketPrefix : ℕ
+ticketPrefix = 6
+
+-- the room of a ticket
+abbrev pub ticketRoom : ℕ
+ticketRoom = 140
+
+-- the number of a ticket's buffer in refusal 12
+abbrev pub ticketBuffer : ℕ
+ticketBuffer = 2
+
+-- the kinds of changes
+abbrev pub additionKind : ℕ
+additionKind = 0
+
+abbrev pub withdrawalKind : ℕ
+withdrawalKind = 1
 
 -- the bytes of the program's input are at most
 abbrev pub inputMost : ℕ
@@ -142,7 +171,7 @@ unfoldable pub inputOf : ℕ → MadeInput
 inputOf bytes = cond (ltb inputMost bytes) Inputs.Heavy (Inputs.Good (record { length = bytes }))
 
 -- the numbers of the definitions, as the code gives its constants: of the head, of every record, of a relation; of the words of comparisons and rounds, and of
--- least words; of the cut sheet; of a held book; of the program's input
+-- least words; of the cut sheet; of a held book; of a ticket; of the program's input
 abbrev pub fixedAmounts : List ℕ
 fixedAmounts =
     headKind ∷ headLength ∷ lettersMost
@@ -151,4 +180,5 @@ fixedAmounts =
     ∷ comparisonKind ∷ comparisonLength ∷ comparedMost ∷ allowanceMost ∷ roundMost ∷ nextRoom ∷ markMost ∷ leastMost ∷ placeSpacing
     ∷ sheetX ∷ sheetY ∷ sheetZ ∷ sheetPieces ∷ sheetColumns
     ∷ heldLength ∷ heldChanges ∷ heldPrefix ∷ bookMost ∷ heldRoom ∷ changesMost ∷ heldBuffer
+    ∷ ticketChanges ∷ ticketKind ∷ ticketNumber ∷ ticketPrefix ∷ ticketRoom ∷ ticketBuffer ∷ additionKind ∷ withdrawalKind
     ∷ inputMost ∷ []

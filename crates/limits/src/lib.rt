@@ -162,11 +162,37 @@ impl Held {
     // The room that a held book asks for.
     pub const ROOM: usize = 4297;
 
-    // The most that the count of changes can say.
-    pub const COUNTED: usize = 65535;
+    // The most changes that it takes from loading.
+    pub const COUNTED: usize = 60000;
 
     // The number of its buffer in refusal 12; the sheet's is 0.
     pub const BUFFER: usize = 1;
+}
+
+// A ticket: the count of changes of the held book that it was given for, the kind of a change, and a number, a two-byte field each; and then the bytes of a record.
+pub struct Ticket {}
+
+impl Ticket {
+    // Where the three fields lie.
+    pub const CHANGES: usize = 0;
+
+    pub const KIND: usize = 2;
+
+    pub const NUMBER: usize = 4;
+
+    // The bytes before the record.
+    pub const PREFIX: usize = 6;
+
+    // The room that a ticket asks for: the record of a relation at its longest has 134 bytes.
+    pub const ROOM: usize = 140;
+
+    // The number of its buffer in refusal 12.
+    pub const BUFFER: usize = 2;
+
+    // The kinds of changes. Every other number is read as a withdrawal.
+    pub const ADDITION: usize = 0;
+
+    pub const WITHDRAWAL: usize = 1;
 }
 
 // What the program reads, by its length.
@@ -193,7 +219,7 @@ impl Input {
 }
 
 // The constants are the numbers that the definitions write again, in the order of specs/Limits.antt.
-pub fn fixed_amounts() -> [usize; 30]
+pub fn fixed_amounts() -> [usize; 38]
     ensures { λ r. ⌜ r ≡ fixedAmounts ⌝ }
 {
     [
@@ -226,6 +252,14 @@ pub fn fixed_amounts() -> [usize; 30]
         Held::ROOM,
         Held::COUNTED,
         Held::BUFFER,
+        Ticket::CHANGES,
+        Ticket::KIND,
+        Ticket::NUMBER,
+        Ticket::PREFIX,
+        Ticket::ROOM,
+        Ticket::BUFFER,
+        Ticket::ADDITION,
+        Ticket::WITHDRAWAL,
         Input::MOST,
     ]
 }

@@ -19,7 +19,7 @@ use Rattle.limits.specs.declared.Record.{Record}
 use Rattle.limits.specs.declared.Record.the-variants.{Whole, CutOff}
 use Rattle.limits.specs.Limits.{inputMost, lettersMost, relationsMost, comparisonKind, comparedMost}
 use Rattle.refusals.specs.declared.Refusal.{Refusal}
-use Rattle.refusals.specs.declared.Refusal.the-variants.{Short, Kind, Length, Range, UnknownLetter, TooMany, Loose, Long, Stranger, Spent, Narrow, Heavy, NoSpace, NoSuchRelation}
+use Rattle.refusals.specs.declared.Refusal.the-variants.{Short, Kind, Length, Range, UnknownLetter, TooMany, Loose, Long, Stranger, Spent, Narrow, Heavy, NoSpace, NoSuchRelation, StaleTicket, BookWorn}
 use Rattle.refusals.specs.Refusals.{numberAndPlace}
 use Rattle.letters.specs.Letters.{firstUnknown}
 use Rattle.format.specs.declared.HeadReading.{HeadReading}
@@ -92,6 +92,8 @@ number-small (Narrow n) = omega arith
 number-small Heavy = omega arith
 number-small NoSpace = omega arith
 number-small NoSuchRelation = omega arith
+number-small StaleTicket = omega arith
+number-small BookWorn = omega arith
 
 -- the line of a refusal
 pub refused-short : (r : Refusal) → numberAndPlace r .place < numberMost → length (refusedLine r) ≤ lineMost

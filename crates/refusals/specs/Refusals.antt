@@ -3,7 +3,7 @@ use Prim.Native.Nat.{_+_, _*_}
 use Rattle.limits.specs.Limits.{placeSpacing, inputMost}
 use Rattle.refusals.specs.declared.Numbered.{Numbered}
 use Rattle.refusals.specs.declared.Refusal.{Refusal}
-use Rattle.refusals.specs.declared.Refusal.the-variants.{Short, Kind, Length, Range, UnknownLetter, TooMany, Loose, Long, Stranger, Spent, Narrow, Heavy, NoSpace, NoSuchRelation}
+use Rattle.refusals.specs.declared.Refusal.the-variants.{Short, Kind, Length, Range, UnknownLetter, TooMany, Loose, Long, Stranger, Spent, Narrow, Heavy, NoSpace, NoSuchRelation, StaleTicket, BookWorn}
 
 -- the number and the place of each case, in the order of the table; 7 is not used
 abbrev pub numberAndPlace : Refusal → Numbered
@@ -21,3 +21,5 @@ numberAndPlace (Narrow buffer) = record { number = 12; place = buffer }
 numberAndPlace Heavy = record { number = 13; place = inputMost }
 numberAndPlace NoSpace = record { number = 14; place = 0 }
 numberAndPlace NoSuchRelation = record { number = 15; place = 0 }
+numberAndPlace StaleTicket = record { number = 16; place = 0 }
+numberAndPlace BookWorn = record { number = 17; place = 0 }

@@ -36,6 +36,10 @@ pub enum Refusal {
     NoSpace,
     // A held book has no relation of the index that is to be withdrawn (no such rule).
     NoSuchRelation,
+    // A ticket is posted whose count of changes is not that of the held book (stale ticket).
+    StaleTicket,
+    // A held book has taken all the changes that it takes (book worn).
+    BookWorn,
 }
 
 // A refusal as document 01 writes it.
@@ -103,6 +107,14 @@ pub fn number_and_place(refusal: Refusal) -> Numbered
         },
         Refusal::NoSuchRelation => Numbered {
             number: 15,
+            place: 0,
+        },
+        Refusal::StaleTicket => Numbered {
+            number: 16,
+            place: 0,
+        },
+        Refusal::BookWorn => Numbered {
+            number: 17,
             place: 0,
         },
     }

@@ -22,9 +22,13 @@ use Rattle.format.proofs.Readings.{passed, read-within}
 use Rattle.format.proofs.Unique.{bytes-unique, adding-bytes, starts-inside, starts-end, without-bytes, without-within, adding-within}
 use Rattle.format.proofs.Lengths.{bytes-few}
 use Rattle.format.proofs.Additions.{addition-bytes, addition-within, addition-few}
+use Rattle.held.specs.declared.Made.{Made}
 use Rattle.held.specs.declared.Made.the-variants as Mades
+use Rattle.held.specs.declared.Asked.{Asked}
+use Rattle.held.specs.declared.Asked.the-variants as Askeds
 use Rattle.held.specs.Held.{bookIn, takenUp}
 use Rattle.held.specs.Changes.{Change, addition, withdrawal, changedIn}
+use Rattle.held.specs.Asked.{changeAsked}
 use Rattle.held.proofs.Buffers.{book-bytes}
 use Rattle.held.proofs.Steps.{read-or-refused}
 use Rattle.renewing.specs.Making.{NewBook, NewMade, Appendable, BookAppended, Removable, RecordLeftOut}
@@ -232,3 +236,13 @@ module _ (held : List ℕ) (i : ℕ) (fresh : List ℕ) (r : Reading) (e : r ≡
         book-made (withdrawal i) held fresh n fresh′ (new-book shrunk (b .front) k (omega (arith, b .long))) (b .long)
 
 pub ruleset withdrawings = (refused-up, withdrawal-none, withdrawal-room, withdrawal-made, needs)
+
+-- the change that is asked for: its new book is that of the addition or of the withdrawal
+module _ (asked : Asked) (held bytes fresh : List ℕ) (r : Made) (fresh′ : List ℕ) where
+  pub asked-addition : asked ≡ Askeds.Addition → NewMade (addition bytes) held fresh r fresh′ → NewMade (changeAsked asked bytes) held fresh r fresh′
+  asked-addition e m = rw e m
+
+  pub asked-withdrawal : (i : ℕ) → asked ≡ Askeds.Withdrawal i → NewMade (withdrawal i) held fresh r fresh′ → NewMade (changeAsked asked bytes) held fresh r fresh′
+  asked-withdrawal i e m = rw e m
+
+pub ruleset askings = (asked-addition, asked-withdrawal, needs)

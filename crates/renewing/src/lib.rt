@@ -5,9 +5,11 @@ ghost use Rattle.limits.specs.Limits.{bookMost};
 ghost use Rattle.format.specs.Book.{additionAt};
 ghost use Rattle.held.specs.Held.{bookIn};
 ghost use Rattle.held.specs.Changes.{addition, withdrawal};
+ghost use Rattle.held.specs.Asked.{changeAsked};
 ghost use Rattle.renewing.specs.Making.{NewMade, Appendable, BookAppended, PartRemovable, PartLeftOut, Removable, RecordLeftOut};
 use format::Reading;
 use format::RelationReading;
+use held::Asked;
 use held::Made;
 use holding::book_of;
 use holding::take_up;
@@ -83,7 +85,7 @@ fn check_record(held: &[u8], bytes: &[u8], letters: u8, count: usize) -> Relatio
 }
 
 // The new book of an addition.
-pub fn make_addition(held: &[u8], bytes: &[u8], fresh: &mut [u8]) -> Made
+fn make_addition(held: &[u8], bytes: &[u8], fresh: &mut [u8]) -> Made
     requires { ⌜ length (now fresh) ≡ bookMost ⌝ }
     ensures { λ r. ⌜ NewMade (addition (now (bytes .entry))) (now (held .entry)) (now (fresh .entry)) r (now (fresh .exit)) ⌝ }
 {
@@ -101,7 +103,7 @@ pub fn make_addition(held: &[u8], bytes: &[u8], fresh: &mut [u8]) -> Made
 }
 
 // The new book of a withdrawal.
-pub fn make_withdrawal(held: &[u8], i: usize, fresh: &mut [u8]) -> Made
+fn make_withdrawal(held: &[u8], i: usize, fresh: &mut [u8]) -> Made
     requires { ⌜ length (now fresh) ≡ bookMost ⌝ }
     ensures { λ r. ⌜ NewMade (withdrawal i) (now (held .entry)) (now (fresh .entry)) r (now (fresh .exit)) ⌝ }
 {
@@ -114,5 +116,16 @@ pub fn make_withdrawal(held: &[u8], i: usize, fresh: &mut [u8]) -> Made
             }
             Made::Book(leave_out(held, i, fresh))
         }
+    }
+}
+
+// The new book of the change that is asked for.
+pub fn make_change(asked: Asked, held: &[u8], bytes: &[u8], fresh: &mut [u8]) -> Made
+    requires { ⌜ length (now fresh) ≡ bookMost ⌝ }
+    ensures { λ r. ⌜ NewMade (changeAsked asked (now (bytes .entry))) (now (held .entry)) (now (fresh .entry)) r (now (fresh .exit)) ⌝ }
+{
+    match asked {
+        Asked::Addition => make_addition(held, bytes, fresh),
+        Asked::Withdrawal(i) => make_withdrawal(held, i, fresh),
     }
 }

@@ -15,6 +15,7 @@ use Rattle.answers.specs.Entries.{checkOf, SheetOutcome, sheetOf, RoundOutcome,
 use Rattle.answers.specs.Demands.{Compared, LeastAnswered}
 use Rattle.held.specs.Held.{bookIn, bookStart, changesTold}
 use Rattle.held.specs.Changes.{LoadOutcome, loadOf, Change, ChangeOutcome, changeOf}
+use Rattle.held.specs.Tickets.{ProposalOutcome, proposeOf, postOf}
 use Rattle.results.specs.declared.CheckResult.{CheckResult}
 use Rattle.results.specs.declared.RoundResult.{RoundResult}
 use Rattle.results.specs.declared.CompareResult.{CompareResult}
@@ -22,7 +23,7 @@ use Rattle.results.specs.declared.LeastResult.{LeastResult}
 use Rattle.results.specs.declared.ProgramResult.{ProgramResult}
 use Rattle.results.specs.declared.HeldResult.{HeldResult}
 use Rattle.results.specs.Numbers.{checkResult, roundResult, compareResult, leastResult, programResult, heldResult}
-use Rattle.vanecitron.specs.Calls.{SheetNumbers, sheetNumbers, RoundNumbers, roundNumbers, ComparedNumbers, LeastNumbered, ProgramNumbers, programNumbers, LoadNumbers, loadNumbers, ChangeNumbers, changeNumbers}
+use Rattle.vanecitron.specs.Calls.{SheetNumbers, sheetNumbers, RoundNumbers, roundNumbers, ComparedNumbers, LeastNumbered, ProgramNumbers, programNumbers, LoadNumbers, loadNumbers, ChangeNumbers, changeNumbers, ProposalNumbers, proposalNumbers}
 
 -- the numbers of an answer that is the definition's are the definition's numbers
 pub check-passes : (book : List ℕ) (verdict : Verdict) (r : CheckResult) → ofVerdict verdict ≡ checkOf book → r ≡ checkResult (ofVerdict verdict)
@@ -63,8 +64,18 @@ pub change-passes : (change : Change) (old lent held sheet : List ℕ) (verdict 
     → ChangeNumbers.after r held sheet ≡ changeNumbers (changeOf change old lent)
 change-passes change old lent held sheet verdict r e f = rw (f, ← e)
 
+pub proposal-passes : (change : Change) (held old lent sheet ticket : List ℕ) (verdict : Verdict) (r : CheckResult)
+    → ProposalOutcome.after (ofVerdict verdict) sheet ticket ≡ proposeOf change held old lent → r ≡ checkResult (ofVerdict verdict)
+    → ProposalNumbers.after r sheet ticket ≡ proposalNumbers (proposeOf change held old lent)
+proposal-passes change held old lent sheet ticket verdict r e f = rw (f, ← e)
+
+pub post-passes : (given old lent held sheet : List ℕ) (verdict : Verdict) (r : CheckResult)
+    → ChangeOutcome.after (ofVerdict verdict) held sheet ≡ postOf given old lent → r ≡ checkResult (ofVerdict verdict)
+    → ChangeNumbers.after r held sheet ≡ changeNumbers (postOf given old lent)
+post-passes given old lent held sheet verdict r e f = rw (f, ← e)
+
 pub held-passes : (held book : List ℕ) (start changes : ℕ) (r : HeldResult) → book ≡ bookIn held → start ≡ bookStart held → changes ≡ changesTold held
     → r ≡ heldResult start (length book) changes → r ≡ heldResult (bookStart held) (length (bookIn held)) (changesTold held)
 held-passes held book start changes r e f g h = rw (h, e, f, g)
 
-pub ruleset passes = (check-passes, sheet-passes, round-passes, compare-passes, least-passes, program-passes, load-passes, change-passes, held-passes, needs)
+pub ruleset passes = (check-passes, sheet-passes, round-passes, compare-passes, least-passes, program-passes, load-passes, change-passes, proposal-passes, post-passes, held-passes, needs)

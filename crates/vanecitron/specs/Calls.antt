@@ -6,6 +6,7 @@ use Rattle.words.specs.Words.{Word}
 use Rattle.answers.specs.Entries.{SheetOutcome, RoundOutcome, compareOf, LeastOutcome, leastOf, OutputOutcome}
 use Rattle.answers.specs.Demands.{Compared, LeastAnswered}
 use Rattle.held.specs.Changes.{LoadOutcome, ChangeOutcome}
+use Rattle.held.specs.Tickets.{ProposalOutcome}
 use Rattle.results.specs.declared.CheckResult.{CheckResult}
 use Rattle.results.specs.declared.RoundResult.{RoundResult}
 use Rattle.results.specs.declared.CompareResult.{CompareResult}
@@ -15,7 +16,7 @@ use Rattle.results.specs.Numbers.{checkResult, roundResult, compareResult, leas
 
 -- the version of the C functions: 10,000 times the first part, 100 times the second, and the third
 abbrev pub version : ℕ
-version = 600
+version = 700
 
 -- what the cut sheet returns, and the lent buffer after it
 pub data SheetNumbers : Type 0 where
@@ -68,3 +69,10 @@ pub data ChangeNumbers : Type 0 where
 
 abbrev pub changeNumbers : ChangeOutcome → ChangeNumbers
 changeNumbers (ChangeOutcome.after a held sheet) = ChangeNumbers.after (checkResult a) held sheet
+
+-- what a proposal returns, and both lent buffers after it
+pub data ProposalNumbers : Type 0 where
+  after : CheckResult → List ℕ → List ℕ → ProposalNumbers
+
+abbrev pub proposalNumbers : ProposalOutcome → ProposalNumbers
+proposalNumbers (ProposalOutcome.after a sheet ticket) = ProposalNumbers.after (checkResult a) sheet ticket

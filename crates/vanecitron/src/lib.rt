@@ -5,8 +5,9 @@ ghost use Rattle.answers.specs.Entries.{checkOf, sheetOf, roundOf, outputOf};
 ghost use lib.ListN.{length};
 ghost use Rattle.held.specs.Held.{bookIn, bookStart, changesTold};
 ghost use Rattle.held.specs.Changes.{loadOf, addition, withdrawal, changeOf};
+ghost use Rattle.held.specs.Tickets.{proposeOf, postOf};
 ghost use Rattle.results.specs.Numbers.{checkResult, heldResult};
-ghost use Rattle.vanecitron.specs.Calls.{version, SheetNumbers as Sheets, sheetNumbers, RoundNumbers as Rounds, roundNumbers, ComparedNumbers, LeastNumbered, ProgramNumbers as Programs, programNumbers, LoadNumbers as Loads, loadNumbers, ChangeNumbers as Changes, changeNumbers};
+ghost use Rattle.vanecitron.specs.Calls.{version, SheetNumbers as Sheets, sheetNumbers, RoundNumbers as Rounds, roundNumbers, ComparedNumbers, LeastNumbered, ProgramNumbers as Programs, programNumbers, LoadNumbers as Loads, loadNumbers, ChangeNumbers as Changes, changeNumbers, ProposalNumbers as Proposals, proposalNumbers};
 use results::CheckResult;
 use results::CompareResult;
 use results::HeldResult;
@@ -20,7 +21,7 @@ pub struct Version {
 }
 
 impl Version {
-    pub const NUMBER: u32 = 600;
+    pub const NUMBER: u32 = 700;
 }
 
 // The version, so that a caller can hold his header to the archive that he links.
@@ -119,6 +120,40 @@ pub extern "C" fn vanecitron_withdraw(held: &mut [u8], i: usize, sheet: &mut [u8
     ensures { λ r. ⌜ Changes.after r (now (held .exit)) (now (sheet .exit)) ≡ changeNumbers (changeOf (withdrawal i) (now (held .entry)) (now (sheet .entry))) ⌝ }
 {
     results::of_verdict(heldbook::withdraw_relation(held, i, sheet))
+}
+
+// The proposal of an addition, with the sheet that it would lead to and a ticket in two lent buffers.
+#[no_mangle]
+pub extern "C" fn vanecitron_propose_add(
+    held: &[u8],
+    bytes: &[u8],
+    sheet: &mut [u8],
+    ticket: &mut [u8],
+) -> CheckResult
+    ensures { λ r. ⌜ Proposals.after r (now (sheet .exit)) (now (ticket .exit)) ≡ proposalNumbers (proposeOf (addition (now (bytes .entry))) (now (held .entry)) (now (sheet .entry)) (now (ticket .entry))) ⌝ }
+{
+    results::of_verdict(heldbook::propose_addition(held, bytes, sheet, ticket))
+}
+
+// The proposal of a withdrawal, likewise.
+#[no_mangle]
+pub extern "C" fn vanecitron_propose_withdraw(
+    held: &[u8],
+    i: usize,
+    sheet: &mut [u8],
+    ticket: &mut [u8],
+) -> CheckResult
+    ensures { λ r. ⌜ Proposals.after r (now (sheet .exit)) (now (ticket .exit)) ≡ proposalNumbers (proposeOf (withdrawal i) (now (held .entry)) (now (sheet .entry)) (now (ticket .entry))) ⌝ }
+{
+    results::of_verdict(heldbook::propose_withdrawal(held, i, sheet, ticket))
+}
+
+// The posting of a ticket, with the new sheet in a lent buffer.
+#[no_mangle]
+pub extern "C" fn vanecitron_post(held: &mut [u8], ticket: &[u8], sheet: &mut [u8]) -> CheckResult
+    ensures { λ r. ⌜ Changes.after r (now (held .exit)) (now (sheet .exit)) ≡ changeNumbers (postOf (now (ticket .entry)) (now (held .entry)) (now (sheet .entry))) ⌝ }
+{
+    results::of_verdict(heldbook::post_ticket(held, ticket, sheet))
 }
 
 // The book of a held book, as a place in its buffer and a length, with the count of changes: a C function returns no part of a slice.

@@ -1,4 +1,5 @@
-//! The cases: worst books for the check, worst words for the comparison and for the least word, changes of held books, and how the cost grows.
+//! The cases: worst books for the check, worst words for the comparison and for the least word, changes of held books, made, proposed and posted, and how the cost
+//! grows.
 
 use std::cell::RefCell;
 
@@ -6,7 +7,7 @@ use difftest::entries::{Compared, Entries, Fast, Refused, Rounded};
 use difftest::held::{HELD, PREFIX};
 use difftest::trial::{LEAST, SHEET, SHEET_SIDE};
 use gen::stories::Change;
-use gen::{books, inputs, shared, words, Book, Chance};
+use gen::{books, inputs, shared, tickets, words, Book, Chance};
 
 /// Something to run with the entries of either; the numbers it gives are only there to be equal for both.
 pub struct Case {
@@ -92,21 +93,63 @@ fn sheet(group: &'static str, name: impl Into<String>, book: &Book) -> Case {
     Case { group, name: name.into(), run: Box::new(run) }
 }
 
+/// The bytes of the held buffer that an accepted change has a part in, and the sheet, as one number.
+fn sum_of(held: &[u8], sheet: &[u8], relations: u64) -> u64 {
+    held[..PREFIX].iter().chain(&sheet[..2 * SHEET_SIDE * relations as usize]).map(|&byte| byte as u64).sum()
+}
+
+/// A held book as the loading of a book leaves it.
+fn loaded(bytes: &[u8]) -> Vec<u8> {
+    let mut held = vec![0; HELD];
+    Fast.load(bytes, &mut held).expect("an accepted book");
+    held
+}
+
 /// A change of a held book. Each run begins with the bytes that the loading left: only those that a change can write are put back.
 fn change(group: &'static str, name: impl Into<String>, book: &Book, change: Change) -> Case {
+    changing(group, name, book, move |entries, held, sheet| match &change {
+        Change::Add { record, .. } => entries.add(held, record, sheet),
+        Change::Withdraw { relation, .. } => entries.withdraw(held, *relation, sheet),
+    })
+}
+
+/// The posting of a change's ticket, in the same way.
+fn post(group: &'static str, name: impl Into<String>, book: &Book, change: Change) -> Case {
+    let ticket = match &change {
+        Change::Add { record, .. } => tickets::addition(0, record),
+        Change::Withdraw { relation, .. } => tickets::withdrawal(0, 1, *relation as u16),
+    };
+    changing(group, name, book, move |entries, held, sheet| entries.post(held, &ticket, sheet))
+}
+
+/// What changes a held book.
+fn changing<F>(group: &'static str, name: impl Into<String>, book: &Book, change: F) -> Case
+where
+    F: Fn(&dyn Entries, &mut [u8], &mut [u8]) -> Result<u64, Refused> + 'static,
+{
     let bytes = book.bytes();
-    let mut loaded = vec![0; HELD];
-    Fast.load(&bytes, &mut loaded).expect("an accepted book");
+    let loaded = loaded(&bytes);
     let buffers = RefCell::new((loaded.clone(), [0; SHEET]));
     let run = move |entries: &dyn Entries| {
         let (held, sheet) = &mut *buffers.borrow_mut();
         let used = PREFIX + bytes.len();
         held[..used].copy_from_slice(&loaded[..used]);
+        numbers(change(entries, held, sheet), |relations| sum_of(held, sheet, relations))
+    };
+    Case { group, name: name.into(), run: Box::new(run) }
+}
+
+/// The proposal of a change, which leaves the held book as it is.
+fn propose(group: &'static str, name: impl Into<String>, book: &Book, change: Change) -> Case {
+    let held = loaded(&book.bytes());
+    let buffers = RefCell::new(([0; SHEET], [0; tickets::ROOM]));
+    let run = move |entries: &dyn Entries| {
+        let (sheet, ticket) = &mut *buffers.borrow_mut();
         let result = match &change {
-            Change::Add { record, .. } => entries.add(held, record, sheet),
-            Change::Withdraw { relation, .. } => entries.withdraw(held, *relation, sheet),
+            Change::Add { record, .. } => entries.propose_add(&held, record, sheet, ticket),
+            Change::Withdraw { relation, .. } => entries.propose_withdraw(&held, *relation, sheet, ticket),
         };
-        numbers(result, |relations| held[..PREFIX].iter().chain(&sheet[..2 * SHEET_SIDE * relations as usize]).map(|&byte| byte as u64).sum())
+        numbers(result, |relations| sum_of(&held, sheet, relations) + ticket.iter().map(|&byte| byte as u64).sum::<u64>())
     };
     Case { group, name: name.into(), run: Box::new(run) }
 }
@@ -137,6 +180,7 @@ const GROWTH_BY_RELATIONS: &str = "the comparison, by number of relations";
 const FAMILIES: &str = "relations that share a word: a family of 33 beside 32 pairs, words of 20 and their random exchanges";
 const QUIET: &str = "the worst of families: row 4, 32 other members, nothing active";
 const CHANGES: &str = "changes of a held book, beside the check of the new book";
+const TICKETS: &str = "tickets of a held book, beside the check of the new book";
 const LEASTS: &str = "the least word as one call, which checks its book";
 const GROWTH_OF_LEAST: &str = "the least word, by length of words";
 const PROGRAM: &str = "the program on 60,000 bytes";
@@ -333,7 +377,7 @@ impl Step {
     }
 }
 
-/// A change is to cost one check of the new book and a move of its bytes.
+/// A change is to cost one check of the new book and a move of its bytes, whether it is made or posted; a proposal one check.
 fn changes(all: &mut Vec<Case>, chance: &mut Chance) {
     let random = books::full_random(chance, 64);
     let twice_q = Book::new(4, [q().words, q().words].concat());
@@ -346,8 +390,14 @@ fn changes(all: &mut Vec<Case>, chance: &mut Chance) {
         Step::adding("add to 31 relations of 1 and 1 letter", pairs),
         Step::withdrawing("withdraw from a family of 33 in a chain", shared::random_family(chance, 64, shared::Shape::Chain), 15),
     ];
-    for Step { name, old, change: step, new } in steps {
-        all.push(check(CHANGES, format!("check: {name}"), &new));
-        all.push(change(CHANGES, format!("change: {name}"), &old, step));
+    for Step { name, old, change: step, new } in &steps {
+        all.push(check(CHANGES, format!("check: {name}"), new));
+        all.push(change(CHANGES, format!("change: {name}"), old, step.clone()));
+    }
+    for Step { name, old, change: step, new } in &steps {
+        all.push(check(TICKETS, format!("check: proposal, {name}"), new));
+        all.push(propose(TICKETS, format!("propose: proposal, {name}"), old, step.clone()));
+        all.push(check(TICKETS, format!("check: posting, {name}"), new));
+        all.push(post(TICKETS, format!("post: posting, {name}"), old, step.clone()));
     }
 }

@@ -18,7 +18,7 @@ pub enum Rounded {
     Next([u64; 3]),
 }
 
-/// The six entries that keep nothing between calls, and those of held books.
+/// The six entries that keep nothing between calls, those of held books, and those of tickets.
 pub trait Entries {
     fn name(&self) -> &'static str;
     /// the least size of the program's output buffer
@@ -32,6 +32,9 @@ pub trait Entries {
     fn load(&self, book: &[u8], held: &mut [u8]) -> Result<u64, Refused>;
     fn add(&self, held: &mut [u8], record: &[u8], sheet: &mut [u8]) -> Result<u64, Refused>;
     fn withdraw(&self, held: &mut [u8], relation: usize, sheet: &mut [u8]) -> Result<u64, Refused>;
+    fn propose_add(&self, held: &[u8], record: &[u8], sheet: &mut [u8], ticket: &mut [u8]) -> Result<u64, Refused>;
+    fn propose_withdraw(&self, held: &[u8], relation: usize, sheet: &mut [u8], ticket: &mut [u8]) -> Result<u64, Refused>;
+    fn post(&self, held: &mut [u8], ticket: &[u8], sheet: &mut [u8]) -> Result<u64, Refused>;
     fn book_of<'a>(&self, held: &'a [u8]) -> &'a [u8];
 }
 
@@ -92,6 +95,18 @@ impl Entries for Fast {
 
     fn withdraw(&self, held: &mut [u8], relation: usize, sheet: &mut [u8]) -> Result<u64, Refused> {
         fast::withdraw(held, relation, sheet).map_err(of_fast)
+    }
+
+    fn propose_add(&self, held: &[u8], record: &[u8], sheet: &mut [u8], ticket: &mut [u8]) -> Result<u64, Refused> {
+        fast::propose_add(held, record, sheet, ticket).map_err(of_fast)
+    }
+
+    fn propose_withdraw(&self, held: &[u8], relation: usize, sheet: &mut [u8], ticket: &mut [u8]) -> Result<u64, Refused> {
+        fast::propose_withdraw(held, relation, sheet, ticket).map_err(of_fast)
+    }
+
+    fn post(&self, held: &mut [u8], ticket: &[u8], sheet: &mut [u8]) -> Result<u64, Refused> {
+        fast::post(held, ticket, sheet).map_err(of_fast)
     }
 
     fn book_of<'a>(&self, held: &'a [u8]) -> &'a [u8] {
@@ -159,6 +174,18 @@ impl Entries for Proved {
 
     fn withdraw(&self, held: &mut [u8], relation: usize, sheet: &mut [u8]) -> Result<u64, Refused> {
         vanecitron::withdraw(held, relation, sheet).map(|rules| rules as u64).map_err(of_proved)
+    }
+
+    fn propose_add(&self, held: &[u8], record: &[u8], sheet: &mut [u8], ticket: &mut [u8]) -> Result<u64, Refused> {
+        vanecitron::propose_addition(held, record, sheet, ticket).map(|rules| rules as u64).map_err(of_proved)
+    }
+
+    fn propose_withdraw(&self, held: &[u8], relation: usize, sheet: &mut [u8], ticket: &mut [u8]) -> Result<u64, Refused> {
+        vanecitron::propose_withdrawal(held, relation, sheet, ticket).map(|rules| rules as u64).map_err(of_proved)
+    }
+
+    fn post(&self, held: &mut [u8], ticket: &[u8], sheet: &mut [u8]) -> Result<u64, Refused> {
+        vanecitron::post(held, ticket, sheet).map(|rules| rules as u64).map_err(of_proved)
     }
 
     fn book_of<'a>(&self, held: &'a [u8]) -> &'a [u8] {

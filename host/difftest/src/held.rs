@@ -29,7 +29,7 @@ pub fn present(held: &[u8]) -> Book {
 }
 
 /// What is held by the bytes up to some behind the book, and the size of its buffer.
-fn told(held: &[u8]) -> String {
+pub(crate) fn told(held: &[u8]) -> String {
     let used = (PREFIX + reference::book_of(held).len() + 8).min(held.len());
     format!("{}.. in {} bytes", hex(&held[..used]), held.len())
 }
@@ -71,6 +71,7 @@ impl Trial<'_> {
         let expected = expected.map_err(of_reference);
         let call = || format!("{} of {}", written(change), told(held));
         assert_eq!(result, expected, "{}", call());
+        assert!(expected.is_ok() || (after == *held && sheet == Lent::new(size).front(size)), "a refusal keeps every byte: {}", call());
         assert_eq!(lent.fault(&after), None, "a byte of the held book: {}", call());
         assert_eq!(lent_sheet.fault(&sheet), None, "a byte of the sheet: {}", call());
         self.met(&expected);

@@ -139,7 +139,7 @@ fn alteration(chance: &mut Chance, book: &Book, held: &[u8]) -> Vec<u8> {
             let other = *chance.pick(&[0, 1, 3, 4, 5, length - 1, length + 1, length + 4, BOOK as u16 - 1, BOOK as u16, BOOK as u16 + 1, u16::MAX]);
             altered[..2].copy_from_slice(&other.to_le_bytes());
         }
-        2 => altered[2..4].copy_from_slice(&chance.pick(&[1u16, 255, 256, u16::MAX - 1, u16::MAX, u16::MAX]).to_le_bytes()),
+        2 => altered[2..4].copy_from_slice(&chance.pick(&[1u16, 255, 256, 59_999, 60_000, 60_001, u16::MAX]).to_le_bytes()),
         3 => altered = holding(&damage::damaged(chance, &book.bytes())),
         4 | 5 => altered = holding(&[books::any, shared::loose, books::small][chance.below(3)](chance).bytes()),
         6 => {

@@ -8,6 +8,8 @@ pub mod held;
 pub mod held_trials;
 pub mod lent;
 pub mod tally;
+pub mod ticket_trials;
+pub mod tickets;
 pub mod trial;
 pub mod trials;
 

@@ -2,14 +2,14 @@
 
 use std::time::{Duration, Instant};
 
-use difftest::{chosen, held_trials, trials, Entries, Tally, Trial};
+use difftest::{chosen, held_trials, ticket_trials, trials, Entries, Tally, Trial};
 use gen::books::AT_THE_LIMITS;
 use gen::Chance;
 
 /// A trial by name.
 type Named = (&'static str, fn(&mut Trial, &mut Chance));
 
-const TRIALS: [Named; 31] = [
+const TRIALS: [Named; 37] = [
     ("generated books", |trial, chance| trials::generated_books(trial, chance, 1_000)),
     ("sheets", |trial, chance| trials::sheets(trial, chance, &trials::SHEETS, 1_000)),
     ("sheets, shared words", |trial, chance| trials::sheets(trial, chance, &trials::SHARED_SHEETS, 1_000)),
@@ -47,6 +47,12 @@ const TRIALS: [Named; 31] = [
     ("held books changed", |trial, chance| held_trials::held(trial, chance, &held_trials::STORIES, 16, 300)),
     ("held books changed, at the limits", |trial, chance| held_trials::held(trial, chance, &held_trials::FULL, 4, 30)),
     ("held books altered", |trial, chance| held_trials::altered(trial, chance, 9, 300)),
+    ("tickets posted", |trial, chance| ticket_trials::posted(trial, chance, &held_trials::STORIES, 16, 300)),
+    ("tickets posted, at the limits", |trial, chance| ticket_trials::posted(trial, chance, &held_trials::FULL, 4, 30)),
+    ("tickets altered", |trial, chance| ticket_trials::altered(trial, chance, 6)),
+    ("tickets made up", |trial, chance| ticket_trials::made_up(trial, chance, 30, 300)),
+    ("tickets in buffers of all sizes", |trial, chance| ticket_trials::rooms(trial, chance, 30)),
+    ("books worn", |trial, chance| ticket_trials::worn(trial, chance, 30)),
 ];
 
 fn main() {
@@ -64,6 +70,7 @@ fn main() {
     trials::two_letters(&mut trial, 9, 9);
     trials::least_of_two_letters(&mut trial, &mut Chance::new(seed), 9, 11);
     held_trials::altered_at_the_limits(&mut trial);
+    ticket_trials::sixty_thousand(&mut trial);
     sum.add(&trial.tally);
     while Instant::now() < end {
         for (name, run) in TRIALS {

@@ -5,13 +5,15 @@ use std::fmt;
 use gen::stories::Change;
 use reference::book::Accepted;
 use reference::families::{distinct, families, number_of};
+use reference::held::{changes_of, COUNTED};
 use reference::rows::{clean_front, member_in_front, member_of_next_tail};
+use reference::tickets::{read_ticket, TICKET};
 use reference::Word;
 
 use crate::entries::Refused;
 
 /// How often each number of a refusal was met.
-pub type Numbers = [u64; 16];
+pub type Numbers = [u64; 18];
 
 /// What relations that share a word bring.
 #[derive(Debug, Clone, Default)]
@@ -78,8 +80,8 @@ pub struct Held {
     pub bridges: u64,
     /// sheets' buffers: just enough, longer; refused by 12 a byte short, and with no bytes
     pub rooms: [u64; 4],
-    /// changes that the count has no room for
-    pub uncounted: u64,
+    /// changes that bring the count to 60,000
+    pub worn: u64,
 }
 
 impl Held {
@@ -123,7 +125,7 @@ impl Held {
         match result {
             Ok(_) => {
                 self.rooms[(size > needed) as usize] += 1;
-                self.uncounted += (reference::held::changes_of(held) == 65_535) as u64;
+                self.worn += (changes_of(held) + 1 == COUNTED) as u64;
             }
             Err((12, 0)) => {
                 self.rooms[2] += (size + 1 == needed) as u64;
@@ -146,7 +148,7 @@ impl Held {
         add_all(&mut self.withdrawn_places, &other.withdrawn_places);
         self.bridges += other.bridges;
         add_all(&mut self.rooms, &other.rooms);
-        self.uncounted += other.uncounted;
+        self.worn += other.worn;
     }
 }
 
@@ -160,7 +162,100 @@ impl fmt::Display for Held {
         let [first, between, last, only] = self.withdrawn_places;
         write!(f, "; withdrawn: the first {first}, between {between}, the last {last}, the only {only}, bridges {}", self.bridges)?;
         let [exact, longer, short, none] = self.rooms;
-        write!(f, "; sheets in buffers just enough {exact}, longer {longer}, a byte short {short}, of none {none}; uncounted {}", self.uncounted)
+        write!(f, "; sheets in buffers just enough {exact}, longer {longer}, a byte short {short}, of none {none}; books worn {}", self.worn)
+    }
+}
+
+/// What proposals and postings bring.
+#[derive(Debug, Clone, Default)]
+pub struct Tickets {
+    /// accepted proposals of additions and of withdrawals
+    pub proposed: [u64; 2],
+    /// accepted postings of additions and of withdrawals
+    pub posted: [u64; 2],
+    pub refused_proposals: Numbers,
+    pub refused_postings: Numbers,
+    /// proposals refused by 12 by the number of the buffer: the sheet, the held book, the ticket
+    pub narrow: [u64; 3],
+    /// tickets' buffers where nothing else is refused: those of 0, 5, 6, 139, 140 and 141 bytes
+    pub rooms: [u64; 6],
+    /// accepted postings by what no proposal writes: a kind that is neither 0 nor 1, fewer bytes than the fields have
+    pub odd_kinds: u64,
+    pub cut_off: u64,
+    /// postings refused by 12 for want of a byte of the sheet's buffer
+    pub short_sheets: u64,
+    /// worn books: accepted proposals, postings refused by 16 and by 17, postings that wear a book
+    pub worn: [u64; 4],
+}
+
+/// The sizes of tickets' buffers that are counted.
+const ROOMS: [usize; 6] = [0, 5, 6, TICKET - 1, TICKET, TICKET + 1];
+
+impl Tickets {
+    /// Counts a proposal to what is held, with a ticket's buffer of this size.
+    pub fn meet_proposal(&mut self, held: &[u8], change: &Change, room: usize, result: &Result<u64, Refused>) {
+        match result {
+            Ok(_) => {
+                self.proposed[matches!(change, Change::Withdraw { .. }) as usize] += 1;
+                self.worn[0] += (changes_of(held) >= COUNTED) as u64;
+            }
+            Err((number, place)) => {
+                self.refused_proposals[*number as usize] += 1;
+                if *number == 12 {
+                    self.narrow[*place as usize] += 1;
+                }
+            }
+        }
+        if matches!(result, Ok(_) | Err((12, 2))) {
+            for (met, size) in self.rooms.iter_mut().zip(ROOMS) {
+                *met += (room == size) as u64;
+            }
+        }
+    }
+
+    /// Counts a posting to what is held, with a sheet's buffer of this size.
+    pub fn meet_posting(&mut self, held: &[u8], ticket: &[u8], size: usize, result: &Result<u64, Refused>) {
+        let is_worn = changes_of(held) >= COUNTED;
+        match result {
+            Ok(_) => {
+                let (count, change) = read_ticket(ticket);
+                self.posted[matches!(change, reference::held::Change::Withdrawal(_)) as usize] += 1;
+                self.odd_kinds += ticket.get(2..4).is_some_and(|kind| kind[0] > 1 || kind[1] > 0) as u64;
+                self.cut_off += (ticket.len() < 6) as u64;
+                self.worn[3] += (count + 1 == COUNTED) as u64;
+            }
+            Err((number, place)) => {
+                self.refused_postings[*number as usize] += 1;
+                self.worn[1] += (is_worn && *number == 16) as u64;
+                self.worn[2] += (*number == 17) as u64;
+                self.short_sheets += ((*number, *place) == (12, 0) && size % 8 == 7) as u64;
+            }
+        }
+    }
+
+    fn add(&mut self, other: &Tickets) {
+        add_all(&mut self.proposed, &other.proposed);
+        add_all(&mut self.posted, &other.posted);
+        add_all(&mut self.refused_proposals, &other.refused_proposals);
+        add_all(&mut self.refused_postings, &other.refused_postings);
+        add_all(&mut self.narrow, &other.narrow);
+        add_all(&mut self.rooms, &other.rooms);
+        self.odd_kinds += other.odd_kinds;
+        self.cut_off += other.cut_off;
+        self.short_sheets += other.short_sheets;
+        add_all(&mut self.worn, &other.worn);
+    }
+}
+
+impl fmt::Display for Tickets {
+    fn fmt(&self, f: &mut fmt::Formatter<'_>) -> fmt::Result {
+        let ([add, withdraw], [added, withdrawn]) = (self.proposed, self.posted);
+        write!(f, "tickets of additions {add}, of withdrawals {withdraw}, posted {added} and {withdrawn}")?;
+        write!(f, ", of an odd kind {}, cut off {}, in short sheets {}", self.odd_kinds, self.cut_off, self.short_sheets)?;
+        write!(f, "; refusals by number of proposals {:?}, of postings {:?}", &self.refused_proposals[1..], &self.refused_postings[1..])?;
+        write!(f, "; narrow by buffer {:?}; ticket rooms {ROOMS:?} {:?}", self.narrow, self.rooms)?;
+        let [proposed, stale, refused, wearing] = self.worn;
+        write!(f, "; worn books: proposals {proposed}, stale {stale}, refused {refused}, postings that wear one {wearing}")
     }
 }
 
@@ -212,6 +307,8 @@ pub struct Tally {
     pub shared: Shared,
     /// what loadings and changes of held books bring
     pub held: Held,
+    /// what proposals and postings bring
+    pub tickets: Tickets,
 }
 
 impl Tally {
@@ -262,6 +359,7 @@ impl Tally {
     pub fn add(&mut self, other: &Tally) {
         self.shared.add(&other.shared);
         self.held.add(&other.held);
+        self.tickets.add(&other.tickets);
         self.calls += other.calls;
         self.accepted += other.accepted;
         self.same += other.same;
@@ -281,6 +379,10 @@ impl fmt::Display for Tally {
         let [four, five, six, seven, more, none] = self.numbers;
         write!(f, "; sides on sheets by number: {four} of 4, {five} of 5, {six} of 6, {seven} of 7, {more} of more, {none} of none")?;
         let [kept, longer, shorter, other] = self.least;
-        write!(f, "; least words: {kept} the given one, {longer} longer, {shorter} shorter, {other} others; {}; {}", self.shared, self.held)
+        write!(
+            f,
+            "; least words: {kept} the given one, {longer} longer, {shorter} shorter, {other} others; {}; {}; {}",
+            self.shared, self.held, self.tickets
+        )
     }
 }

@@ -1,5 +1,5 @@
-//! The recorded calls and inputs, the executed changes of held books, and document 01's bench cases, with answers that are written down: the reference has no part in
-//! these.
+//! The recorded calls and inputs, the executed changes and tickets of held books, and document 01's bench cases, with answers that are written down: the reference
+//! has no part in these.
 
 use difftest::entries::{Compared, Refused, Rounded};
 use difftest::trial::{SHEET, SHEET_SIDE};
@@ -35,6 +35,18 @@ impl Holder for Held<'_> {
     fn withdraw(&self, held: &mut [u8], rule: usize, sheet: &mut [u8]) -> Answer {
         self.0.withdraw(held, rule, sheet)
     }
+
+    fn propose_add(&self, held: &[u8], record: &[u8], sheet: &mut [u8], ticket: &mut [u8]) -> Answer {
+        self.0.propose_add(held, record, sheet, ticket)
+    }
+
+    fn propose_withdraw(&self, held: &[u8], rule: usize, sheet: &mut [u8], ticket: &mut [u8]) -> Answer {
+        self.0.propose_withdraw(held, rule, sheet, ticket)
+    }
+
+    fn post(&self, held: &mut [u8], ticket: &[u8], sheet: &mut [u8]) -> Answer {
+        self.0.post(held, ticket, sheet)
+    }
 }
 
 /// The answer to a call as it is recorded.
@@ -62,7 +74,7 @@ fn answer(entries: &dyn Entries, call: &Call) -> String {
             let length = entries.least(book, word, &mut buffer, *offset);
             length.map_or_else(refused, |length| format!("least {length} {}", hex(&buffer[*offset..][..length as usize])))
         }
-        Call::Held { book, changes } => told(&Held(entries), book, changes),
+        Call::Held { book, operations } => told(&Held(entries), book, operations),
     }
 }
 
@@ -82,7 +94,7 @@ fn recorded_calls() {
 #[test]
 fn executed_changes_of_held_books() {
     let stories: Vec<_> = vectors::executed().into_iter().filter(|case| case.line.starts_with("held ")).collect();
-    assert!(stories.len() > 100, "{} lines", stories.len());
+    assert!(stories.len() > 200, "{} lines", stories.len());
     for case in stories {
         assert_eq!(answer(&chosen(), &vectors::call(&case.line)), case.answer, "{}", case.line);
     }

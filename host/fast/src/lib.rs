@@ -4,7 +4,7 @@
 //! and each word that of its family and a link to the next member. One row of common fronts, updated in place, gives the
 //! longest piece that starts at each place of the text; C(4), the cuts and the numbers of pieces are read off that table. A comparison finds relation
 //! words by an index and holds each of its words as a part of the text followed by the rest of a given word, in three numbers, and copies nothing; so does
-//! the least word. A change of a held book makes the new book in an array, and checks it as any other.
+//! the least word. A change of a held book, made, proposed or posted, makes the new book in an array, and checks it once, as any other.
 //!
 //! Document 01's words: a step is a letter, a run a word, a side a relation word, a rule a relation, a book a presentation.
 
@@ -15,11 +15,13 @@ mod pieces;
 mod program;
 mod reader;
 mod rounds;
+mod tickets;
 
 pub use held::{add, book_of, load, withdraw, HELD};
 pub use least::least;
 pub use program::{program, OUTPUT};
 pub use rounds::{compare, round, Comparison, RoundEnd};
+pub use tickets::{post, propose_add, propose_withdraw, TICKET};
 
 use reader::Laid;
 
@@ -48,10 +50,12 @@ pub const SHEET_SIDE: usize = 4;
 /// Writes the lengths of X, Y, Z and the number of pieces of each side in order, one byte each, and gives the number of relations.
 pub fn cut_sheet(book: &[u8], sheet: &mut [u8]) -> Result<u64, Refusal> {
     let mut laid = Laid::empty();
-    accept(book, &mut laid)?;
-    if sheet.len() < SHEET_SIDE * laid.sides {
-        return refuse(12, 0);
-    }
+    accept_for(book, &mut laid, sheet.len())?;
+    Ok(write_sheet(&laid, sheet))
+}
+
+/// Writes the sheet of a book into a buffer that has the room.
+fn write_sheet(laid: &Laid, sheet: &mut [u8]) -> u64 {
     for (place, &i) in sheet.chunks_exact_mut(SHEET_SIDE).zip(&laid.word_of[..laid.sides]) {
         let word = &laid.table[i as usize];
         place[0] = (word.x_end - word.start) as u8;
@@ -59,7 +63,16 @@ pub fn cut_sheet(book: &[u8], sheet: &mut [u8]) -> Result<u64, Refusal> {
         place[2] = (word.end - word.z_start) as u8;
         place[3] = word.pieces;
     }
-    Ok(laid.relations() as u64)
+    laid.relations() as u64
+}
+
+/// Accepts a book whose sheet fits into so many bytes.
+fn accept_for(book: &[u8], laid: &mut Laid, room: usize) -> Result<(), Refusal> {
+    accept(book, laid)?;
+    if room < SHEET_SIDE * laid.sides {
+        return refuse(12, 0);
+    }
+    Ok(())
 }
 
 /// Reads a book, checks it, and cuts its words.

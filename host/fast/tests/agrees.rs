@@ -1,6 +1,7 @@
-//! Agrees with the reference on generated books, words, rounds, least words, damage, program inputs and changes of held books, and on the recorded vectors.
+//! Agrees with the reference on generated books, words, rounds, least words, damage, program inputs, changes of held books and tickets, and on the
+//! recorded vectors.
 
-use gen::stories::{Change, Story};
+use gen::stories::{Act, Change, Story};
 use gen::{books, damage, inputs, shared, words, Book, Chance};
 use vectors::held::{told, Answer, Holder};
 use vectors::Call;
@@ -74,7 +75,7 @@ fn program(input: &[u8]) {
     assert_eq!(String::from_utf8_lossy(&output[..length]), String::from_utf8_lossy(&reference::program(input)));
 }
 
-/// The fast version as what loads and changes held books.
+/// The fast version as what loads and changes held books, proposes and posts.
 struct Fast;
 
 impl Holder for Fast {
@@ -88,6 +89,18 @@ impl Holder for Fast {
 
     fn withdraw(&self, held: &mut [u8], rule: usize, sheet: &mut [u8]) -> Answer {
         fast::withdraw(held, rule, sheet).map_err(ours)
+    }
+
+    fn propose_add(&self, held: &[u8], record: &[u8], sheet: &mut [u8], ticket: &mut [u8]) -> Answer {
+        fast::propose_add(held, record, sheet, ticket).map_err(ours)
+    }
+
+    fn propose_withdraw(&self, held: &[u8], rule: usize, sheet: &mut [u8], ticket: &mut [u8]) -> Answer {
+        fast::propose_withdraw(held, rule, sheet, ticket).map_err(ours)
+    }
+
+    fn post(&self, held: &mut [u8], ticket: &[u8], sheet: &mut [u8]) -> Answer {
+        fast::post(held, ticket, sheet).map_err(ours)
     }
 }
 
@@ -104,6 +117,33 @@ fn change(held: &mut Vec<u8>, change: &Change) -> Result<u64, Refused> {
     assert_eq!(answer.map_err(ours), expected, "{change:?}");
     assert_eq!((&*held, one), (&other_held, two), "{change:?}");
     assert_eq!(fast::book_of(held), reference::book_of(held), "{change:?}");
+    expected
+}
+
+/// A proposal. The answer, and every byte of sheet and ticket, are as they should be; gives the ticket where there is one.
+fn propose(held: &[u8], change: &Change, room: usize) -> Result<Vec<u8>, Refused> {
+    let (Change::Add { size, .. } | Change::Withdraw { size, .. }) = *change;
+    let (mut sheets, mut tickets) = ([vec![170; size], vec![170; size]], [vec![170; room], vec![170; room]]);
+    let ([one, two], [ticket, other]) = (&mut sheets, &mut tickets);
+    let (answer, expected) = match change {
+        Change::Add { record, .. } => (fast::propose_add(held, record, one, ticket), reference::propose_add(held, record, two, other)),
+        Change::Withdraw { relation, .. } => {
+            (fast::propose_withdraw(held, *relation, one, ticket), reference::propose_withdraw(held, *relation, two, other))
+        }
+    };
+    let expected = expected.map_err(theirs);
+    assert_eq!(answer.map_err(ours), expected, "{change:?} {room}");
+    assert_eq!((one, &ticket), (two, &other), "{change:?} {room}");
+    expected.map(|_| ticket.clone())
+}
+
+/// A posting. The answer, and every byte of held book and sheet, are as they should be.
+fn post(held: &mut Vec<u8>, ticket: &[u8], size: usize) -> Result<u64, Refused> {
+    let (mut other_held, mut sheets) = (held.clone(), [vec![170; size], vec![170; size]]);
+    let [one, two] = &mut sheets;
+    let expected = reference::post(&mut other_held, ticket, two).map_err(theirs);
+    assert_eq!(fast::post(held, ticket, one).map_err(ours), expected, "{ticket:?}");
+    assert_eq!((&*held, one), (&other_held, two), "{ticket:?}");
     expected
 }
 
@@ -306,14 +346,50 @@ fn on_held_books() {
 }
 
 #[test]
+fn on_tickets() {
+    let mut chance = Chance::new(10);
+    let (mut proposed, mut posted, mut refused) = (0, 0, [0; 18]);
+    for case in 0..60 {
+        let kinds = [books::marked, books::of_many_numbers, shared::any, shared::linked, shared::large];
+        let book = kinds[case % kinds.len()](&mut chance);
+        if reference::check(&book.bytes()).is_err() {
+            continue;
+        }
+        let mut story = Story::new(&mut chance, &book);
+        let (mut held, mut tickets) = (vec![170; fast::HELD], Vec::new());
+        fast::load(&story.book.bytes(), &mut held).expect("words of an accepted book");
+        held[2..4].copy_from_slice(&chance.pick(&[0u16, 250, 59_990]).to_le_bytes());
+        for _ in 0..100 {
+            let read = reference::book::read(fast::book_of(&held)).expect("what is held is a book");
+            let count = u16::from_le_bytes([held[2], held[3]]);
+            let answer = match story.act(&mut chance, &Book::new(read.letters, read.sides), count, &tickets, &[]) {
+                Act::Make(next) => change(&mut held, &next).map(drop),
+                Act::Post { ticket, size } => post(&mut held, &ticket, size).map(|_| posted += 1),
+                Act::Propose { change, room } => propose(&held, &change, room).map(|ticket| {
+                    proposed += 1;
+                    tickets.push(ticket);
+                }),
+                Act::Load => Ok(()),
+            };
+            if let Err((number, _)) = answer {
+                refused[number as usize] += 1;
+            }
+        }
+    }
+    assert!(proposed > 200 && posted > 200, "{proposed} proposed, {posted} posted");
+    let seldom: Vec<usize> = [1, 2, 3, 4, 5, 6, 8, 12, 15, 16, 17].into_iter().filter(|&number| refused[number] < 20).collect();
+    assert_eq!(seldom, [], "refusals that are hardly met: {refused:?}");
+}
+
+#[test]
 fn on_recorded_vectors() {
     for run in vectors::runs() {
         program(&run.input);
     }
     for recorded in vectors::calls() {
         let book = recorded.call.book();
-        if let Call::Held { changes, .. } = &recorded.call {
-            assert_eq!(told(&Fast, book, changes), recorded.answer, "{}", recorded.line);
+        if let Call::Held { operations, .. } = &recorded.call {
+            assert_eq!(told(&Fast, book, operations), recorded.answer, "{}", recorded.line);
         }
         sheet(book, SHEET + 8);
         let Some(accepted) = check(book) else { continue };

@@ -1,4 +1,4 @@
-//! Generators of books, also of those whose relations share words, of words, marks, damage, program inputs and stories of held books, for tests and benchmarks.
+//! Generators of books, also of those whose relations share words, of words, marks, damage, program inputs, stories of held books and tickets, for tests and benchmarks.
 //! Everything follows from a seed.
 //!
 //! Document 01's words: a step is a letter, a run a word, a side a relation word, a rule a relation, a book a presentation.
@@ -9,6 +9,7 @@ pub mod damage;
 pub mod inputs;
 pub mod shared;
 pub mod stories;
+pub mod tickets;
 pub mod words;
 
 pub use books::Book;

@@ -1,7 +1,7 @@
-//! Stories of held books: a book that is loaded, and changes of it one after the other. What a change is made for depends on the book that is held by then, which
-//! whoever tells the story knows.
+//! Stories of held books: a book that is loaded, and changes of it one after the other, made, proposed or posted. What a change is made for depends on the book that is
+//! held by then, and on the tickets that were given, which whoever tells the story knows.
 
-use crate::{books, damage, inputs, shared, Book, Chance};
+use crate::{books, damage, inputs, shared, tickets, Book, Chance};
 
 /// Most relations of a book, and the bytes of one on a sheet.
 const RELATIONS: usize = 32;
@@ -12,6 +12,15 @@ const SHEET_RELATION: usize = 8;
 pub enum Change {
     Add { record: Vec<u8>, size: usize },
     Withdraw { relation: usize, size: usize },
+}
+
+/// An act of a story with tickets: a change, a proposal with the size of the ticket's buffer, a posting with the size of the sheet's, or the loading of what is held.
+#[derive(Debug, Clone, PartialEq, Eq)]
+pub enum Act {
+    Make(Change),
+    Propose { change: Change, room: usize },
+    Post { ticket: Vec<u8>, size: usize },
+    Load,
 }
 
 /// A story under way.
@@ -59,6 +68,38 @@ impl Story {
             3 => Change::Withdraw { relation: absent(chance, relations), size: any_size(chance, relations.saturating_sub(1)) },
             4 => self.with_little_room(chance, held),
             _ => self.towards_aim(chance, held),
+        }
+    }
+
+    /// The next act, where this book is held with this count of changes: a change, a proposal, a posting, or seldom a new loading. The tickets are those of the story, and
+    /// of another.
+    pub fn act(&mut self, chance: &mut Chance, held: &Book, count: u16, given: &[Vec<u8>], others: &[Vec<u8>]) -> Act {
+        if chance.once_in(60) {
+            return Act::Load;
+        }
+        match chance.below(8) {
+            0 => Act::Make(self.change(chance, held)),
+            1..=3 => Act::Propose { change: self.change(chance, held), room: tickets::room(chance) },
+            _ => {
+                let ticket = self.ticket(chance, held, count, given, others);
+                Act::Post { ticket, size: any_size_or_enough(chance, held.relations()) }
+            }
+        }
+    }
+
+    /// A ticket to post: the last of the story, an earlier one, one of another story, either with the count of the book, an altered one, or a made-up one.
+    fn ticket(&self, chance: &mut Chance, held: &Book, count: u16, given: &[Vec<u8>], others: &[Vec<u8>]) -> Vec<u8> {
+        let last = &given[given.len().saturating_sub(1)..];
+        let some: &[Vec<u8>] = [last, last, last, given, others][chance.below(5)];
+        if some.is_empty() || chance.once_in(8) {
+            let good = self.good_record(chance, held);
+            return tickets::made_up(chance, count, &good, held.letters);
+        }
+        let ticket: &Vec<u8> = chance.pick(some);
+        match chance.below(8) {
+            0 => tickets::altered(chance, ticket),
+            1 => tickets::with_count(ticket, count),
+            _ => ticket.clone(),
         }
     }
 
@@ -132,6 +173,15 @@ fn any_size(chance: &mut Chance, relations: usize) -> usize {
         1 => (SHEET_RELATION * relations).saturating_sub(1),
         _ => enough(chance, relations),
     }
+}
+
+/// Any size, mostly one that is enough for a relation more than there are.
+fn any_size_or_enough(chance: &mut Chance, relations: usize) -> usize {
+    if chance.once_in(3) {
+        let near = *chance.pick(&[relations.saturating_sub(1), relations, relations + 1]);
+        return any_size(chance, near);
+    }
+    enough(chance, relations + 1)
 }
 
 /// The first relation, the last, or any; 0 where there is none.

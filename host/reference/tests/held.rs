@@ -87,14 +87,33 @@ fn changes_are_counted_and_keep_what_is_behind() {
 }
 
 #[test]
-fn the_count_stays_at_its_most() {
-    for (before, after) in [(0, 1), (254, 255), (255, 256), (65_533, 65_534), (65_534, 65_535), (65_535, 65_535)] {
+fn the_count_goes_up_to_its_most() {
+    for (before, after) in [(0, 1), (254, 255), (255, 256), (59_998, 59_999), (59_999, 60_000)] {
         let mut held = holding(&q(), before, HELD);
         assert_eq!(withdraw(&mut held, 0, &mut []), Ok(0));
         assert_eq!(changes_of(&held), after);
         let mut held = holding(&q(), before, HELD);
         assert_eq!(add(&mut held, &rule("abdc", "abdc"), &mut [0; 16]), Ok(2));
         assert_eq!(changes_of(&held), after);
+    }
+}
+
+#[test]
+fn a_worn_book_takes_no_change() {
+    for count in [60_000, 60_001, 65_535] {
+        let before = holding(&q(), count, HELD);
+        let (mut held, mut sheet) = (before.clone(), [170; 16]);
+        assert_eq!(withdraw(&mut held, 0, &mut sheet), refused(17, 0));
+        assert_eq!(add(&mut held, &rule("abdc", "abdc"), &mut sheet), refused(17, 0));
+        // every other refusal of a change comes before it
+        assert_eq!(add(&mut held, &[], &mut sheet), refused(1, 19));
+        assert_eq!(add(&mut held, &rule("a", "b"), &mut sheet), refused(8, 2));
+        assert_eq!(add(&mut held, &rule("abdc", "abdc"), &mut sheet[..15]), refused(12, 0));
+        assert_eq!(withdraw(&mut held, 1, &mut sheet), refused(15, 0));
+        assert_eq!((&held, sheet), (&before, [170; 16]));
+        assert_eq!(load(&q(), &mut held), Ok(1));
+        assert_eq!(withdraw(&mut held, 0, &mut sheet), Ok(0));
+        assert_eq!(changes_of(&held), 1);
     }
 }
 

@@ -9,7 +9,7 @@ fn refused(refusal: Refusal) -> String {
     format!("refused {} {}", refusal.number, refusal.place)
 }
 
-/// The reference as what loads and changes held books.
+/// The reference as what loads and changes held books, proposes and posts.
 struct Reference;
 
 fn numbers(refusal: Refusal) -> (u32, u64) {
@@ -27,6 +27,18 @@ impl Holder for Reference {
 
     fn withdraw(&self, held: &mut [u8], rule: usize, sheet: &mut [u8]) -> Answer {
         reference::withdraw(held, rule, sheet).map_err(numbers)
+    }
+
+    fn propose_add(&self, held: &[u8], record: &[u8], sheet: &mut [u8], ticket: &mut [u8]) -> Answer {
+        reference::propose_add(held, record, sheet, ticket).map_err(numbers)
+    }
+
+    fn propose_withdraw(&self, held: &[u8], rule: usize, sheet: &mut [u8], ticket: &mut [u8]) -> Answer {
+        reference::propose_withdraw(held, rule, sheet, ticket).map_err(numbers)
+    }
+
+    fn post(&self, held: &mut [u8], ticket: &[u8], sheet: &mut [u8]) -> Answer {
+        reference::post(held, ticket, sheet).map_err(numbers)
     }
 }
 
@@ -58,7 +70,7 @@ fn answer(call: &Call) -> String {
             least(book, word, &mut buffer, *offset)
                 .map_or_else(refused, |length| format!("least {length} {}", hex(&buffer[*offset..][..length as usize])))
         }
-        Call::Held { book, changes } => told(&Reference, book, changes),
+        Call::Held { book, operations } => told(&Reference, book, operations),
     }
 }
 

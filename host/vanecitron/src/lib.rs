@@ -1,5 +1,6 @@
 //! Safe Rust functions over the proved library: the C(4) check of a book, its cut sheet, the comparison of two runs, one single round of it, the least
-//! run that exchanges make of a run, the whole program as bytes to bytes, and a book that is held and changed rule by rule.
+//! run that exchanges make of a run, the whole program as bytes to bytes, and a book that is held and changed rule by rule, each change proposed before
+//! where that is wanted.
 //!
 //! A step is a byte below the book's number of letters; a run is a slice of steps; a rule has two sides, which are runs. A book is given as bytes
 //! (docs/SPECIFICATION.md, "Book bytes"), which [`BookWriter`] writes.
@@ -7,10 +8,10 @@
 //! Every call is reentrant, and a refusal leaves every lent byte as it was. Every call checks its book again, since nothing is kept between calls: under
 //! a microsecond for a book of one rule with sides of 4 steps, 3 microseconds for one with sides of 64, and 0.8 milliseconds for a full book, 32 such rules
 //! (docs/DECISIONS.md, "Cost grows"). [`program_into`] checks its book once for all comparisons of its input. A change of a held book, by [`add`] or
-//! [`withdraw`], costs one check, that of the new book, which gives its sheet too.
+//! [`withdraw`], costs one check, that of the new book, which gives its sheet too. A proposal costs one as well, and so does [`post`].
 //!
 //! The crate needs `core` alone. The functions whose names end in `_into`, and those on a held book, write to buffers that the caller lends; those that
-//! allocate what they give back, and `HeldBook`, come with the feature `alloc`, which is on unless it is turned off.
+//! allocate what they give back, `HeldBook` and `Ticket` come with the feature `alloc`, which is on unless it is turned off.
 //!
 //! ```
 //! use vanecitron::{ample_allowance, compare, cut_sheet_into, BookWriter, Comparison, BOOK, SHEET, SHEET_SIDE};
@@ -47,10 +48,10 @@ mod refusal;
 mod sheet;
 
 pub use book::{rule_record, BookWriter, NoRoom, BOOK, RULE};
-pub use held::{add, book_of, changes, load, withdraw};
+pub use held::{add, book_of, changes, load, post, propose_addition, propose_withdrawal, withdraw};
 #[cfg(feature = "alloc")]
-pub use owned::{cut_sheet, least, program, round, HeldBook, Round};
-pub use refusal::{Place, Reason, Refusal, Run, HELD_BUFFER, PLACE_SPACING};
+pub use owned::{cut_sheet, least, program, round, HeldBook, Round, Ticket};
+pub use refusal::{Place, Reason, Refusal, Run, HELD_BUFFER, PLACE_SPACING, TICKET_BUFFER};
 pub use sheet::{cuts, Cut, PieceCount};
 
 /// The most letters of a book.
@@ -95,8 +96,14 @@ pub const INPUT: usize = 60_000;
 pub const OUTPUT: usize = 110_022;
 /// The least size of the buffer lent for a held book, whatever its rules.
 pub const HELD: usize = 4_297;
-/// The most that a held book's count of changes says: it then stays as it is, and there may have been more.
-pub const CHANGES_MOST: u64 = 65_535;
+/// The most changes that a held book takes from loading. Then it is worn: further ones are refused by 17, until a book is loaded anew.
+pub const CHANGES_MOST: u64 = 60_000;
+/// The least size of the buffer lent for a ticket, whatever its change.
+pub const TICKET: usize = 140;
+/// The kind that a ticket of an addition says.
+pub const TICKET_ADDITION: u16 = 0;
+/// The kind that a ticket of a withdrawal says.
+pub const TICKET_WITHDRAWAL: u16 = 1;
 
 /// A comparison's answer, with the count of rounds.
 #[derive(Debug, Clone, Copy, PartialEq, Eq, Hash)]

@@ -8,7 +8,7 @@ pub const DIFFERENT: u32 = 2;
 /// Of a round alone: it went on.
 pub const NEXT: u32 = 3;
 
-/// Of the check and of the cut sheet, and of loading and changing a held book.
+/// Of the check and of the cut sheet, and of loading and changing a held book, with proposals and postings.
 #[repr(C)]
 pub struct CheckResult {
     pub refusal: u32,
@@ -136,6 +136,33 @@ extern "C" {
     fn vanecitron_add(held: *mut u8, held_length: usize, record: *const u8, record_length: usize, sheet: *mut u8, sheet_length: usize)
         -> CheckResult;
     fn vanecitron_withdraw(held: *mut u8, held_length: usize, rule: usize, sheet: *mut u8, sheet_length: usize) -> CheckResult;
+    fn vanecitron_propose_add(
+        held: *const u8,
+        held_length: usize,
+        record: *const u8,
+        record_length: usize,
+        sheet: *mut u8,
+        sheet_length: usize,
+        ticket: *mut u8,
+        ticket_length: usize,
+    ) -> CheckResult;
+    fn vanecitron_propose_withdraw(
+        held: *const u8,
+        held_length: usize,
+        rule: usize,
+        sheet: *mut u8,
+        sheet_length: usize,
+        ticket: *mut u8,
+        ticket_length: usize,
+    ) -> CheckResult;
+    fn vanecitron_post(
+        held: *mut u8,
+        held_length: usize,
+        ticket: *const u8,
+        ticket_length: usize,
+        sheet: *mut u8,
+        sheet_length: usize,
+    ) -> CheckResult;
     fn vanecitron_held_book(held: *const u8, held_length: usize) -> HeldResult;
 }
 
@@ -207,6 +234,32 @@ pub fn add(held: &mut [u8], record: &[u8], sheet: &mut [u8]) -> CheckResult {
 pub fn withdraw(held: &mut [u8], rule: usize, sheet: &mut [u8]) -> CheckResult {
     // SAFETY: as said above
     unsafe { vanecitron_withdraw(held.as_mut_ptr(), held.len(), rule, sheet.as_mut_ptr(), sheet.len()) }
+}
+
+pub fn propose_add(held: &[u8], record: &[u8], sheet: &mut [u8], ticket: &mut [u8]) -> CheckResult {
+    // SAFETY: as said above
+    unsafe {
+        vanecitron_propose_add(
+            held.as_ptr(),
+            held.len(),
+            record.as_ptr(),
+            record.len(),
+            sheet.as_mut_ptr(),
+            sheet.len(),
+            ticket.as_mut_ptr(),
+            ticket.len(),
+        )
+    }
+}
+
+pub fn propose_withdraw(held: &[u8], rule: usize, sheet: &mut [u8], ticket: &mut [u8]) -> CheckResult {
+    // SAFETY: as said above
+    unsafe { vanecitron_propose_withdraw(held.as_ptr(), held.len(), rule, sheet.as_mut_ptr(), sheet.len(), ticket.as_mut_ptr(), ticket.len()) }
+}
+
+pub fn post(held: &mut [u8], ticket: &[u8], sheet: &mut [u8]) -> CheckResult {
+    // SAFETY: as said above
+    unsafe { vanecitron_post(held.as_mut_ptr(), held.len(), ticket.as_ptr(), ticket.len(), sheet.as_mut_ptr(), sheet.len()) }
 }
 
 pub fn held_book(held: &[u8]) -> HeldResult {

@@ -6,6 +6,8 @@ use core::fmt;
 pub const PLACE_SPACING: u64 = 5_000;
 /// The number of a held book's buffer in refusal 12; that of the sheet is 0.
 pub const HELD_BUFFER: usize = 1;
+/// The number of a ticket's buffer in refusal 12.
+pub const TICKET_BUFFER: usize = 2;
 
 /// Why a call was refused.
 #[derive(Debug, Clone, Copy, PartialEq, Eq, Hash)]
@@ -39,12 +41,16 @@ pub enum Reason {
     NoSpace,
     /// 15: the held book has no rule of the index that is to be withdrawn
     NoSuchRule,
+    /// 16: the held book's count of changes is not that of the ticket that is posted
+    StaleTicket,
+    /// 17: the held book has had all the changes that it takes from loading, [`CHANGES_MOST`](crate::CHANGES_MOST)
+    BookWorn,
     /// a number that this version does not know
     Other(u32),
 }
 
 /// Each reason with its number, the specification's word for it and an explanation; the C header has the same. 7 is not used: a side may equal an earlier one.
-const KNOWN: [(u32, Reason, &str, &str); 14] = [
+const KNOWN: [(u32, Reason, &str, &str); 16] = [
     (1, Reason::Short, "short", "the bytes end inside a record, or there is no book"),
     (2, Reason::Kind, "kind", "the first record is no head, or a later one is no rule"),
     (3, Reason::Length, "length", "a record's length does not fit it"),
@@ -59,6 +65,8 @@ const KNOWN: [(u32, Reason, &str, &str); 14] = [
     (13, Reason::Heavy, "heavy", "the program's input is over its limit"),
     (14, Reason::NoSpace, "no space", "the offset lies past the buffer's end, or the least run is longer than what follows it"),
     (15, Reason::NoSuchRule, "no such rule", "the held book has no rule of the index that is to be withdrawn"),
+    (16, Reason::StaleTicket, "stale ticket", "the held book's count of changes is not that of the ticket"),
+    (17, Reason::BookWorn, "book worn", "the held book has had all the changes that it takes, and must be loaded anew"),
 ];
 
 impl Reason {
@@ -117,12 +125,12 @@ pub enum Place {
     Step { run: Run, position: usize },
     /// Reason 11: the rounds done.
     Rounds(u64),
-    /// Reasons 12 and 14: the buffer that is too small, by its number: the sheet 0, a held book [`HELD_BUFFER`]; the next u, v and p 0, 1 and 2; the
-    /// program's output 0; that of a least run 0.
+    /// Reasons 12 and 14: the buffer that is too small, by its number: the sheet 0, a held book [`HELD_BUFFER`], a ticket [`TICKET_BUFFER`]; the next
+    /// u, v and p 0, 1 and 2; the program's output 0; that of a least run 0.
     Buffer(usize),
     /// Reason 13: the most bytes of an input.
     Limit(usize),
-    /// Reason 15, which has no place; its number is 0.
+    /// Reasons 15 to 17, which have no place; its number is 0.
     Nowhere,
     /// The place of a reason that this version does not know.
     Other(u64),
@@ -146,8 +154,9 @@ impl Place {
             (Reason::Spent, _) => Place::Rounds(place),
             (Reason::Narrow | Reason::NoSpace, _) => Place::Buffer(number),
             (Reason::Heavy, _) => Place::Limit(number),
-            (Reason::NoSuchRule, _) if place == 0 => Place::Nowhere,
-            (Reason::Long | Reason::Stranger | Reason::NoSuchRule | Reason::Other(_), _) => Place::Other(place),
+            (Reason::NoSuchRule | Reason::StaleTicket | Reason::BookWorn, _) if place == 0 => Place::Nowhere,
+            (Reason::NoSuchRule | Reason::StaleTicket | Reason::BookWorn, _) => Place::Other(place),
+            (Reason::Long | Reason::Stranger | Reason::Other(_), _) => Place::Other(place),
         }
     }
 

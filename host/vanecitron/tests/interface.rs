@@ -1,11 +1,13 @@
 //! What the wrapper adds to the archive: typed places and reasons, the sides of the cut sheet, the writer of books with its bounds, room enough for a least
-//! run, and held books.
+//! run, held books, and their tickets.
 
 use vanecitron::{
-    add, ample_allowance, book_of, changes, check, compare, cut_sheet, cut_sheet_into, cuts, least, least_into, load, rule_record, withdraw,
-    BookWriter, Comparison, Cut, HeldBook, NoRoom, PieceCount, Place, Reason, Refusal, Run,
+    add, ample_allowance, book_of, changes, check, compare, cut_sheet, cut_sheet_into, cuts, least, least_into, load, post, propose_addition,
+    propose_withdrawal, rule_record, withdraw, BookWriter, Comparison, Cut, HeldBook, NoRoom, PieceCount, Place, Reason, Refusal, Run, Ticket,
 };
-use vanecitron::{BOOK, BOOK_MOST, CHANGES_MOST, HELD, HELD_BUFFER, LEAST, NO_PRODUCT, RULE, RULES, RUN, SHEET, SHEET_SIDE, SIDE};
+use vanecitron::{
+    BOOK, BOOK_MOST, CHANGES_MOST, HELD, HELD_BUFFER, LEAST, NO_PRODUCT, RULE, RULES, RUN, SHEET, SHEET_SIDE, SIDE, TICKET, TICKET_BUFFER,
+};
 
 /// Book Q and the comparison abdc, cadb with the allowance 100, as the specification writes their bytes ("The program").
 const EXAMPLE: [u8; 39] = [
@@ -71,7 +73,7 @@ fn reasons_and_places_have_their_numbers() {
     for number in 0..40 {
         let reason = Reason::from_number(number);
         assert_eq!(reason.number(), number);
-        assert_eq!(matches!(reason, Reason::Other(_)), !(1..=15).contains(&number) || number == 7, "{number}");
+        assert_eq!(matches!(reason, Reason::Other(_)), !(1..=17).contains(&number) || number == 7, "{number}");
         for place in [0, 1, 4_999, 5_000, 5_003, 10_000, 10_063, 15_000, 60_000, u64::MAX] {
             // the place of 9 is the start of a run
             if reason != Reason::Long || place % 5_000 == 0 {
@@ -90,10 +92,19 @@ fn reasons_and_places_have_their_numbers() {
     assert_eq!(Place::from_number(Reason::Narrow, 1), Place::Buffer(HELD_BUFFER));
     assert_eq!(Place::from_number(Reason::NoSuchRule, 0), Place::Nowhere);
     assert_eq!(Place::from_number(Reason::NoSuchRule, 7), Place::Other(7));
-    assert_eq!(Place::from_number(Reason::Other(16), 7), Place::Other(7));
+    for reason in [Reason::StaleTicket, Reason::BookWorn] {
+        assert_eq!(Place::from_number(reason, 0), Place::Nowhere);
+        assert_eq!(Place::from_number(reason, 7), Place::Other(7));
+    }
+    assert_eq!(Place::from_number(Reason::Narrow, 2), Place::Buffer(TICKET_BUFFER));
+    assert_eq!(Place::from_number(Reason::Other(18), 7), Place::Other(7));
     let refusal = Refusal { reason: Reason::NoSuchRule, place: Place::Nowhere };
     assert_eq!(refusal.to_string(), "no such rule: the held book has no rule of the index that is to be withdrawn");
     assert_eq!(refusal.place.to_string(), "no place");
+    let refusal = Refusal { reason: Reason::StaleTicket, place: Place::Nowhere };
+    assert_eq!(refusal.to_string(), "stale ticket: the held book's count of changes is not that of the ticket");
+    let refusal = Refusal { reason: Reason::BookWorn, place: Place::Nowhere };
+    assert_eq!(refusal.to_string(), "book worn: the held book has had all the changes that it takes, and must be loaded anew");
 }
 
 /// Book Q is the front of the example.
@@ -427,24 +438,182 @@ fn the_book_of_any_buffer_lies_in_it() {
         assert_eq!(changes(&bytes[..room]), if room < 4 { 0 } else { 0x201 }, "{room}");
     }
     assert_eq!(book_of(&[255; HELD]).len(), HELD - 4);
-    assert_eq!(changes(&[255; HELD]), CHANGES_MOST);
+    assert_eq!(changes(&[255; HELD]), 65_535);
 }
 
+/// The 60,000th change is the last, and proposals are answered as ever. A worn book is worn whatever more its count says.
 #[test]
-fn the_count_of_changes_stays_at_its_most() {
+fn a_worn_book_takes_no_change() {
+    let (good, loose) = (record(&[0, 2, 2, 1], &[1, 1, 0, 0]), record(&[0], &[0, 0]));
     let mut held = held_in(HELD, Q);
-    held[2..4].copy_from_slice(&[254, 255]);
-    for expected in [CHANGES_MOST - 1, CHANGES_MOST, CHANGES_MOST] {
-        assert_eq!(changes(&held), expected);
-        let rules = check(book_of(&held)).unwrap();
-        match rules {
-            0 => add(&mut held, &Q[5..], &mut [0; SHEET]),
-            _ => withdraw(&mut held, 0, &mut [0; SHEET]),
-        }
-        .unwrap();
+    held[2..4].copy_from_slice(&59_999_u16.to_le_bytes());
+    let (mut sheet, mut last) = ([0; SHEET], [0; TICKET]);
+    assert_eq!(propose_withdrawal(&held, 0, &mut sheet, &mut last), Ok(0));
+    assert_eq!(add(&mut held, &good, &mut sheet), Ok(2));
+    assert_eq!((changes(&held), CHANGES_MOST), (60_000, 60_000));
+    for count in [60_000_u16, 60_001, 65_535] {
+        held[2..4].copy_from_slice(&count.to_le_bytes());
+        let mut ticket = [0; TICKET];
+        assert_eq!(propose_withdrawal(&held, 1, &mut sheet, &mut ticket), Ok(1));
+        assert_eq!(ticket[..6], ticket_of(count, 1, 1, &[]));
+        kept(&mut held, |held, sheet| post(held, &ticket, sheet), Reason::BookWorn, Place::Nowhere);
+        kept(&mut held, |held, sheet| post(held, &last, sheet), Reason::StaleTicket, Place::Nowhere);
+        kept(&mut held, |held, sheet| withdraw(held, 1, sheet), Reason::BookWorn, Place::Nowhere);
+        // a direct change has its other refusals first, and a posting has 17 first; with a = aa the side bbaa is a product of b, b and aa
+        let beside = ticket_of(count, 0, loose.len() as u16, &loose);
+        kept(&mut held, |held, sheet| add(held, &loose, sheet), Reason::Loose, Place::Side(3));
+        kept(&mut held, |held, sheet| post(held, &beside, sheet), Reason::BookWorn, Place::Nowhere);
+        kept(&mut held, |held, sheet| propose_addition(held, &loose, sheet, &mut [0; TICKET]), Reason::Loose, Place::Side(3));
+        kept(&mut held, |held, sheet| withdraw(held, 2, sheet), Reason::NoSuchRule, Place::Nowhere);
+        kept(&mut held, |held, sheet| withdraw(held, 1, &mut sheet[..7]), Reason::Narrow, Place::Buffer(0));
     }
     load(Q, &mut held).unwrap();
     assert_eq!(changes(&held), 0);
+    assert_eq!(withdraw(&mut held, 0, &mut sheet), Ok(0));
+}
+
+/// The bytes of a ticket.
+fn ticket_of(count: u16, kind: u16, number: u16, behind: &[u8]) -> Vec<u8> {
+    [&count.to_le_bytes(), &kind.to_le_bytes(), &number.to_le_bytes(), behind].concat()
+}
+
+/// A proposal gives the change's answer and sheet, and a ticket; it changes no byte behind these. Its posting is the change.
+#[test]
+fn a_proposal_posted_is_the_change() {
+    let (second, third) = (record(&[2, 0, 3, 1], &[1, 2, 3, 0]), record(&[0, 2, 2, 1], &[1, 1, 0, 0]));
+    type Proposal<'a> =
+        (&'a dyn Fn(&[u8], &mut [u8], &mut [u8]) -> Result<usize, Refusal>, &'a dyn Fn(&mut [u8], &mut [u8]) -> Result<usize, Refusal>);
+    let steps: [(Proposal, Vec<u8>); 4] = [
+        ((&|h, s, t| propose_addition(h, &second, s, t), &|h, s| add(h, &second, s)), ticket_of(0, 0, 14, &second)),
+        ((&|h, s, t| propose_addition(h, &third, s, t), &|h, s| add(h, &third, s)), ticket_of(1, 0, 14, &third)),
+        ((&|h, s, t| propose_withdrawal(h, 1, s, t), &|h, s| withdraw(h, 1, s)), ticket_of(2, 1, 1, &[])),
+        ((&|h, s, t| propose_withdrawal(h, 0, s, t), &|h, s| withdraw(h, 0, s)), ticket_of(3, 1, 0, &[])),
+    ];
+    let mut held = held_in(HELD + 3, Q);
+    for ((propose, change), expected) in steps {
+        let (before, mut direct) = (held.clone(), held.clone());
+        let (mut sheet, mut proposed, mut posted, mut ticket) = ([0x5a; SHEET], [0x5a; SHEET], [0x5a; SHEET], [0xa5; TICKET + 3]);
+        let rules = change(&mut direct, &mut sheet);
+        assert_eq!(propose(&held, &mut proposed, &mut ticket), rules);
+        assert!(held == before && proposed == sheet);
+        assert_eq!(ticket[..expected.len()], expected);
+        assert!(ticket[expected.len()..].iter().all(|&byte| byte == 0xa5));
+        assert_eq!(post(&mut held, &ticket, &mut posted), rules);
+        assert!(held == direct && posted == sheet);
+        kept(&mut held, |held, sheet| post(held, &ticket, sheet), Reason::StaleTicket, Place::Nowhere);
+    }
+    assert_eq!(book_of(&held), [&Q[..5], &third].concat());
+}
+
+/// What refuses a change refuses its proposal, before the room of the ticket is asked for, and its ticket, where that is not stale.
+#[test]
+fn a_refused_proposal_changes_nothing() {
+    let good = record(&[0, 2, 2, 1], &[1, 1, 0, 0]);
+    let cases = [
+        (vec![], SHEET, Reason::Short, Place::Byte(19)),
+        (good[..13].to_vec(), SHEET, Reason::Short, Place::Byte(19)),
+        (Q[..5].to_vec(), SHEET, Reason::Kind, Place::Byte(19)),
+        ([&good[..], &[0]].concat(), SHEET, Reason::Length, Place::Byte(19)),
+        (record(&[], &[0]), SHEET, Reason::Range, Place::Byte(19)),
+        (record(&[4], &[0]), SHEET, Reason::UnknownStep, Place::Byte(19)),
+        (record(&[3], &[0, 1]), SHEET, Reason::Loose, Place::Side(0)),
+        (good.clone(), 15, Reason::Narrow, Place::Buffer(0)),
+    ];
+    let mut held = held_in(HELD, Q);
+    for (bytes, room, reason, place) in &cases {
+        kept(&mut held, |held, sheet| propose_addition(held, bytes, &mut sheet[..*room], &mut []), *reason, *place);
+        let ticket = ticket_of(0, 0, bytes.len() as u16, bytes);
+        kept(&mut held, |held, sheet| post(held, &ticket, &mut sheet[..*room]), *reason, *place);
+        let stale = ticket_of(1, 0, bytes.len() as u16, bytes);
+        kept(&mut held, |held, sheet| post(held, &stale, &mut sheet[..*room]), Reason::StaleTicket, Place::Nowhere);
+    }
+    kept(&mut held, |held, sheet| propose_withdrawal(held, 1, sheet, &mut []), Reason::NoSuchRule, Place::Nowhere);
+    kept(&mut held, |held, sheet| post(held, &ticket_of(0, 1, 1, &[]), sheet), Reason::NoSuchRule, Place::Nowhere);
+    for room in [0, 6, TICKET - 1] {
+        let mut ticket = [0xa5; TICKET];
+        kept(&mut held, |held, sheet| propose_addition(held, &good, sheet, &mut vec![0; room]), Reason::Narrow, Place::Buffer(TICKET_BUFFER));
+        assert_eq!(told(propose_withdrawal(&held, 0, &mut [], &mut ticket[..room])), (Reason::Narrow, Place::Buffer(TICKET_BUFFER)));
+        assert_eq!(ticket, [0xa5; TICKET]);
+    }
+    let mut short = held[..HELD - 1].to_vec();
+    kept(&mut short, |held, sheet| propose_addition(held, &good, sheet, &mut []), Reason::Narrow, Place::Buffer(HELD_BUFFER));
+    kept(&mut short, |held, sheet| propose_withdrawal(held, 9, sheet, &mut []), Reason::Narrow, Place::Buffer(HELD_BUFFER));
+    kept(&mut short, |held, sheet| post(held, &[], sheet), Reason::Narrow, Place::Buffer(HELD_BUFFER));
+    kept(&mut short[..3], |held, sheet| post(held, &[1], sheet), Reason::StaleTicket, Place::Nowhere);
+}
+
+/// A ticket that was made up is read by its fields, as far as it has them, and is the change that they say.
+#[test]
+fn a_ticket_may_be_anything() {
+    let good = record(&[0, 2, 2, 1], &[1, 1, 0, 0]);
+    let withdrawals = [&[0, 0, 1][..], &[0, 0, 1, 0], &[0, 0, 0, 1, 0, 0], &[0, 0, 255, 255, 0], &[0, 0, 7, 0, 0, 0, 9, 9]];
+    for ticket in withdrawals {
+        assert_eq!(post(&mut held_in(HELD, Q), ticket, &mut []), Ok(0), "{ticket:?}");
+    }
+    let additions = [ticket_of(0, 0, 14, &good), ticket_of(0, 0, 65_535, &good), ticket_of(0, 0, 14, &[&good[..], &[9; 200]].concat())];
+    for ticket in additions {
+        assert_eq!(post(&mut held_in(HELD, Q), &ticket, &mut [0; 16]), Ok(2), "{ticket:?}");
+    }
+    let mut held = held_in(HELD, Q);
+    for ticket in [vec![], vec![0], vec![0; 6], vec![0; TICKET], ticket_of(0, 0, 13, &good), ticket_of(0, 0, 14, &good[..13]), vec![0, 0, 0, 0, 14]] {
+        kept(&mut held, |held, sheet| post(held, &ticket, sheet), Reason::Short, Place::Byte(19));
+    }
+    kept(&mut held, |held, sheet| post(held, &ticket_of(0, 0, 15, &[&good[..], &[0]].concat()), sheet), Reason::Length, Place::Byte(19));
+    kept(&mut held, |held, sheet| post(held, &ticket_of(0, 1, 256, &[]), sheet), Reason::NoSuchRule, Place::Nowhere);
+    kept(&mut held, |held, sheet| post(held, &[0xaa; TICKET], sheet), Reason::StaleTicket, Place::Nowhere);
+    kept(&mut held, |held, sheet| post(held, &[0, 1], sheet), Reason::StaleTicket, Place::Nowhere);
+}
+
+#[test]
+fn a_ticket_is_stale_after_a_change() {
+    let (second, third) = (record(&[2, 0, 3, 1], &[1, 2, 3, 0]), record(&[0, 2, 2, 1], &[1, 1, 0, 0]));
+    let mut held = HeldBook::load(Q).unwrap();
+    let cut = Cut { x: 1, y: 2, z: 1, pieces: PieceCount::Pieces(4) };
+    let (cuts, first) = held.propose_addition(&second).unwrap();
+    assert_eq!(cuts, [cut; 4]);
+    // neither a proposal nor a refusal makes it stale
+    let (cuts, other) = held.propose_withdrawal(0).unwrap();
+    assert_eq!(cuts, []);
+    assert_eq!(told(held.propose_addition(&[])), (Reason::Short, Place::Byte(19)));
+    assert_eq!(told(held.propose_withdrawal(1)), (Reason::NoSuchRule, Place::Nowhere));
+    assert_eq!(told(held.withdraw(1)), (Reason::NoSuchRule, Place::Nowhere));
+    assert_eq!((held.book(), held.changes(), first.changes(), other.changes()), (Q, 0, 0, 0));
+    let mut twin = held.clone();
+    assert_eq!(held.post(&first).unwrap(), [cut; 4]);
+    assert_eq!(told(held.post(&other)), (Reason::StaleTicket, Place::Nowhere));
+    assert_eq!(told(held.post(&first)), (Reason::StaleTicket, Place::Nowhere));
+    assert_eq!((held.book().len(), held.changes()), (33, 1));
+
+    // a book of its own has the same count, so that the ticket is good there
+    assert_eq!(twin.post(&Ticket::from_bytes(other.to_bytes())).unwrap(), []);
+    assert_eq!((twin.book(), twin.changes()), (&Q[..5], 1));
+
+    // a change that is undone leaves the book as it was, and the ticket stale
+    let (_, again) = held.propose_addition(&third).unwrap();
+    held.add(&third).unwrap();
+    held.withdraw(2).unwrap();
+    assert_eq!((held.book().len(), held.changes(), again.changes()), (33, 3, 1));
+    assert_eq!(told(held.post(&again)), (Reason::StaleTicket, Place::Nowhere));
+    assert_ne!(held.propose_addition(&third).unwrap().1, again);
+}
+
+#[test]
+fn a_ticket_keeps_its_bytes() {
+    let held = HeldBook::load(Q).unwrap();
+    let mut expected = [0; TICKET];
+    expected[..20].copy_from_slice(&ticket_of(0, 0, 14, &record(&[2, 0, 3, 1], &[1, 2, 3, 0])));
+    let (_, ticket) = held.propose_addition(&expected[6..20]).unwrap();
+    assert_eq!((ticket.to_bytes(), ticket.changes()), (expected, 0));
+    assert_eq!(Ticket::from_bytes(expected), ticket);
+    assert_eq!(format!("{ticket:?}"), "Ticket { changes: 0, addition: [10, 0, 2, 0, 4, 4, 2, 0, 3, 1, 1, 2, 3, 0] }");
+    let (_, ticket) = held.propose_withdrawal(0).unwrap();
+    assert_eq!(format!("{ticket:?}"), "Ticket { changes: 0, withdrawal: 0 }");
+    assert_eq!(ticket.clone(), ticket);
+    let any = Ticket::from_bytes([0xff; TICKET]);
+    assert_eq!((any.changes(), format!("{any:?}")), (65_535, "Ticket { changes: 65535, withdrawal: 65535 }".to_string()));
+    let mut bytes = [0xff; TICKET];
+    bytes[2..4].fill(0);
+    assert_eq!(format!("{:?}", Ticket::from_bytes(bytes)), format!("Ticket {{ changes: 65535, addition: {:?} }}", [255; TICKET - 6]));
 }
 
 #[test]

@@ -1,5 +1,5 @@
-//! The recorded calls of the entries (`entries.txt`; `least.txt` of least words; `shared.txt` under books whose relations share words; `held.txt` of held books),
-//! the recorded inputs and outputs of the program (`program/`) and the executed cases of the proved part (`crates/cases`), as tests read them.
+//! The recorded calls of the entries (`entries.txt`; `least.txt` of least words; `shared.txt` under books whose relations share words; `held.txt` of held books
+//! and tickets), the recorded inputs and outputs of the program (`program/`) and the executed cases of the proved part (`crates/cases`), as tests read them.
 //! Their answers are written down, so no implementation has a part in this crate.
 
 pub mod held;
@@ -7,7 +7,7 @@ pub mod held;
 use std::fs;
 use std::path::PathBuf;
 
-pub use held::Change;
+pub use held::Operation;
 
 /// A call of an entry, with what it takes; lent buffers by their sizes.
 pub enum Call {
@@ -15,7 +15,7 @@ pub enum Call {
     Sheet { book: Vec<u8>, size: usize },
     Round { book: Vec<u8>, words: [Vec<u8>; 3], sizes: [usize; 3] },
     Least { book: Vec<u8>, word: Vec<u8>, size: usize, offset: usize },
-    Held { book: Vec<u8>, changes: Vec<Change> },
+    Held { book: Vec<u8>, operations: Vec<Operation> },
 }
 
 impl Call {
@@ -50,7 +50,7 @@ pub struct Run {
 
 /// All recorded calls.
 pub fn calls() -> Vec<Recorded> {
-    let files = [("entries.txt", 381), ("least.txt", 148), ("shared.txt", 178), ("held.txt", 70)];
+    let files = [("entries.txt", 381), ("least.txt", 148), ("shared.txt", 178), ("held.txt", 129)];
     files.into_iter().flat_map(|(name, count)| calls_of(name, count)).collect()
 }
 
@@ -121,7 +121,7 @@ pub fn call(line: &str) -> Call {
         "sheet" => Call::Sheet { book, size: number(2) },
         "round" => Call::Round { book, words: [2, 3, 4].map(word), sizes: [5, 6, 7].map(number) },
         "least" => Call::Least { book, word: word(2), size: number(3), offset: number(4) },
-        "held" => Call::Held { book, changes: fields[2..].iter().map(|text| held::change(text)).collect() },
+        "held" => Call::Held { book, operations: fields[2..].iter().map(|text| held::operation(text)).collect() },
         other => panic!("no entry {other}"),
     }
 }

@@ -40,4 +40,8 @@ number-and-place-spec =
     (λ c. search places)
     (λ c. search places)
     (λ c. search places)
+    (λ c. search places)
+    (λ c. search places)
+    (λ c. search places)
+    (λ c. search places)
     (λ c. search places))
