@@ -22,11 +22,11 @@ use Rattle.held.specs.Held.{changesTold, changesAfter, worn, heldBytes, 
 use Rattle.held.specs.Changes.{LoadOutcome, loadOf, Change, Effect, refuses, leads, settled, effectOf, firstly, lastly, ChangeOutcome, made, changeOf}
 use Rattle.held.specs.Tickets.{ticketBytes, countIn, changeIn, stale, ProposalOutcome, proposeOf, postOf}
 use Rattle.held.specs.Demands.{Changes}
-use Rattle.held.specs.Postings.{ProposalsKeep, PostingsKeep, OfChange, ProposalsOfChange, NeverStale, PostingsHold, OnTheSpot, PostedOnTheSpot, Counted, ChangesCounted, ChangesLimited}
+use Rattle.held.specs.Postings.{ProposalsKeep, PostingsKeep, OfChange, ProposalsOfChange, NeverStale, PostingsAreChanges, PostingsHold, OnTheSpot, PostedOnTheSpot, Counted, ChangesCounted, ChangesLimited}
 use Rattle.held.proofs.Steps.{passed-loaded, made-first}
-use Rattle.held.proofs.Effects.{leads-or-refuses, made-refused, shown-accepted, shown-refused, lastly-leads, Taking, change-accepted, change-fresh, change-refused, post-accepted}
+use Rattle.held.proofs.Effects.{leads-or-refuses, made-refused, shown-accepted, shown-refused, lastly-leads, Taking, change-accepted, change-fresh, change-refused, post-accepted, posted-direct}
 use Rattle.held.proofs.Tickets.{tickets-read}
-use Rattle.held.proofs.Numbers.{EffectOfChange, effect-numbers}
+use Rattle.held.proofs.Numbers.{OwnEffect, effect-own}
 
 pub proposals-keep : ProposalsKeep
 unfolding proposeOf
@@ -43,7 +43,7 @@ postings-keep ticket held sheet n place held′ sheet′ e =
     (a, b)
 
 -- a refusal, where another comes behind those of the change, is that one or one of the change itself
-lastly-numbers : (due : Bool) (r : Refusal) (effect : Effect) (why : Refusal) → EffectOfChange effect → lastly due r effect ≡ refuses why
+lastly-numbers : (due : Bool) (r : Refusal) (effect : Effect) (why : Refusal) → OwnEffect effect → lastly due r effect ≡ refuses why
     → (why ≡ r) ⊎ OfChange (numberAndPlace why .number)
 lastly-numbers due r (refuses s) why o e = let x : s ≡ why = cc in inr (subst (λ (t : Refusal). OfChange (numberAndPlace t .number)) x o)
 lastly-numbers true r (leads n book cuts) why o e = let x : why ≡ r = cc in inl x
@@ -55,28 +55,37 @@ proposals-of-change change held sheet ticket n place sheet′ ticket′ e =
     let due = ltb (length ticket) 140 in
     let effect = effectOf change held (length sheet) in
     let (k, a, b) = shown-refused change held sheet ticket (lastly due (Narrow 2) effect) n place sheet′ ticket′ e in
-    subst OfChange (sym (k .number)) (go (k .why) (lastly-numbers due (Narrow 2) effect (k .why) (effect-numbers change held (length sheet)) (k .is)))
+    subst OfChange (sym (k .number)) (go (k .why) (lastly-numbers due (Narrow 2) effect (k .why) (effect-own change held (length sheet)) (k .is)))
   where
     go : (why : Refusal) → (why ≡ Narrow 2) ⊎ OfChange (numberAndPlace why .number) → OfChange (numberAndPlace why .number)
     go why (inl f) = subst (λ (t : Refusal). OfChange (numberAndPlace t .number)) (sym f) OfChange.narrow
     go why (inr o) = o
 
 -- 16 is no refusal of the change itself
-not-stale : {n : ℕ} → OfChange n → 16 ≡ n → ⊥
-not-stale (OfChange.book h) e = omega arith
-not-stale OfChange.narrow e = omega arith
-not-stale OfChange.absent e = omega arith
+own-below : {n : ℕ} → OfChange n → n < 16
+own-below OfChange.short = omega arith
+own-below OfChange.kind = omega arith
+own-below OfChange.misfit = omega arith
+own-below OfChange.range = omega arith
+own-below OfChange.unknown = omega arith
+own-below OfChange.thick = omega arith
+own-below OfChange.loose = omega arith
+own-below OfChange.narrow = omega arith
+own-below OfChange.absent = omega arith
 
 pub never-stale : NeverStale
 unfolding changeOf
 never-stale change held sheet place held′ sheet′ e =
     let effect = effectOf change held (length sheet) in
     let (k, a, b) = made-refused held sheet (lastly (worn held) BookWorn effect) 16 place held′ sheet′ e in
-    go (k .why) (k .number) (lastly-numbers (worn held) BookWorn effect (k .why) (effect-numbers change held (length sheet)) (k .is))
+    go (k .why) (k .number) (lastly-numbers (worn held) BookWorn effect (k .why) (effect-own change held (length sheet)) (k .is))
   where
     go : (why : Refusal) → 16 ≡ numberAndPlace why .number → (why ≡ BookWorn) ⊎ OfChange (numberAndPlace why .number) → ⊥
     go why f (inl g) = let x : numberAndPlace why .number ≡ 17 = ap (λ (t : Refusal). numberAndPlace t .number) g in omega arith
-    go why f (inr o) = not-stale o f
+    go why f (inr o) = omega (arith, own-below o)
+
+pub postings-are-changes : PostingsAreChanges
+postings-are-changes = posted-direct
 
 -- the count that a buffer tells after a book is put into it
 told-held : (changes : ℕ) (book held : List ℕ) → changesTold (holding changes book held) ≡ changes

@@ -16,7 +16,7 @@ use Rattle.format.proofs.Additions.{addition-read}
 use Rattle.format.proofs.Unique.{relation-lies}
 use Rattle.held.specs.Held.{bookIn}
 use Rattle.held.specs.Changes.{Change, addition, withdrawal, changed, changedIn}
-use Rattle.held.specs.Tickets.{ticketBytes, countIn, recordIn, changeIn}
+use Rattle.held.specs.Tickets.{numberOf, ticketBytes, countIn, recordIn, changeIn}
 use Rattle.held.specs.Postings.{TicketsRead, TicketsFit}
 use Rattle.held.proofs.Steps.{read-or-refused, taken-of, added, made-first}
 
@@ -35,11 +35,6 @@ change-read changes (withdrawal i) buffer = ap withdrawal (omega arith)
 
 pub tickets-read : TicketsRead
 tickets-read changes change buffer = (count-read changes change buffer, change-read changes change buffer)
-
--- the number of a change, which is of an addition that of its bytes, and of a withdrawal the index, is small enough for its field
-abbrev pub ticketNumberSmall : Change → Type 0
-ticketNumberSmall (addition bytes) = length bytes < 65536
-ticketNumberSmall (withdrawal i) = i < 65536
 
 -- an addition that is made has few bytes
 addition-small : (bytes : List ℕ) (place : ℕ) (presentation after : Presentation) → changed (addition bytes) place presentation ≡ read after
@@ -60,8 +55,8 @@ withdrawal-small i place presentation after e =
     let (b, f) = passed (leb (length (presentation .relations)) i) _ _ (read after) (read-or-refused after _) e in
     leb-false (length (presentation .relations)) i b
 
--- so the number of a change that is made of what is held is small
-pub ticket-small : (change : Change) (held : List ℕ) (presentation : Presentation) → changedIn change held ≡ read presentation → ticketNumberSmall change
+-- so the number of a change that is made of what is held is small enough for its field
+pub ticket-small : (change : Change) (held : List ℕ) (presentation : Presentation) → changedIn change held ≡ read presentation → numberOf change < 65536
 ticket-small (addition bytes) held presentation e =
     let (before, t, f) = taken-of (addition bytes) held presentation e in
     let s = addition-small bytes (length (bookIn held)) before presentation f in

@@ -30,9 +30,15 @@ abbrev pub PostingsKeep : Type 0
 PostingsKeep = (ticket held sheet : List ℕ) (n place : ℕ) (held′ sheet′ : List ℕ)
     → postOf ticket held sheet ≡ ChangeOutcome.after (refused n place) held′ sheet′ → (held′ ≡ held) × (sheet′ ≡ sheet)
 
--- the refusals of a change itself: of the bytes of a book or of a record, of a buffer, of an index
+-- the refusals of a change itself, by their numbers: of the bytes of a book or of a record, of a new book, of a buffer, of an index
 pub data OfChange : ℕ → Type 0 where
-  book : {n : ℕ} → n ≤ 8 → OfChange n
+  short : OfChange 1
+  kind : OfChange 2
+  misfit : OfChange 3
+  range : OfChange 4
+  unknown : OfChange 5
+  thick : OfChange 6
+  loose : OfChange 8
   narrow : OfChange 12
   absent : OfChange 15
 
@@ -45,6 +51,11 @@ ProposalsOfChange = (change : Change) (held sheet ticket : List ℕ) (n place : 
 abbrev pub NeverStale : Type 0
 NeverStale = (change : Change) (held sheet : List ℕ) (place : ℕ) (held′ sheet′ : List ℕ)
     → changeOf change held sheet ≡ ChangeOutcome.after (refused 16 place) held′ sheet′ → ⊥
+
+-- whatever a ticket says, a posting that is accepted gives what its change made directly gives
+abbrev pub PostingsAreChanges : Type 0
+PostingsAreChanges = (ticket held sheet : List ℕ) (n : ℕ) (held′ sheet′ : List ℕ) → postOf ticket held sheet ≡ ChangeOutcome.after (accepted n) held′ sheet′
+    → changeOf (changeIn ticket) held sheet ≡ ChangeOutcome.after (accepted n) held′ sheet′
 
 -- what the posting of a proposal's ticket gives
 pub record Posted (change : Change) (held lent : List ℕ) (n : ℕ) (shown ticket : List ℕ) : Type 0 where

@@ -14,7 +14,12 @@ use Rattle.answers.specs.Answers.{Answer, accepted, refusal}
 use Rattle.held.specs.Held.{changesTold, worn}
 use Rattle.held.specs.Changes.{Change, addition, withdrawal, Effect, refuses, leads, effectOf, firstly, lastly, ChangeOutcome, made}
 
--- a ticket in bytes: a count of changes, the kind of the change, and its number, which is of an addition that of its bytes, and of a withdrawal the index
+-- the number of a change: of an addition that of its bytes, of a withdrawal the index
+abbrev pub numberOf : Change → ℕ
+numberOf (addition bytes) = length bytes
+numberOf (withdrawal i) = i
+
+-- a ticket in bytes: a count of changes, the kind of the change, its number, and the bytes of an addition
 abbrev pub fieldsOf : ℕ → ℕ → ℕ → List ℕ
 fieldsOf changes kind number = fieldBytes changes ++ (fieldBytes kind ++ fieldBytes number)
 

@@ -4,7 +4,7 @@
 ghost use Rattle.held.specs.Examples.{Hold, examples};
 ghost use Rattle.held.specs.TicketExamples.{Shown, proposals, Given, postings};
 ghost use Rattle.held.specs.Demands.{HeldFits, LoadedHolds, LoadingsHold, RefusedKeeps, WithdrawalsHold, AdditionsNeedC4, ChangesFresh, AdditionsUndone};
-ghost use Rattle.held.specs.Postings.{TicketsRead, TicketsFit, ProposalsKeep, PostingsKeep, ProposalsOfChange, NeverStale, PostingsHold, PostedOnTheSpot, ChangesCounted, ChangesLimited};
+ghost use Rattle.held.specs.Postings.{TicketsRead, TicketsFit, ProposalsKeep, PostingsKeep, ProposalsOfChange, NeverStale, PostingsAreChanges, PostingsHold, PostedOnTheSpot, ChangesCounted, ChangesLimited};
 use refusals::Refusal;
 
 // The new book of a change is made, with the number of its bytes, or the change is refused.
@@ -100,6 +100,11 @@ pub fn proposals_are_of_the_change()
 // A change that is made directly is never stale.
 pub fn changes_are_never_stale()
     ensures { λ _. ⌜ NeverStale ⌝ }
+{}
+
+// Whatever a ticket says, a posting that is accepted is its change made directly.
+pub fn postings_are_changes()
+    ensures { λ _. ⌜ PostingsAreChanges ⌝ }
 {}
 
 // Posting after proposing, with no change between, is the direct change; after any change between, it is refused as stale.

@@ -21,11 +21,11 @@ use Rattle.answers.specs.Entries.{SheetOutcome, sheetOf}
 use Rattle.held.specs.declared.Made.{Made}
 use Rattle.held.specs.declared.Made.the-variants as Mades
 use Rattle.held.specs.Held.{changesTold}
-use Rattle.held.specs.Changes.{Change, addition, withdrawal, Effect, refuses, leads, settled, lastly}
+use Rattle.held.specs.Changes.{Change, Effect, refuses, leads, settled, lastly}
 use Rattle.held.specs.Tickets.{ticketBytes, ProposalOutcome, shown, proposeOf}
 use Rattle.held.proofs.Effects.{lastly-none}
-use Rattle.held.proofs.Tickets.{ticketNumberSmall, ticket-small, ticket-fits}
-use Rattle.tickets.specs.Tickets.{numberOf, TicketWritable}
+use Rattle.held.proofs.Tickets.{ticket-small, ticket-fits}
+use Rattle.tickets.specs.Tickets.{TicketWritable}
 use Rattle.renewing.specs.Making.{NewMade}
 use Rattle.settling.specs.Settling.{answered, Showable}
 use Rattle.settling.proofs.Laws.{sheet-refused, sheet-accepted, effect-refused, effect-settled, book-inside, book-long}
@@ -71,11 +71,6 @@ show-writable change held ticket s h changes c = record { counted = omega arith;
 
 pub ruleset shows = (show-narrow, show-refused, show-given, show-writable, needs)
 
--- the number of a change that is made can be said
-small-number : (change : Change) → ticketNumberSmall change → numberOf change < 65536
-small-number (addition bytes) h = h
-small-number (withdrawal i) h = h
-
 -- a count of changes that is told can be said
 told-small : (held : List ℕ) → ((i : ℕ) → Fits w8 (getD held i 0)) → changesTold held < 65536
 unfolding changesTold
@@ -100,7 +95,7 @@ module _ (change : Change) (held fresh : List ℕ) (new : Made) (fresh′ : List
         let b = m .book n e in
         record {
           counted = told-small held are;
-          small = small-number change (ticket-small change held (b .presentation) (b .is));
+          small = ticket-small change held (b .presentation) (b .is);
           fits = λ changes. ticket-fits changes change held (b .presentation) (b .is);
         }
 

@@ -6,8 +6,7 @@ use Rattle.limits.specs.Limits.{bookMost, heldRoom, changesMost, ticketRoom}
 use Rattle.answers.specs.Answers.{Answer, accepted, refusal}
 use Rattle.held.specs.Held.{changesTold}
 use Rattle.held.specs.Changes.{Change, Effect, refuses, leads}
-use Rattle.held.specs.Tickets.{ticketBytes}
-use Rattle.tickets.specs.Tickets.{numberOf}
+use Rattle.held.specs.Tickets.{numberOf, ticketBytes}
 
 -- the answer alone of what a change comes to
 abbrev pub answered : Effect → Answer

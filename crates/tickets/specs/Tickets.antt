@@ -3,8 +3,8 @@ use Prim.Native.Nat.{ℕ, _<_, _≤_}
 use mathlib.Core.List.{List}
 use lib.ListN.{length}
 use Rattle.limits.specs.Limits.{ticketPrefix, ticketRoom}
-use Rattle.held.specs.Changes.{Change, addition, withdrawal}
-use Rattle.held.specs.Tickets.{ticketBytes}
+use Rattle.held.specs.Changes.{Change}
+use Rattle.held.specs.Tickets.{numberOf, ticketBytes}
 
 -- the three fields can say their numbers, and have room
 pub record FieldsWritable (changes kind number : ℕ) (ticket : List ℕ) : Type 0 where
@@ -12,11 +12,6 @@ pub record FieldsWritable (changes kind number : ℕ) (ticket : List ℕ) : Type
   pub known : kind < 65536
   pub small : number < 65536
   pub room : ticketPrefix ≤ length ticket
-
--- the number of a change that its field can say
-abbrev pub numberOf : Change → ℕ
-numberOf (addition bytes) = length bytes
-numberOf (withdrawal i) = i
 
 -- the ticket of a change can be written: its fields can say their numbers, and it fits into the buffer
 pub record TicketWritable (changes : ℕ) (change : Change) (ticket : List ℕ) : Type 0 where
