@@ -2,8 +2,6 @@ pub mod Buffers
 pub mod Effects
 pub mod Steps
 pub mod Tickets
-pub mod Numbers
 pub mod Theorems
+pub mod Numbers
 pub mod Postings
-pub mod Examples
-pub mod TicketExamples

@@ -4,5 +4,3 @@ pub mod Asked
 pub mod Tickets
 pub mod Demands
 pub mod Postings
-pub mod Examples
-pub mod TicketExamples

@@ -1,8 +1,6 @@
 // What a held book is, what loading and changing it give, and what proposing a change and posting it give. specs/Held.antt says what lies in its buffer, specs/Changes.antt
 // and specs/Tickets.antt define the answers, and specs/Demands.antt and specs/Postings.antt say in words what is owed; the functions here do nothing and carry it as
 // theorems on these definitions.
-ghost use Rattle.held.specs.Examples.{Hold, examples};
-ghost use Rattle.held.specs.TicketExamples.{Shown, proposals, Given, postings};
 ghost use Rattle.held.specs.Demands.{HeldFits, LoadedHolds, LoadingsHold, RefusedKeeps, WithdrawalsHold, AdditionsNeedC4, ChangesFresh, AdditionsUndone};
 ghost use Rattle.held.specs.Postings.{TicketsRead, TicketsFit, ProposalsKeep, PostingsKeep, ProposalsOfChange, NeverStale, PostingsAreChanges, PostingsHold, PostedOnTheSpot, ChangesCounted, ChangesLimited};
 use refusals::Refusal;
@@ -18,11 +16,6 @@ pub enum Asked {
     Addition,
     Withdrawal(usize),
 }
-
-// The worked examples of what changes give hold of their definition.
-pub fn examples_hold()
-    ensures { λ _. ⌜ Hold examples ⌝ }
-{}
 
 // The room of a held book suffices for 32 relations at their longest.
 pub fn held_books_fit()
@@ -62,15 +55,6 @@ pub fn changes_are_fresh()
 // What was added and is withdrawn again leaves the book as it was.
 pub fn additions_are_undone()
     ensures { λ _. ⌜ AdditionsUndone ⌝ }
-{}
-
-// Those of proposals hold, and those of postings.
-pub fn proposed_examples_hold()
-    ensures { λ _. ⌜ Shown proposals ⌝ }
-{}
-
-pub fn posted_examples_hold()
-    ensures { λ _. ⌜ Given postings ⌝ }
 {}
 
 // A ticket is read as it was written.

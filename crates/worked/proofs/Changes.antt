@@ -13,9 +13,9 @@ use Rattle.format.specs.Bytes.{relationsBytes, bookBytes}
 use Rattle.format.specs.Examples.{times}
 use Rattle.presentation.specs.Loading.{loadBook}
 use Rattle.sheet.specs.Sheet.{cutBytes}
 use Rattle.held.specs.Held.{bookIn, changesTold, holding, takenUp}
 use Rattle.held.specs.Changes.{changedIn, settled, effectOf, changeOf}
-use Rattle.held.specs.Examples.{Hold, none, more, examples}
+use Rattle.worked.specs.Changes.{Hold, none, more, examples}
 
 pub examples-hold : Hold examples
 unfolding anyBelow least greatest isPrefix sameWord relationWords placeOf including includingAll distinctWords placesIn sideWords twin pieceAt three loose xlen zlen number reach fewest longestPiece pieceCount judge firstLooseSide firstUnknown recordAt headAt fieldsAt relationAt additionAt relationsFrom readBook relationsBytes bookBytes times loadBook cutBytes bookIn changesTold holding takenUp changedIn settled effectOf changeOf examples

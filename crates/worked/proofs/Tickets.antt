@@ -12,10 +12,10 @@ use Rattle.format.specs.Book.{recordAt, headAt, fieldsAt, relationAt, additionA
 use Rattle.format.specs.Bytes.{relationsBytes, bookBytes}
 use Rattle.presentation.specs.Loading.{loadBook}
 use Rattle.sheet.specs.Sheet.{cutBytes}
 use Rattle.held.specs.Held.{bookIn, changesTold, holding, takenUp}
 use Rattle.held.specs.Changes.{changedIn, settled, effectOf}
 use Rattle.held.specs.Tickets.{recordIn, changeIn, proposeOf, postOf}
-use Rattle.held.specs.TicketExamples.{Shown, proposals, Given, postings}
+use Rattle.worked.specs.Tickets.{Shown, proposals, Given, postings}
 
 pub proposals-shown : Shown proposals
 unfolding anyBelow least greatest isPrefix sameWord relationWords placeOf including includingAll distinctWords placesIn sideWords twin pieceAt three loose xlen zlen number reach fewest longestPiece pieceCount judge firstLooseSide firstUnknown recordAt headAt fieldsAt relationAt additionAt relationsFrom readBook relationsBytes bookBytes loadBook cutBytes bookIn changesTold holding takenUp changedIn settled effectOf proposeOf proposals

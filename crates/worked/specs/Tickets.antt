@@ -1,4 +1,4 @@
--- Proposals and postings and what they give, worked out by hand from document 01 ("Propose, then post"), of the books of specs/Examples.antt.
+-- Proposals and postings and what they give, worked out by hand from document 01 ("Propose, then post"), of the books of specs/Changes.antt.
 use Prim.Native.Nat.{ℕ}
 use mathlib.Core.List.{List, [], _∷_, _++_}
 use mathlib.Core.Path.{_≡_}
@@ -7,9 +7,9 @@ use Rattle.writing.specs.Writing.{over}
 use Rattle.limits.specs.Limits.{heldRoom}
 use Rattle.format.specs.Examples.{four}
 use Rattle.answers.specs.Answers.{accepted, refused}
 use Rattle.held.specs.Changes.{Change, addition, withdrawal}
 use Rattle.held.specs.Tickets.{ProposalOutcome, proposeOf, postOf}
-use Rattle.held.specs.Examples.{Gives, refuses, counts, heldIn, sheetIn, outcome, Q, both, bbaa-ccda, a-b, rows2, rows4}
+use Rattle.worked.specs.Changes.{Gives, refuses, counts, heldIn, sheetIn, outcome, Q, both, bbaa-ccda, a-b, rows2, rows4}
 
 -- what a proposal gives: a refusal's number and place, or the number of relations, their sheet and the ticket
 pub data Shows : Type 0 where
