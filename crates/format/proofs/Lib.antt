@@ -4,3 +4,4 @@ pub mod Bytes
 pub mod Unique
 pub mod Lengths
 pub mod Additions
+pub mod Refused

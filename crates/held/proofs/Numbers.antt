@@ -1,24 +1,18 @@
 -- The numbers of the refusals of a change: those of reading are 1 to 6, that of a book that is read is 8, and the others are 12 of a buffer and 15 of an index.
-use Prim.Native.Nat.{ℕ, zero, suc, _+_, _*_, _-_, _≤_}
-use mathlib.Core.Bool.{Bool, true, false, _||_, cond}
-use mathlib.Core.List.{List, []}
+use Prim.Native.Nat.{ℕ, _*_}
+use mathlib.Core.Bool.{Bool, true, false, cond}
+use mathlib.Core.List.{List}
 use lib.Dec.{leb, ltb}
 use lib.ListN.{length}
-use Rattle.words.specs.Words.{part}
 use Rattle.words.specs.Relations.{relationWords}
 use Rattle.overlap.specs.Verdict.{Verdict, judge}
-use Rattle.limits.specs.declared.Record.{Record}
-use Rattle.limits.specs.declared.Record.the-variants.{Whole, CutOff}
-use Rattle.limits.specs.Limits.{outside}
 use Rattle.refusals.specs.declared.Refusal.{Refusal}
 use Rattle.refusals.specs.Refusals.{numberAndPlace}
-use Rattle.letters.specs.Letters.{unknownIn}
-use Rattle.format.specs.declared.HeadReading.{HeadReading}
-use Rattle.format.specs.declared.HeadReading.the-variants as Heads
 use Rattle.format.specs.declared.RelationReading.{RelationReading}
 use Rattle.format.specs.declared.RelationReading.the-variants as Relations
-use Rattle.format.specs.Book.{Presentation, adding, BookReading, refused, byte, recordAt, onWhole, differs, headAt, fieldsAt, relationAt, additionAt, relationIn, onHead, onRelation, relationsFrom, readBook}
+use Rattle.format.specs.Book.{Presentation, adding, BookReading, read, refused, additionAt, relationIn, onRelation, readBook}
 use Rattle.format.specs.Bytes.{bookBytes}
+use Rattle.format.proofs.Refused.{RecordRefusal, RelationUpto, addition-upto, BookUpto, book-upto}
 use Rattle.presentation.specs.Loading.{byVerdict, byReading, loadBook}
 use Rattle.answers.specs.Entries.{onLoaded}
 use Rattle.held.specs.Held.{bookIn, takenUp}
@@ -29,126 +23,72 @@ use Rattle.held.specs.Postings.{OfChange}
 abbrev Own : Refusal → Type 0
 Own r = OfChange (numberAndPlace r .number)
 
--- so is that of a record or of a book, if there is one
-abbrev OwnHead : HeadReading → Type 0
-OwnHead (Heads.Refused r) = Own r
-OwnHead (Heads.Read letters to) = Unit {0}
-
-abbrev OwnRelation : RelationReading → Type 0
-OwnRelation (Relations.Refused r) = Own r
-OwnRelation (Relations.Read left right to) = Unit {0}
-
+-- so is that of a book, if there is one
 abbrev OwnReading : BookReading → Type 0
-OwnReading (BookReading.refused r) = Own r
-OwnReading (BookReading.read presentation) = Unit {0}
+OwnReading (refused r) = Own r
+OwnReading (read presentation) = Unit {0}
 
 -- and that of what a change comes to
 abbrev pub OwnEffect : Effect → Type 0
 OwnEffect (refuses r) = Own r
 OwnEffect (leads n book cuts) = Unit {0}
 
+-- the refusals of a record are such
+record-own : (place : ℕ) (r : Refusal) → RecordRefusal place r → Own r
+record-own place r RecordRefusal.short-there = OfChange.short
+record-own place r RecordRefusal.kind-there = OfChange.kind
+record-own place r RecordRefusal.length-there = OfChange.misfit
+record-own place r RecordRefusal.range-there = OfChange.range
+record-own place r RecordRefusal.unknown-there = OfChange.unknown
+record-own place r RecordRefusal.many-there = OfChange.thick
+
 -- what is so of both values is so of a choice
 of-both : {A : Type 0} (P : A → Type 0) (b : Bool) (x y : A) → P x → P y → P (cond b x y)
 of-both P true x y p q = p
 of-both P false x y p q = q
 
--- so is what is so of the refusal of a record that is cut off and of what its parts give
-of-record : {A : Type 0} (P : A → Type 0) (o : Record) (short : A) (next : ℕ → ℕ → ℕ → A) → P short → ((kind from to : ℕ) → P (next kind from to))
-    → P (onWhole o short next)
-of-record P CutOff short next p q = p
-of-record P (Whole kind from to) short next p q = q kind from to
+-- the refusal of a book that is read
+reading-own : (n : ℕ) (o : BookReading) → BookUpto n o → OwnReading o
+reading-own n (refused r) (BookUpto.refused-at {place} h k) = record-own place r k
+reading-own n (read presentation) BookUpto.read-whole = tt
 
--- the refusals of a head
-head-own : (most place : ℕ) (book : List ℕ) (at : ℕ) → OwnHead (headAt most place book at)
-unfolding headAt
-head-own most place book at = of-record OwnHead (recordAt book at) _ _ OfChange.short (λ kind from to.
-    of-both OwnHead (differs kind 1) _ _ OfChange.kind
-    (of-both OwnHead (differs (to - from) 1) _ _ OfChange.misfit
-    (of-both OwnHead (outside 1 most (byte book from)) _ _ OfChange.range tt)))
-
--- those of the fields of a relation
-fields-own : (letters place : ℕ) (book : List ℕ) (from to : ℕ) → OwnRelation (fieldsAt letters place book from to)
-unfolding fieldsAt
-fields-own letters place book from to =
-    of-both OwnRelation (differs (to - from) (2 + byte book from + byte book (from + 1))) _ _ OfChange.misfit
-    (of-both OwnRelation (outside 1 64 (byte book from) || outside 1 64 (byte book (from + 1))) _ _ OfChange.range
-    (of-both OwnRelation (unknownIn letters (part book (from + 2) to)) _ _ OfChange.unknown tt))
-
--- those of a relation
-relation-own : (letters count place : ℕ) (book : List ℕ) (at : ℕ) → OwnRelation (relationAt letters count place book at)
-unfolding relationAt
-relation-own letters count place book at = of-record OwnRelation (recordAt book at) _ _ OfChange.short (λ kind from to.
-    of-both OwnRelation (differs kind 2) _ _ OfChange.kind
-    (of-both OwnRelation (leb 32 count) _ _ OfChange.thick (fields-own letters place book from to)))
-
--- those of one that is given apart from its book
-addition-own : (letters count place : ℕ) (bytes : List ℕ) → OwnRelation (additionAt letters count place bytes)
-unfolding additionAt
-addition-own letters count place bytes = of-record OwnRelation (recordAt bytes 0) _ _ OfChange.short (λ kind from to.
-    of-both OwnRelation (differs kind 2) _ _ OfChange.kind
-    (of-both OwnRelation (leb 32 count) _ _ OfChange.thick
-    (of-both OwnRelation (ltb to (length bytes)) _ _ OfChange.misfit (fields-own letters place bytes from to))))
-
--- those of what is read of a relation, and of what comes behind it
-of-relation : (P : BookReading → Type 0) (o : RelationReading) (next : ℕ → ℕ → ℕ → BookReading) → OwnRelation o
-    → ((r : Refusal) → Own r → P (refused r)) → ((left right to : ℕ) → P (next left right to)) → P (onRelation o next)
-of-relation P (Relations.Refused r) next s p q = p r s
-of-relation P (Relations.Read left right to) next s p q = q left right to
-
--- those of the relations of a book
-relations-own : (fuel : ℕ) (presentation : Presentation) (book : List ℕ) (at : ℕ) → OwnReading (relationsFrom fuel presentation book at)
-unfolding relationsFrom
-relations-own zero presentation book at = tt
-relations-own (suc fuel) presentation book at =
-    let o = relation-own (presentation .letters) (length (presentation .relations)) at book at in
-    of-both OwnReading (leb (length book) at) _ _ tt
-    (of-relation OwnReading (relationAt (presentation .letters) (length (presentation .relations)) at book at) _ o (λ r s. s) (λ left right to.
-    relations-own fuel (adding presentation (relationIn book left right to)) book to))
-
--- those of a book that is read
-read-own : (book : List ℕ) → OwnReading (readBook book)
-unfolding readBook
-read-own book = go (headAt 64 0 book 0) (head-own 64 0 book 0)
-  where
-    go : (o : HeadReading) → OwnHead o
-        → OwnReading (onHead o (λ letters to. relationsFrom (length book) (record { letters = letters; relations = [] }) book to))
-    go (Heads.Refused r) s = s
-    go (Heads.Read letters to) s = relations-own (length book) (record { letters = letters; relations = [] }) book to
-
--- those of a book that is loaded
+-- and of one that is loaded
 verdict-own : (presentation : Presentation) (v : Verdict) → OwnReading (byVerdict presentation v)
 verdict-own presentation Verdict.accepted = tt
 verdict-own presentation (Verdict.loose side) = OfChange.loose
 
 load-own : (book : List ℕ) → OwnReading (loadBook book)
 unfolding loadBook
-load-own book = go (readBook book) (read-own book)
+load-own book = go (readBook book) (reading-own (length book) (readBook book) (book-upto book))
   where
     go : (o : BookReading) → OwnReading o → OwnReading (byReading o)
-    go (BookReading.refused r) s = s
-    go (BookReading.read presentation) s = verdict-own presentation (judge (relationWords (presentation .relations)))
+    go (refused r) s = s
+    go (read presentation) s = verdict-own presentation (judge (relationWords (presentation .relations)))
 
 -- what is held is taken up
 taken-own : (held : List ℕ) → OwnReading (takenUp held)
 unfolding takenUp
 taken-own held =
-    of-both OwnReading (ltb (length held) 4297) _ _ OfChange.narrow (read-own (bookIn held))
+    of-both OwnReading (ltb (length held) 4297) _ _ OfChange.narrow (reading-own (length (bookIn held)) (readBook (bookIn held)) (book-upto (bookIn held)))
 
 -- a change of it is made
 changed-own : (change : Change) (place : ℕ) (presentation : Presentation) → OwnReading (changed change place presentation)
 changed-own (addition bytes) place presentation =
     let letters = presentation .letters in
     let count = length (presentation .relations) in
-    let s = addition-own letters count place bytes in
-    of-relation OwnReading (additionAt letters count place bytes) _ s (λ r s. s) (λ left right to. tt)
+    go (additionAt letters count place bytes) (addition-upto letters count place bytes)
+  where
+    go : (o : RelationReading) → RelationUpto (length bytes) place o
+        → OwnReading (onRelation o (λ left right to. read (adding presentation (relationIn bytes left right to))))
+    go (Relations.Refused r) (RelationUpto.refused-at k) = record-own place r k
+    go (Relations.Read left right to) k = tt
 changed-own (withdrawal i) place presentation = of-both OwnReading (leb (length (presentation .relations)) i) _ _ OfChange.absent tt
 
 -- a refusal that was there, and what comes behind it
 of-loaded : {A : Type 0} (P : A → Type 0) (o : BookReading) (stop : Refusal → A) (next : Presentation → A) → OwnReading o
-    → ((r : Refusal) → Own r → P (stop r)) → ((presentation : Presentation) → P (next presentation))
-    → P (onLoaded o stop next)
-of-loaded P (BookReading.refused r) stop next s p q = p r s
-of-loaded P (BookReading.read presentation) stop next s p q = q presentation
+    → ((r : Refusal) → Own r → P (stop r)) → ((presentation : Presentation) → P (next presentation)) → P (onLoaded o stop next)
+of-loaded P (refused r) stop next s p q = p r s
+of-loaded P (read presentation) stop next s p q = q presentation
 
 change-own : (change : Change) (held : List ℕ) → OwnReading (changedIn change held)
 unfolding changedIn

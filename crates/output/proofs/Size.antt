@@ -17,18 +17,15 @@ use Rattle.congruence.specs.Rounds.{CompareAnswer, answerFrom, compareUnder}
 use Rattle.congruence.specs.Rounds.CompareAnswer.{same, different, spent}
 use Rattle.limits.specs.declared.Record.{Record}
 use Rattle.limits.specs.declared.Record.the-variants.{Whole, CutOff}
-use Rattle.limits.specs.Limits.{inputMost, lettersMost, relationsMost, comparisonKind, comparedMost}
+use Rattle.limits.specs.Limits.{inputMost, relationsMost, comparisonKind, comparedMost}
 use Rattle.refusals.specs.declared.Refusal.{Refusal}
 use Rattle.refusals.specs.declared.Refusal.the-variants.{Short, Kind, Length, Range, UnknownLetter, TooMany, Loose, Long, Stranger, Spent, Narrow, Heavy, NoSpace, NoSuchRelation, StaleTicket, BookWorn}
 use Rattle.refusals.specs.Refusals.{numberAndPlace}
 use Rattle.letters.specs.Letters.{firstUnknown}
-use Rattle.format.specs.declared.HeadReading.{HeadReading}
-use Rattle.format.specs.declared.HeadReading.the-variants as Heads
-use Rattle.format.specs.declared.RelationReading.{RelationReading}
-use Rattle.format.specs.declared.RelationReading.the-variants as Relations
-use Rattle.format.specs.Book.{Presentation, adding, BookReading, field, recordAt, differs, headAt, fieldsAt, relationAt, relationIn, onWhole, onHead, onRelation, relationsFrom, readBook}
+use Rattle.format.specs.Book.{Presentation, BookReading, field, recordAt, differs, onWhole, readBook}
 use Rattle.format.specs.Bytes.{AreBytes}
-use Rattle.format.proofs.Readings.{whole-at, read-within}
+use Rattle.format.proofs.Readings.{read-within}
+use Rattle.format.proofs.Refused.{RecordRefusal, refusal-place, BookUpto, book-upto}
 use Rattle.presentation.specs.Loading.{byVerdict, byReading, loadBook}
 use Rattle.words.proofs.Relations.{length-words}
 use Rattle.given.specs.declared.Given.{Given}
@@ -199,23 +196,6 @@ few-more n at to s t h k f =
     let l = length-append s t in
     record { count = suc (f .count); lines = omega (arith, f .lines); records = omega (arith, f .records) }
 
--- the refusals of a record, which report a place
-data RecordRefusal (place : ℕ) : Refusal → Type 0 where
-  short-there : RecordRefusal place (Short place)
-  kind-there : RecordRefusal place (Kind place)
-  length-there : RecordRefusal place (Length place)
-  range-there : RecordRefusal place (Range place)
-  unknown-there : RecordRefusal place (UnknownLetter place)
-  many-there : RecordRefusal place (TooMany place)
-
-refusal-place : (place : ℕ) (r : Refusal) → RecordRefusal place r → numberAndPlace r .place ≡ place
-refusal-place place r RecordRefusal.short-there = refl
-refusal-place place r RecordRefusal.kind-there = refl
-refusal-place place r RecordRefusal.length-there = refl
-refusal-place place r RecordRefusal.range-there = refl
-refusal-place place r RecordRefusal.unknown-there = refl
-refusal-place place r RecordRefusal.many-there = refl
-
 -- what a record of the kind 3 part asks for, or its refusal
 data PlacedAt (place : ℕ) : Request → Type 0 where
   refused-there : {r : Refusal} → RecordRefusal place r → PlacedAt place (Requests.Refused r)
@@ -264,68 +244,6 @@ module _ (letters : ℕ) (B : List Word) (family : ℕ → ℕ) (input : List �
       go f true e = few-none _ at (omega arith)
       go f false e = few-request (linesFrom most letters B family input) at (leb-false (length input) at e) f (requestAt input at) refl
 
--- what reading a record gives: its refusal, or a position up to n
-data HeadUpto (n place : ℕ) : HeadReading → Type 0 where
-  refused-at : {r : Refusal} → RecordRefusal place r → HeadUpto n place (Heads.Refused r)
-  read-to : {letters to : ℕ} → to ≤ n → HeadUpto n place (Heads.Read letters to)
-
-data RelationUpto (n place : ℕ) : RelationReading → Type 0 where
-  refused-at : {r : Refusal} → RecordRefusal place r → RelationUpto n place (Relations.Refused r)
-  read-to : {left right to : ℕ} → to ≤ n → RelationUpto n place (Relations.Read left right to)
-
-head-cond : (n place : ℕ) (b : Bool) (x y : HeadReading) → HeadUpto n place x → HeadUpto n place y → HeadUpto n place (cond b x y)
-head-cond n place true x y h k = h
-head-cond n place false x y h k = k
-
-relation-cond : (n place : ℕ) (b : Bool) (x y : RelationReading) → RelationUpto n place x → RelationUpto n place y → RelationUpto n place (cond b x y)
-relation-cond n place true x y h k = h
-relation-cond n place false x y h k = k
-
-ruleset uptos = (head-cond, relation-cond, HeadUpto.refused-at, HeadUpto.read-to, RelationUpto.refused-at, RelationUpto.read-to, RecordRefusal.short-there, RecordRefusal.kind-there, RecordRefusal.length-there, RecordRefusal.range-there, RecordRefusal.unknown-there, RecordRefusal.many-there)
-
-module _ (book : List ℕ) (at place : ℕ) where
-  -- a record that is there, by its checks
-  upto-whole : {A : Type 0} (P : A → Type 0) (none : A) (next : ℕ → ℕ → ℕ → A) → P none → ((kind from to : ℕ) → to ≤ length book → P (next kind from to)) → (o : Record)
-      → recordAt book at ≡ o → P (onWhole o none next)
-  upto-whole P none next s f CutOff e = s
-  upto-whole P none next s f (Whole kind from to) e = f kind from to (whole-at book at kind from to e .fits)
-
-  head-upto : (most : ℕ) → HeadUpto (length book) place (headAt most place book at)
-  unfolding headAt
-  head-upto most = upto-whole (HeadUpto (length book) place) _ _ (search uptos) (λ kind from to k. search uptos depth 8) (recordAt book at) refl
-
-  relation-upto : (letters count : ℕ) → RelationUpto (length book) place (relationAt letters count place book at)
-  unfolding relationAt fieldsAt
-  relation-upto letters count = upto-whole (RelationUpto (length book) place) _ _ (search uptos) (λ kind from to k. search uptos depth 8) (recordAt book at) refl
-
--- a book that is read, or refused at a place up to its length
-abbrev BookUpto : ℕ → BookReading → Type 0
-BookUpto n (BookReading.refused r) = numberAndPlace r .place ≤ n
-BookUpto n (BookReading.read presentation) = Unit {0}
-
-relations-upto : (fuel : ℕ) (p : Presentation) (book : List ℕ) (at : ℕ) → at ≤ length book → BookUpto (length book) (relationsFrom fuel p book at)
-unfolding relationsFrom
-relations-upto zero p book at h = tt
-relations-upto (suc fuel) p book at h =
-    step (λ left right to. relations-upto fuel (adding p (relationIn book left right to)) book to) (leb (length book) at) (relationAt (p .letters) (length (p .relations)) at book at)
-    (relation-upto book at at (p .letters) (length (p .relations)))
-  where
-    step : ((left right to : ℕ) → to ≤ length book → BookUpto (length book) (relationsFrom fuel (adding p (relationIn book left right to)) book to)) → (b : Bool)
-        (o : RelationReading) → RelationUpto (length book) at o
-        → BookUpto (length book) (cond b (BookReading.read p) (onRelation o (λ left right to. relationsFrom fuel (adding p (relationIn book left right to)) book to)))
-    step f true o k = tt
-    step f false (Relations.Refused r) (RelationUpto.refused-at k) = omega (arith, refusal-place at r k)
-    step f false (Relations.Read left right to) (RelationUpto.read-to k) = f left right to k
-
-book-upto : (book : List ℕ) → BookUpto (length book) (readBook book)
-unfolding readBook
-book-upto book = step (headAt lettersMost 0 book 0) (head-upto book 0 0 lettersMost)
-  where
-    step : (o : HeadReading) → HeadUpto (length book) 0 o
-        → BookUpto (length book) (onHead o (λ letters to. relationsFrom (length book) (record { letters = letters; relations = [] }) book to))
-    step (Heads.Refused r) (HeadUpto.refused-at k) = omega (arith, refusal-place 0 r k)
-    step (Heads.Read letters to) (HeadUpto.read-to k) = relations-upto (length book) (record { letters = letters; relations = [] }) book to k
-
 -- a book's loading: few relations, or a refusal with a small place
 abbrev SmallLoading : BookReading → Type 0
 SmallLoading (BookReading.refused r) = numberAndPlace r .place < numberMost
@@ -347,7 +265,7 @@ unfolding loadBook
 small-loading book h = step (readBook book) refl (book-upto book)
   where
     step : (o : BookReading) → readBook book ≡ o → BookUpto (length book) o → SmallLoading (byReading o)
-    step (BookReading.refused r) e k = omega arith
+    step (BookReading.refused r) e (BookUpto.refused-at {place} k there) = omega (arith, refusal-place place r there)
     step (BookReading.read p) e k = small-judged p (read-within book p e .fewRelations)
 
 pub end-within : (most : ℕ) (input : List ℕ) (at : ℕ) → at ≤ length input → bookEndFrom most input at ≤ length input
