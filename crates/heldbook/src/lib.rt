@@ -11,9 +11,9 @@ use entries::check_book;
 use held::Asked;
 use holding::hold;
 use limits::Held;
+use proposing::propose_change;
 use refusals::Refusal;
 use settling::change_held;
-use settling::propose_change;
 
 // Loads a book into the lent buffer of a held book.
 pub fn load_held(book: &[u8], held: &mut [u8]) -> Verdict

@@ -2,11 +2,10 @@
 use Prim.Native.Nat.{ℕ, _<_, _≤_}
 use mathlib.Core.List.{List}
 use lib.ListN.{length}
-use Rattle.limits.specs.Limits.{bookMost, heldRoom, changesMost, ticketRoom}
+use Rattle.limits.specs.Limits.{bookMost, heldRoom, changesMost}
 use Rattle.answers.specs.Answers.{Answer, accepted, refusal}
 use Rattle.held.specs.Held.{changesTold}
-use Rattle.held.specs.Changes.{Change, Effect, refuses, leads}
-use Rattle.held.specs.Tickets.{numberOf, ticketBytes}
+use Rattle.held.specs.Changes.{Effect, refuses, leads}
 
 -- the answer alone of what a change comes to
 abbrev pub answered : Effect → Answer
@@ -23,9 +22,3 @@ pub record Takeable (book held : List ℕ) : Type 0 where
   pub few : length book ≤ bookMost
   pub room : heldRoom ≤ length held
   pub more : changesTold held < changesMost
-
--- a change whose ticket has room, beside a count that its field can say
-pub record Showable (change : Change) (held : List ℕ) : Type 0 where
-  pub counted : changesTold held < 65536
-  pub small : numberOf change < 65536
-  pub fits : (changes : ℕ) → length (ticketBytes changes change) ≤ ticketRoom

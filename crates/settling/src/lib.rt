@@ -1,17 +1,14 @@
-// What follows once the bytes of a new book are made: it is checked and its sheet written, and then it takes the place of the book that is held, or a ticket is given for
-// it. A part for the entries of held books: a change that is made directly, and one that is proposed.
+// What follows once the bytes of a new book are made: it is checked and its sheet written, and then it takes the place of the book that is held. A part for the entries of
+// held books: a change that is made directly.
 ghost use mathlib.Core.Path.{_≡_};
 ghost use mathlib.Core.Bool.{true};
-ghost use lib.Dec.{ltb};
 ghost use lib.ListN.{length};
-ghost use Rattle.limits.specs.Limits.{ticketRoom, ticketBuffer};
-ghost use Rattle.refusals.specs.declared.Refusal.the-variants.{Narrow, BookWorn};
+ghost use Rattle.refusals.specs.declared.Refusal.the-variants.{BookWorn};
 ghost use Rattle.answers.specs.Answers.{ofVerdict};
 ghost use Rattle.held.specs.Held.{worn};
 ghost use Rattle.held.specs.Changes.{settled, lastly, ChangeOutcome as Changes, made, changeOf};
 ghost use Rattle.held.specs.Asked.{changeAsked};
-ghost use Rattle.held.specs.Tickets.{ProposalOutcome as Proposals, shown, proposeOf};
-ghost use Rattle.settling.specs.Settling.{answered, Settleable, Takeable, Showable};
+ghost use Rattle.settling.specs.Settling.{answered, Settleable, Takeable};
 use answers::Verdict;
 use entries::check_book;
 use entries::cut_sheet;
@@ -21,13 +18,11 @@ use holding::changes_of;
 use holding::hold;
 use limits::Held;
 use limits::Sheet;
-use limits::Ticket;
 use refusals::Refusal;
 use renewing::make_change;
-use tickets::put_ticket;
 
 // The refusal of a new book or of its sheet's room; else another refusal, which comes behind them. Nothing is written.
-fn refuse_last(book: &[u8], sheet: &[u8], last: Refusal) -> Verdict
+pub fn refuse_last(book: &[u8], sheet: &[u8], last: Refusal) -> Verdict
     ensures { λ r. ⌜ ofVerdict r ≡ answered (lastly true last (settled (length (now (sheet .entry))) (now (book .entry)))) ⌝ }
 {
     let checked = check_book(book);
@@ -75,46 +70,5 @@ pub fn change_held(asked: Asked, held: &mut [u8], bytes: &[u8], sheet: &mut [u8]
     match made {
         Made::Refused(refusal) => Verdict::Refused(refusal),
         Made::Book(n) => settle(&fresh[..n], held, sheet),
-    }
-}
-
-// Writes the sheet of a new book, worked out afresh, and, where that is not refused, the ticket of the change that leads to it.
-fn show(
-    book: &[u8],
-    asked: Asked,
-    held: &[u8],
-    bytes: &[u8],
-    sheet: &mut [u8],
-    ticket: &mut [u8],
-) -> Verdict
-    requires { ⌜ Showable (changeAsked asked (now bytes)) (now held) ⌝ }
-    ensures { λ r. ⌜ Proposals.after (ofVerdict r) (now (sheet .exit)) (now (ticket .exit)) ≡ shown (changeAsked asked (now (bytes .entry))) (now (held .entry)) (now (sheet .entry)) (now (ticket .entry)) (lastly (ltb (length (now (ticket .entry))) ticketRoom) (Narrow ticketBuffer) (settled (length (now (sheet .entry))) (now (book .entry)))) ⌝ }
-{
-    if ticket.len() < Ticket::ROOM {
-        return refuse_last(book, sheet, Refusal::Narrow(Ticket::BUFFER));
-    }
-    let written = cut_sheet(book, sheet);
-    let Verdict::Accepted(_) = written else {
-        return written;
-    };
-    put_ticket(changes_of(held), asked, bytes, ticket);
-    written
-}
-
-// Shows what the change that is asked for would lead to, and gives a ticket for it.
-pub fn propose_change(
-    asked: Asked,
-    held: &[u8],
-    bytes: &[u8],
-    sheet: &mut [u8],
-    ticket: &mut [u8],
-) -> Verdict
-    ensures { λ r. ⌜ Proposals.after (ofVerdict r) (now (sheet .exit)) (now (ticket .exit)) ≡ proposeOf (changeAsked asked (now (bytes .entry))) (now (held .entry)) (now (sheet .entry)) (now (ticket .entry)) ⌝ }
-{
-    let mut fresh = [0u8; Held::BOOK];
-    let made = make_change(asked, held, bytes, &mut fresh);
-    match made {
-        Made::Refused(refusal) => Verdict::Refused(refusal),
-        Made::Book(n) => show(&fresh[..n], asked, held, bytes, sheet, ticket),
     }
 }

@@ -1,6 +1,6 @@
-use Rattle.settling.proofs.Shows.{proposals}
-use Rattle.settling.proofs.propose_change.Statement.{statement}
-use Rattle.settling.proofs.propose_change.Tie as tie
+use Rattle.proposing.proofs.Laws.{proposals}
+use Rattle.proposing.proofs.propose_change.Statement.{statement}
+use Rattle.proposing.proofs.propose_change.Tie as tie
 
 pub propose-change-spec : {M : Type 1} → statement M
 propose-change-spec =

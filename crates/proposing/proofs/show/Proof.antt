@@ -1,6 +1,6 @@
-use Rattle.settling.proofs.Shows.{shows}
-use Rattle.settling.proofs.show.Statement.{statement}
-use Rattle.settling.proofs.show.Tie as tie
+use Rattle.proposing.proofs.Laws.{shows}
+use Rattle.proposing.proofs.show.Statement.{statement}
+use Rattle.proposing.proofs.show.Tie as tie
 
 pub show-spec : {M : Type 1} → statement M
 show-spec =

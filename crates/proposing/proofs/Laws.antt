@@ -27,8 +27,9 @@ use Rattle.held.proofs.Effects.{lastly-none}
 use Rattle.held.proofs.Tickets.{ticket-small, ticket-fits}
 use Rattle.tickets.specs.Tickets.{TicketWritable}
 use Rattle.renewing.specs.Making.{NewMade}
-use Rattle.settling.specs.Settling.{answered, Showable}
+use Rattle.settling.specs.Settling.{answered}
 use Rattle.settling.proofs.Laws.{sheet-refused, sheet-accepted, effect-refused, effect-settled, book-inside, book-long}
+use Rattle.proposing.specs.Proposing.{Showable}
 
 -- a refusal behind all others that is due keeps the buffers
 late-shown : (change : Change) (held sheet ticket : List ℕ) (last : Refusal) (x : Effect)
