@@ -12,7 +12,7 @@ from pathlib import Path
 ROOT = Path(__file__).resolve().parent.parent
 SOURCES = {path.parent.parent.name: path.read_text() for path in sorted(ROOT.glob("crates/*/src/lib.rt"))}
 INTERFACE = SOURCES["results"] + SOURCES["vanecitron"]
-DEFINED = (ROOT / "crates/vanecitron/specs/Calls.antt").read_text()
+DEFINED = (ROOT / "crates/results/specs/Calls.antt").read_text()
 HEADER = (ROOT / "host/include/vanecitron.h").read_text()
 WRAPPER = (ROOT / "host/vanecitron/src/lib.rs").read_text()
 RAW = (ROOT / "host/vanecitron/src/raw.rs").read_text()
@@ -60,7 +60,10 @@ HEADER_NAMES = {"SHEET": "SHEET_MOST", "LEAST": "LEAST_MOST"}
 TOOL_NAMES = {"SHEET_SIDE", "NO_PRODUCT"}
 
 # the specification's word for a case of `Refusal` whose name is another; the macro and the reason are named by the word
-WORDS = {"UnknownLetter": "unknown step", "TooMany": "thick", "NoSuchRelation": "no such rule"}
+WORDS = {"UnknownLetter": "unknown step", "TooMany": "thick", "NoSuchRelation": "no such rule", "NotPiece": "not a piece", "NoPrefix": "no such front"}
+
+# what names them where the word is longer than a name should be
+NAMES = {"not a piece": "not piece", "no such front": "no front"}
 
 C_TYPES = {"u32": "uint32_t", "u64": "uint64_t"}
 
@@ -199,10 +202,10 @@ def refusals(header):
     listed = {int(number): told for number, *told in re.findall(r'^    \((\d+), Reason::(\w+), "([^"]*)", "([^"]*)"\),', REASONS, re.M)}
     variants = re.findall(r"^    (\w+),$", re.search(r"^pub enum Reason \{\n(.*?)^\}", REASONS, re.M | re.S)[1], re.M)
     told = dict(re.findall(r'def refusal_(\d+)\(.*?return f?"([a-z ]+):', TOOL, re.S))
-    names = {number: word.upper().replace(" ", "_") for number, word in expected.items()}
 
     for number, word in sorted(expected.items()):
-        macro, reason = names[number], word.title().replace(" ", "")
+        name = NAMES.get(word, word)
+        macro, reason = name.upper().replace(" ", "_"), name.title().replace(" ", "")
         in_rust = listed.get(number, (None, None, None))
         yield from differ(f"refusal {number}", number, {f"VANECITRON_{macro} of the header": header.get(macro)})
         yield from differ(f"the word of refusal {number}", word, {

@@ -421,7 +421,7 @@ class Explainer:
         return f"heavy: the text makes {self.size:,} bytes of input, and the program takes at most 60,000"
 
     def refusal_14(self, place, of):
-        return "no space: a buffer lent to the library has no room for the least run; neither program prints this of a text"
+        return "no space: a buffer lent to the library has no room for the least run, or for the run behind a front; neither program prints this of a text"
 
     def refusal_15(self, place, of):
         return "no such rule: a book that the library holds has no rule of the index that is to be withdrawn; neither program prints this of a text"
@@ -431,6 +431,12 @@ class Explainer:
 
     def refusal_17(self, place, of):
         return "book worn: a book that the library holds has had all the changes that it takes, 60,000; neither program prints this of a text"
+
+    def refusal_18(self, place, of):
+        return "not a piece: the front that is to be taken off a run stands at fewer than two places of the book's sides, each distinct side counted once; neither program prints this of a text"
+
+    def refusal_19(self, place, of):
+        return "no such front: no exchanges turn the run into one that begins with the front that is to be taken off; neither program prints this of a text"
 
 
 # --- lines that a program answers ---

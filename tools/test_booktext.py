@@ -229,11 +229,13 @@ class Explaining(unittest.TestCase):
 
     def test_the_rest(self):
         self.check(self.TEXT, "refused 12 0\n", "never prints")
-        self.check(self.TEXT, "refused 14 0\n", "no space", "neither program prints")
+        self.check(self.TEXT, "refused 14 0\n", "no space", "the run behind a front", "neither program prints")
         self.check(self.TEXT, "refused 15 0\n", "no such rule", "neither program prints")
         self.check(self.TEXT, "refused 16 0\n", "stale ticket", "neither program prints")
         self.check(self.TEXT, "refused 17 0\n", "book worn", "neither program prints")
-        self.check(self.TEXT, "refused 18 0\n", "no refusal")
+        self.check(self.TEXT, "refused 18 0\n", "not a piece", "fewer than two places", "neither program prints")
+        self.check(self.TEXT, "refused 19 0\n", "no such front", "no exchanges", "neither program prints")
+        self.check(self.TEXT, "refused 20 0\n", "no refusal")
         self.check("letters 4\n" + "compare - - 1\n" * 5000, "refused 13 60000\n", "60,005 bytes")
         self.check(self.TEXT, "refused 99 0\n", "no refusal")
         self.check(self.TEXT, "hello\n", "no line of the program's output")

@@ -1,6 +1,6 @@
 /*
- * The specification's example, book Q, through every function of the library but those of a held book, which change.c has. Built and run by
- * host/run-examples; compare.expected is worked out from docs/SPECIFICATION.md.
+ * The specification's example, book Q, through every function of the library but vanecitron_front, which front.c has, and those of a held book, which change.c
+ * has. Built and run by host/run-examples; compare.expected is worked out from docs/SPECIFICATION.md.
  */
 #include <stdio.h>
 #include <string.h>

@@ -1,5 +1,6 @@
 /*
- * vanecitron: does a chain of exchanges join two runs of steps under a book of exchange rules, and which is the least run that one reaches?
+ * vanecitron: does a chain of exchanges join two runs of steps under a book of exchange rules, which is the least run that one reaches, and what is left of
+ * a run once a front is taken off it?
  * A book can be held in a buffer of the caller's and changed there, rule by rule, and a change can be proposed before it is made.
  *
  * The functions of the archive are proved against their contracts (crates/vanecitron, over crates/entries and crates/heldbook; docs/AUDIT.md says what that
@@ -32,7 +33,8 @@
  *   A lent buffer must overlap no other buffer of the same call, whether that is read or lent. Buffers that are only read may overlap each other, or
  *   be the same.
  *   A refusal, and a round that ends, leave every lent byte as it was. Otherwise what is written stands at the start of the lent buffer, and the bytes
- *   behind it are as they were. The least run alone stands at an offset of the caller's choosing; the bytes before it are as they were too.
+ *   behind it are as they were. The least run and the run behind a front alone stand at an offset of the caller's choosing; the bytes before them are as
+ *   they were too.
  *   A held book lies in a lent buffer of at least VANECITRON_HELD bytes, which the caller keeps between calls; the library has no other copy. Its
  *   content is the caller's to keep, and may be copied and stored. A change reads it as any bytes and trusts none of them: a buffer that was altered is
  *   only ever refused, or taken as the book that it says. The bytes behind the book are as they were, so that after a withdrawal the last bytes of the
@@ -47,7 +49,8 @@
  *   nothing: a refused result, and one filled with zeros, reads as no answer, so that a caller who looks at the outcome alone is never told 'same' or
  *   'different' by a refusal.
  *   If several refusals could apply, the one that is given is fixed: records of the book in turn, each in the order 1, 2, 6, 3, 4, 5; then 8;
- *   then 9 and 10 for u, for v, for p; then 12, or 14 of the least run; 11 last.
+ *   then 9 and 10 for u, for v, for p; then 12, or 14 of the least run; 11 last. Of the run behind a front 18, 19 and 14, in this order, come after 9 and 10
+ *   for u and for p.
  *   Of a change it is: 12 of the held buffer; the records of the book that is held, in turn, as above, and not its 8; then of an addition 1, 2, 6, 3, 4,
  *   5 of its record, of a withdrawal 15; then 8 of the new book; then 12 of the sheet; 17 last. A withdrawal from a book that loads is never refused by 8.
  *   Of a proposal it is that of its change, with 12 of the ticket's buffer in the place of 17: a book that has had all its changes is no reason to refuse
@@ -65,19 +68,19 @@ extern "C" {
 
 /* The version of this header; vanecitron_version gives that of the archive. */
 #define VANECITRON_VERSION_MAJOR 0u
-#define VANECITRON_VERSION_MINOR 7u
+#define VANECITRON_VERSION_MINOR 8u
 #define VANECITRON_VERSION_PATCH 0u
 #define VANECITRON_VERSION (10000u * VANECITRON_VERSION_MAJOR + 100u * VANECITRON_VERSION_MINOR + VANECITRON_VERSION_PATCH)
-#define VANECITRON_VERSION_TEXT "0.7.0"
+#define VANECITRON_VERSION_TEXT "0.8.0"
 
 /* Limits: more than these is refused. */
 #define VANECITRON_LETTERS 64u           /* the most letters of a book; at least 1 */
 #define VANECITRON_RULES 32u             /* the most rules of a book; there may be none */
 #define VANECITRON_SIDE 64u              /* the most steps of a side; at least 1 */
 #define VANECITRON_BOOK_MOST 4293u       /* the most bytes of a book: those of one with so many rules of such sides */
-#define VANECITRON_RUN 4096u             /* the most steps of a run that is compared, or whose least run is asked for */
+#define VANECITRON_RUN 4096u             /* the most steps of a run that is compared, whose least run is asked for, or off which a front is taken */
 #define VANECITRON_ROUND_RUN 4160u       /* the most steps of the u and the v of a single round */
-#define VANECITRON_ROUND_MARK 64u        /* the most steps of the p of a single round */
+#define VANECITRON_ROUND_MARK 64u        /* the most steps of the p of a single round, and of the front that is taken off */
 #define VANECITRON_ALLOWANCE 4294967295u /* the most rounds that an allowance can give */
 #define VANECITRON_INPUT 60000u          /* the most bytes of the program's input */
 
@@ -98,7 +101,8 @@ extern "C" {
 #define VANECITRON_HELD 4297u            /* a held book, whatever its rules */
 #define VANECITRON_TICKET 140u           /* a ticket, whatever its change */
 
-/* The most steps of a least run: 64 for each step of the given run. A buffer with so many bytes behind the offset is enough for every one. */
+/* The most steps of a least run, and of the run behind a front: 64 for each step of the given run. A buffer with so many bytes behind the offset is enough
+   for every one. */
 #define VANECITRON_LEAST_MOST 262144u
 
 /* The most changes that a held book takes from loading. Then it is worn: every further change is refused by 17, until a book is loaded there anew. */
@@ -137,10 +141,13 @@ extern "C" {
                                        the program's output 0; a held book VANECITRON_HELD_BUFFER, a ticket VANECITRON_TICKET_BUFFER, and the sheet
                                        beside them 0 */
 #define VANECITRON_HEAVY 13u        /* the program's input is over its limit; place: 60000. Only printed by the program, as a line of its output */
-#define VANECITRON_NO_SPACE 14u     /* the offset lies past the buffer's end, or the least run is longer than what follows it; place: 0 */
+#define VANECITRON_NO_SPACE 14u     /* the offset lies past the buffer's end, or the least run, or the run behind the front, is longer than what
+                                       follows it; place: 0 */
 #define VANECITRON_NO_SUCH_RULE 15u /* the held book has no rule of the index that is to be withdrawn; place: 0 */
 #define VANECITRON_STALE_TICKET 16u /* the count of the ticket that is posted is not that of the held book; place: 0 */
 #define VANECITRON_BOOK_WORN 17u    /* the held book has had VANECITRON_CHANGES_MOST changes; place: 0 */
+#define VANECITRON_NOT_PIECE 18u    /* the front that is to be taken off is no piece of the book; place: 0 */
+#define VANECITRON_NO_FRONT 19u     /* no run that a chain joins to the given one begins with that front; place: 0 */
 
 #define VANECITRON_HELD_BUFFER 1u      /* the number of a held book's buffer in 12 */
 #define VANECITRON_TICKET_BUFFER 2u    /* the number of a ticket's buffer in 12 */
@@ -180,11 +187,11 @@ typedef struct {
     uint64_t rounds;    /* how many rounds the comparison took */
 } vanecitron_compare_result;
 
-/* Of the least run. */
+/* Of the least run, and of the run behind a front. */
 typedef struct {
     uint32_t refusal;
     uint64_t place;
-    uint64_t length; /* the steps of the least run; 0 of a refused one and of the empty run, so look at its refusal first */
+    uint64_t length; /* the steps of the run that is written; 0 of a refused one and of the empty run, so look at its refusal first */
 } vanecitron_least_result;
 
 /* Of the program. */
@@ -307,6 +314,26 @@ vanecitron_compare_result vanecitron_compare(
 vanecitron_least_result vanecitron_least(
     const uint8_t *book, size_t book_length,
     const uint8_t *run, size_t run_length,
+    uint8_t *buffer, size_t buffer_length,
+    size_t offset);
+
+/*
+ * Takes a front off a run (the specification, "Taking a front off"): writes the run w, the first in dictionary order, such that a chain of exchanges joins
+ * p followed by w to u. The order is that of vanecitron_least. p is a piece of the book: the empty run, or a run that stands in two different sides or at
+ * two places of one, a side that is there several times being counted once. u itself need not begin with p: it is enough that a run does which a chain
+ * joins to it, and 19 says that none does, however long the chain.
+ * w is its own least run, and p followed by w has the least run of u. With p empty w is the least run of u, and 18 and 19 are not met. Behind p runs can be
+ * possible that no chain joins to each other, as b and c behind a under ab = ac: the first in dictionary order is written, and the others are not told of.
+ *
+ * It is written into `buffer` from `offset` on, and its length is the answer; room and offset are as of vanecitron_least, by the length of w. An offset equal
+ * to the buffer's length is fine where w is empty, which is where a chain joins p to u.
+ * p may have VANECITRON_ROUND_MARK steps, as the front mark of a round. No piece has so many: a longer p is refused by 9, and one of just so many by 18.
+ * Refusals 1 to 10; then 18, 19, 14. In the places of 9 and 10 u has the number 0 and p has 2.
+ */
+vanecitron_least_result vanecitron_front(
+    const uint8_t *book, size_t book_length,
+    const uint8_t *u, size_t u_length,
+    const uint8_t *p, size_t p_length,
     uint8_t *buffer, size_t buffer_length,
     size_t offset);
 
@@ -452,10 +479,12 @@ static inline const char *vanecitron_refusal_text(uint32_t refusal)
     case VANECITRON_SPENT: return "spent: another round was due and the allowance was used up";
     case VANECITRON_NARROW: return "narrow: a lent buffer is too small";
     case VANECITRON_HEAVY: return "heavy: the program's input is over its limit";
-    case VANECITRON_NO_SPACE: return "no space: the offset lies past the buffer's end, or the least run is longer than what follows it";
+    case VANECITRON_NO_SPACE: return "no space: the offset lies past the buffer's end, or the least run, or the run behind the front, does not fit there";
     case VANECITRON_NO_SUCH_RULE: return "no such rule: the held book has no rule of the index that is to be withdrawn";
     case VANECITRON_STALE_TICKET: return "stale ticket: the held book's count of changes is not that of the ticket";
     case VANECITRON_BOOK_WORN: return "book worn: the held book has had all the changes that it takes, and must be loaded anew";
+    case VANECITRON_NOT_PIECE: return "not a piece: the front that is to be taken off is no piece of the book";
+    case VANECITRON_NO_FRONT: return "no such front: no run that a chain joins to the given one begins with that front";
     default: return "a refusal that this header does not know";
     }
 }

@@ -1,6 +1,6 @@
 /*
- * Tests of what the C headers add to the archive: outcomes that no refusal has, the sides of the cut sheet, least runs and where they stand, held books
- * and where theirs stand, proposals and tickets, the version, the texts of refusals, and the writer of books with its bounds.
+ * Tests of what the C headers add to the archive: outcomes that no refusal has, the sides of the cut sheet, least runs and runs behind a front and where they
+ * stand, held books and where theirs stand, proposals and tickets, the version, the texts of refusals, and the writer of books with its bounds.
  * Built and run by host/test. Each claim that fails is printed, and the program then ends with 1.
  */
 #include <stdio.h>
@@ -28,16 +28,40 @@ static const uint8_t example[] = {0x01, 0x00, 0x01, 0x00, 0x04, 0x0a, 0x00, 0x02
                                   0x00, 0x03, 0x00, 0x64, 0x00, 0x00, 0x00, 0x04, 0x00, 0x04, 0x00, 0x00, 0x01, 0x03, 0x02, 0x02, 0x00, 0x03, 0x01};
 #define Q 19u /* the bytes of the book alone */
 
-/* a refused least run says its number and place, and nothing else; its buffer is as it was */
-static void refused_least(const uint8_t *book, size_t book_length, const uint8_t *run, size_t run_length, size_t offset, uint32_t refusal, uint64_t place)
+/* where a least run, or the run behind a front, is written */
+static uint8_t lent[8];
+
+/* a run that is refused says its number and place, and nothing else; the buffer is as it was */
+static void refused_run(vanecitron_least_result l, uint32_t refusal, uint64_t place)
 {
-    uint8_t buffer[8];
-    memset(buffer, 0xa5, sizeof buffer);
-    vanecitron_least_result l = vanecitron_least(book, book_length, run, run_length, buffer, sizeof buffer, offset);
     CLAIM(l.refusal == refusal && l.place == place && l.length == 0);
-    for (size_t i = 0; i < sizeof buffer; i++) {
-        CLAIM(buffer[i] == 0xa5);
+    for (size_t i = 0; i < sizeof lent; i++) {
+        CLAIM(lent[i] == 0xa5);
     }
+}
+
+/* one that is written stands at its offset, and the other bytes are as they were */
+static void written_run(vanecitron_least_result l, const uint8_t *run, size_t length, size_t offset)
+{
+    uint8_t expected[sizeof lent];
+    memset(expected, 0xa5, sizeof expected);
+    memcpy(expected + offset, run, length);
+    CLAIM(l.refusal == VANECITRON_ACCEPTED && l.place == 0 && l.length == length);
+    CLAIM(memcmp(lent, expected, sizeof lent) == 0);
+}
+
+/* the least run of a run, and what is left of one less a front, in the buffer, which is filled before */
+static vanecitron_least_result least_of(const uint8_t *book, size_t book_length, const uint8_t *run, size_t run_length, size_t offset)
+{
+    memset(lent, 0xa5, sizeof lent);
+    return vanecitron_least(book, book_length, run, run_length, lent, sizeof lent, offset);
+}
+
+static vanecitron_least_result front_of(const uint8_t *book, size_t book_length, const uint8_t *u, size_t u_length, const uint8_t *p, size_t p_length,
+                                        size_t offset)
+{
+    memset(lent, 0xa5, sizeof lent);
+    return vanecitron_front(book, book_length, u, u_length, p, p_length, lent, sizeof lent, offset);
 }
 
 /* what every refused comparison and round says: its number and place, and nothing else */
@@ -49,7 +73,10 @@ static void refused(const uint8_t *book, size_t book_length, const uint8_t *u, s
     CLAIM(c.refusal == refusal && c.place == place);
     CLAIM(c.outcome == VANECITRON_NONE && c.rounds == 0);
     if (refusal != VANECITRON_SPENT && place < VANECITRON_PLACE_SPACING) {
-        refused_least(book, book_length, u, u_length, 9, refusal, place); /* not past the first run, and before the lack of space */
+        /* not past the first run, and before the lack of space and what is wrong with the front */
+        const uint8_t strangers[] = {255, 255};
+        refused_run(least_of(book, book_length, u, u_length, 9), refusal, place);
+        refused_run(front_of(book, book_length, u, u_length, strangers, sizeof strangers, 9), refusal, place);
     }
     if (refusal == VANECITRON_SPENT || refusal == VANECITRON_LONG) {
         return; /* a round has no allowance, and another limit */
@@ -146,23 +173,71 @@ static void least_runs(void)
 {
     static const uint8_t run[VANECITRON_RUN + 1], stranger[] = {0, 4};
     for (size_t offset = 0; offset <= 4; offset++) {
-        uint8_t buffer[8], expected[8];
-        memset(buffer, 0xa5, sizeof buffer);
-        memset(expected, 0xa5, sizeof expected);
-        memcpy(expected + offset, left, sizeof left);
-        vanecitron_least_result l = vanecitron_least(example, Q, offset % 2 ? left : right, 4, buffer, sizeof buffer, offset);
-        CLAIM(l.refusal == VANECITRON_ACCEPTED && l.place == 0 && l.length == 4);
-        CLAIM(memcmp(buffer, expected, sizeof buffer) == 0);
+        written_run(least_of(example, Q, offset % 2 ? left : right, 4, offset), left, 4, offset);
     }
-    refused_least(example, Q, right, 4, 5, VANECITRON_NO_SPACE, 0);
-    refused_least(example, Q, right, 4, 8, VANECITRON_NO_SPACE, 0);
-    refused_least(example, Q, right, 4, SIZE_MAX, VANECITRON_NO_SPACE, 0);
-    refused_least(example, Q, right, 0, 9, VANECITRON_NO_SPACE, 0);
-    refused_least(example, Q, run, sizeof run, 9, VANECITRON_LONG, 0);
-    refused_least(example, Q, stranger, 2, 9, VANECITRON_STRANGER, 1);
+    refused_run(least_of(example, Q, right, 4, 5), VANECITRON_NO_SPACE, 0);
+    refused_run(least_of(example, Q, right, 4, 8), VANECITRON_NO_SPACE, 0);
+    refused_run(least_of(example, Q, right, 4, SIZE_MAX), VANECITRON_NO_SPACE, 0);
+    refused_run(least_of(example, Q, right, 0, 9), VANECITRON_NO_SPACE, 0);
+    refused_run(least_of(example, Q, run, sizeof run, 9), VANECITRON_LONG, 0);
+    refused_run(least_of(example, Q, stranger, 2, 9), VANECITRON_STRANGER, 1);
     vanecitron_least_result l = vanecitron_least(example, Q, NULL, 0, NULL, 0, 0);
     CLAIM(l.refusal == VANECITRON_ACCEPTED && l.place == 0 && l.length == 0);
     CLAIM(VANECITRON_LEAST_MOST == VANECITRON_RUN * VANECITRON_SIDE);
+}
+
+/*
+ * the sides of book Q are joined to each other alone, so that adb is left of each behind c, and bdc behind a; each letter is a piece, and no longer run is.
+ * Where that has no space, and where the empty run has
+ */
+static void fronts(void)
+{
+    static const uint8_t c = 2;
+    for (size_t offset = 0; offset <= 8; offset++) {
+        const uint8_t *u = offset % 2 ? left : right;
+        written_run(front_of(example, Q, &c, 1, &c, 1, offset), &c, 0, offset);
+        if (offset > 5) {
+            refused_run(front_of(example, Q, u, 4, &c, 1, offset), VANECITRON_NO_SPACE, 0);
+            refused_run(front_of(example, Q, u, 4, left, 1, offset), VANECITRON_NO_SPACE, 0);
+            refused_run(front_of(example, Q, u, 4, NULL, 0, offset), VANECITRON_NO_SPACE, 0);
+            continue;
+        }
+        written_run(front_of(example, Q, u, 4, &c, 1, offset), right + 1, 3, offset);
+        written_run(front_of(example, Q, u, 4, left, 1, offset), left + 1, 3, offset);
+    }
+    written_run(front_of(example, Q, right, 4, NULL, 0, 4), left, 4, 4);
+    refused_run(front_of(example, Q, right, 4, NULL, 0, 5), VANECITRON_NO_SPACE, 0);
+    refused_run(front_of(example, Q, &c, 1, &c, 1, 9), VANECITRON_NO_SPACE, 0);
+    refused_run(front_of(example, Q, &c, 1, &c, 1, SIZE_MAX), VANECITRON_NO_SPACE, 0);
+    vanecitron_least_result l = vanecitron_front(example, Q, NULL, 0, NULL, 0, NULL, 0, 0);
+    CLAIM(l.refusal == VANECITRON_ACCEPTED && l.place == 0 && l.length == 0);
+    l = vanecitron_front(example, Q, &c, 1, &c, 1, NULL, 0, 0);
+    CLAIM(l.refusal == VANECITRON_ACCEPTED && l.place == 0 && l.length == 0);
+
+    /* each refusal of the front, in their order: what comes later is wrong as well */
+    static uint8_t run[VANECITRON_RUN + 1], mark[VANECITRON_ROUND_MARK + 1];
+    static const uint8_t d = 3, stranger[] = {0, 4};
+    uint64_t place = 2 * VANECITRON_PLACE_SPACING;
+    memset(run, 4, sizeof run);
+    memset(mark, 4, sizeof mark);
+    refused_run(front_of(example, Q, run, sizeof run, mark, sizeof mark, 9), VANECITRON_LONG, 0);
+    refused_run(front_of(example, Q, stranger, 2, mark, sizeof mark, 9), VANECITRON_STRANGER, 1);
+    refused_run(front_of(example, Q, left, 4, mark, sizeof mark, 9), VANECITRON_LONG, place);
+    refused_run(front_of(example, Q, left, 4, mark, sizeof mark - 1, 9), VANECITRON_STRANGER, place);
+    refused_run(front_of(example, Q, left, 4, stranger, 2, 9), VANECITRON_STRANGER, place + 1);
+    memset(mark, 0, sizeof mark);
+    refused_run(front_of(example, Q, right, 4, mark, sizeof mark - 1, 9), VANECITRON_NOT_PIECE, 0);
+    refused_run(front_of(example, Q, right, 4, mark, 2, 9), VANECITRON_NOT_PIECE, 0);
+    refused_run(front_of(example, Q, left, 4, left, 2, 9), VANECITRON_NOT_PIECE, 0);
+    refused_run(front_of(example, Q, left, 4, left, 4, 9), VANECITRON_NOT_PIECE, 0);
+    refused_run(front_of(example, Q, left, 4, &d, 1, 9), VANECITRON_NO_FRONT, 0);
+    refused_run(front_of(example, Q, NULL, 0, &d, 1, 9), VANECITRON_NO_FRONT, 0);
+    refused_run(front_of(example, VANECITRON_BOOK_HEAD, left, 4, left, 1, 9), VANECITRON_NOT_PIECE, 0); /* no rules, and no piece but the empty run */
+
+    /* a side that stands twice is counted once: ab = ab has no piece but the empty run, and ab = ac has a; behind it b comes before c */
+    static const uint8_t twice[] = {1, 0, 1, 0, 4, 6, 0, 2, 0, 2, 2, 0, 1, 0, 1}, forked[] = {1, 0, 1, 0, 4, 6, 0, 2, 0, 2, 2, 0, 1, 0, 2};
+    refused_run(front_of(twice, sizeof twice, left, 2, left, 1, 0), VANECITRON_NOT_PIECE, 0);
+    written_run(front_of(forked, sizeof forked, forked + sizeof forked - 2, 2, left, 1, 7), left + 1, 1, 7);
 }
 
 /* a held book and a ticket, with guards behind them, and the sheet beside them; and what they were before a call */
@@ -593,13 +668,13 @@ static void version(void)
 static void texts(void)
 {
     const char *unknown = vanecitron_refusal_text(UINT32_MAX);
-    for (uint32_t refusal = VANECITRON_ACCEPTED; refusal <= VANECITRON_BOOK_WORN; refusal++) {
+    for (uint32_t refusal = VANECITRON_ACCEPTED; refusal <= VANECITRON_NO_FRONT; refusal++) {
         CLAIM((strcmp(vanecitron_refusal_text(refusal), unknown) == 0) == (refusal == VANECITRON_THICK + 1));
         for (uint32_t earlier = 0; earlier < refusal; earlier++) {
             CLAIM(strcmp(vanecitron_refusal_text(refusal), vanecitron_refusal_text(earlier)) != 0);
         }
     }
-    CLAIM(strcmp(vanecitron_refusal_text(VANECITRON_BOOK_WORN + 1), unknown) == 0);
+    CLAIM(strcmp(vanecitron_refusal_text(VANECITRON_NO_FRONT + 1), unknown) == 0);
 }
 
 /* the example written into a buffer of this size, between guards: byte for byte where it fits, else no book at all */
@@ -678,6 +753,7 @@ int main(void)
     outcomes();
     sheets();
     least_runs();
+    fronts();
     loadings();
     changes();
     refused_changes();

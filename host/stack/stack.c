@@ -69,6 +69,11 @@ static void call_least(void)
     written = vanecitron_least(book, book_length, u, u_length, least, least_room, offset);
 }
 
+static void call_front(void)
+{
+    written = vanecitron_front(book, book_length, u, u_length, p, p_length, least, least_room, offset);
+}
+
 static void call_program(void)
 {
     printed = vanecitron_program(input, input_length, output, output_room);
@@ -177,13 +182,23 @@ static void tell_compared(void)
     }
 }
 
-static void tell_written(void)
+static void tell_written(const char *word)
 {
     if (tell_refusal(written.refusal, written.place)) {
         return;
     }
-    strcpy(answer, "least");
+    strcpy(answer, word);
     tell_run(least + offset, written.length);
+}
+
+static void tell_least(void)
+{
+    tell_written("least");
+}
+
+static void tell_front(void)
+{
+    tell_written("front");
 }
 
 /* the last line of the output */
@@ -219,7 +234,8 @@ static struct function check = {"check", call_check, tell_checked, 0, 0};
 static struct function cut_sheet = {"cut_sheet", call_cut_sheet, tell_checked, 0, 0};
 static struct function single_round = {"round", call_round, tell_rounded, 0, 0};
 static struct function compare = {"compare", call_compare, tell_compared, 0, 0};
-static struct function least_run = {"least", call_least, tell_written, 0, 0};
+static struct function least_run = {"least", call_least, tell_least, 0, 0};
+static struct function front = {"front", call_front, tell_front, 0, 0};
 static struct function program = {"program", call_program, tell_printed, 0, 0};
 static struct function load = {"load", call_load, tell_checked, 0, 0};
 static struct function addition = {"add", call_add, tell_checked, 0, 0};
@@ -228,9 +244,9 @@ static struct function proposed_addition = {"propose_add", call_propose_add, tel
 static struct function proposed_withdrawal = {"propose_withdraw", call_propose_withdraw, tell_checked, 0, 0};
 static struct function posting = {"post", call_post, tell_checked, 0, 0};
 static struct function held_book = {"held_book", call_held_book, tell_found, 0, 0};
-static struct function *const functions[] = {&check,    &cut_sheet,  &single_round,      &compare,             &least_run, &program,  &load,
+static struct function *const functions[] = {&check,    &cut_sheet,  &single_round,      &compare,             &least_run, &front,    &program, &load,
                                              &addition, &withdrawal, &proposed_addition, &proposed_withdrawal, &posting,   &held_book};
-#define OF_BOOK 7u /* so many of them are given a book as it is */
+#define OF_BOOK 8u /* so many of them are given a book as it is */
 static int failed;
 
 /* the bytes of a painted stack that a call has written to, from its end down to the lowest */
@@ -549,6 +565,119 @@ static void least_runs(void)
     }
 }
 
+/*
+ * fronts that between them go each way: the empty one; steps that no rule begins with, and a front that ends in a side behind them; a side that stands in
+ * full or in part, with a front of its own or of another member of its family; one whose tail must then be a front of what follows; several runs behind one
+ * front, which no chain joins; none, and no piece
+ */
+static void fronts(void)
+{
+    static const char q[] = "abdc=cadb", ends[] = "acfe=bdge,em=no,gep=qr", third[] = "ada=ca,ca=e", family[] = "abdc=cadb,cadb=bcda";
+    static const struct {
+        const char *rules, *u, *p, *expected;
+    } cases[] = {
+        {"", "", "", "front -"},
+        {"", "ba", "", "front ba"},
+        {"", "ba", "b", "refused 18 0"},
+        {q, "cadb", "", "front abdc"},
+        {q, "", "a", "refused 19 0"},
+        {q, "b", "b", "front -"},
+        {q, "b", "a", "refused 19 0"},
+        {q, "bcadb", "b", "front abdc"},
+        {q, "cadb", "a", "front bdc"},
+        {q, "abdc", "c", "front adb"},
+        {q, "abdc", "d", "refused 19 0"},
+        {q, "abdc", "ab", "refused 18 0"},
+        {q, "abd", "a", "front bd"},
+        {q, "abd", "c", "refused 19 0"},
+        {q, "abdabdc", "c", "front adbadb"},
+        {q, "cadbadb", "a", "front bdabdc"},
+        {"ab=ab", "ab", "a", "refused 18 0"},
+        {"ab=ac", "acd", "a", "front bd"},
+        {"ba=bcb", "bacb", "b", "front aa"},
+        {"c=e,d=c", "ecd", "c", "refused 18 0"},
+        {"d=d,cac=d", "d", "c", "front ac"},
+        {ends, "no", "e", "front m"},
+        {ends, "qr", "ge", "front p"},
+        {ends, "qr", "g", "front ep"},
+        {ends, "gno", "ge", "front m"},
+        {ends, "gno", "g", "front em"},
+        {ends, "g", "ge", "refused 19 0"},
+        {"abcx=abcy,abdz=w", "w", "ab", "front dz"},
+        {"abcx=abcy,abdz=w", "w", "abc", "refused 19 0"},
+        {"abcx=abcy,abdz=w", "abcy", "abc", "front x"},
+        {third, "e", "a", "front da"},
+        {third, "ce", "a", "front dada"},
+        {"ad=c,c=aea", "cea", "a", "front dd"},
+        {family, "bcdcadb", "a", "front bdcbdc"},
+        {family, "abdcbdc", "b", "front cdabdc"},
+        {family, "bcdcadb", "d", "refused 19 0"},
+    };
+    for (size_t i = 0; i < sizeof cases / sizeof cases[0]; i++) {
+        book_of(cases[i].rules);
+        runs_of(cases[i].u, "", cases[i].p);
+        measure(&front, cases[i].expected);
+    }
+}
+
+/*
+ * a book in which 63 times e is a piece, the longest that there can be: two rules, each of a single step and of a side of 64, which has a step of its own, c or
+ * d, before the piece or behind it
+ */
+static void longest_piece_book(uint8_t first, uint8_t second, size_t own_at)
+{
+    uint8_t sides[2][VANECITRON_SIDE];
+    memset(sides, 4, sizeof sides);
+    sides[0][own_at] = 2;
+    sides[1][own_at] = 3;
+    begin_book(7);
+    add_rule(&first, 1, sides[0], VANECITRON_SIDE);
+    add_rule(&second, 1, sides[1], VANECITRON_SIDE);
+}
+
+/* a run of one step, behind so many times e, and the longest front */
+static void runs_behind_longest_piece(uint8_t step, size_t before)
+{
+    runs_of_step(step, VANECITRON_RUN, 0, 0);
+    memset(u, 4, before);
+    memset(p, 4, p_length = VANECITRON_SIDE - 1);
+}
+
+/*
+ * the longest front of the longest runs: u begins with it, and each step behind it is exchanged for 64, or stays; or u is joined to a run that begins with it,
+ * which leaves the longest run that such a front can leave, or one as long as u
+ */
+static void longest_fronts(void)
+{
+    static const size_t most = VANECITRON_SIDE - 1, behind = VANECITRON_SIDE * (VANECITRON_RUN - (VANECITRON_SIDE - 1));
+    longest_piece_book(5, 6, 0);
+    runs_behind_longest_piece(5, most);
+    measure(&front, "front 258112");
+    least_room = behind;
+    measure(&front, "front 258112");
+    least_room--;
+    measure(&front, "refused 14 0");
+    runs_behind_longest_piece(5, most - 1);
+    measure(&front, "refused 19 0");
+    runs_behind_longest_piece(5, most);
+    p[p_length++] = 4;
+    measure(&front, "refused 18 0");
+    longest_piece_book(0, 1, 0);
+    runs_behind_longest_piece(0, most);
+    measure(&front, "front 4033");
+
+    longest_piece_book(5, 6, most);
+    runs_behind_longest_piece(5, 0);
+    measure(&front, "front 262081");
+    offset = most;
+    measure(&front, "front 262081");
+    offset++;
+    measure(&front, "refused 14 0");
+    longest_piece_book(0, 1, most);
+    runs_behind_longest_piece(0, 0);
+    measure(&front, "front 4096");
+}
+
 /* rows 4 to 8 between the sides of the second rule of the full book with the longest pieces, by the lengths of the fronts of sides that u and v are */
 static void rows_of_full_book(void)
 {
@@ -572,8 +701,11 @@ static void rows_of_full_book(void)
     }
 }
 
-/* a full book with runs at their limits, and the program with a full input: the longest comparisons, then short ones, and the rest of a record */
-static void full_calls(void (*make_book)(void), const char *next, const char *same)
+/*
+ * a full book with runs at their limits, and the program with a full input: the longest comparisons, then short ones, and the rest of a record. The front that
+ * is taken off is that of the second side, of so many steps, while u begins with the first
+ */
+static void full_calls(void (*make_book)(void), const char *next, const char *same, size_t mark, const char *behind)
 {
     make_book();
     begin_call();
@@ -584,6 +716,10 @@ static void full_calls(void (*make_book)(void), const char *next, const char *sa
     runs_through_sides(VANECITRON_RUN);
     measure(&compare, same);
     measure(&least_run, "least 4096");
+    memcpy(p, full_side(1), p_length = mark);
+    measure(&front, behind);
+    p_length = 0;
+    measure(&front, "front 4096");
     begin_input();
     while (ask()) {
     }
@@ -842,7 +978,7 @@ static void full_book_with_a_shared_run(void)
     measure_comparison("refused 11 0");
 }
 
-/* refusals 9 to 11: each given run too long, each with a stranger, and an allowance used up */
+/* refusals 9 to 11: each given run too long, each with a stranger, and an allowance used up; and 18 and 19 */
 static void refused_runs(void)
 {
     full_random_book();
@@ -855,17 +991,27 @@ static void refused_runs(void)
     runs_of_step(0, VANECITRON_RUN + 1, 0, 0);
     measure_comparison("refused 9 0");
     measure(&least_run, "refused 9 0");
+    measure(&front, "refused 9 0");
     runs_of_step(0, VANECITRON_RUN, VANECITRON_RUN + 1, 0);
     measure_comparison("refused 9 5000");
     runs_of("a~", "a", "a");
     measure(&single_round, "refused 10 1");
     measure_comparison("refused 10 1");
     measure(&least_run, "refused 10 1");
+    measure(&front, "refused 10 1");
     runs_of("a", "aa~", "a");
     measure(&single_round, "refused 10 5002");
     measure_comparison("refused 10 5002");
     runs_of("a", "a", "~");
     measure(&single_round, "refused 10 10000");
+    measure(&front, "refused 10 10000");
+    runs_of_step(0, VANECITRON_RUN, 0, VANECITRON_ROUND_MARK + 1);
+    measure(&front, "refused 9 10000");
+    p_length--;
+    measure(&front, "refused 18 0");
+    p[0] = 1;
+    p_length = 1;
+    measure(&front, "refused 19 0");
     runs_through_sides(VANECITRON_RUN);
     allowance = 1;
     measure_comparison("refused 11 1");
@@ -890,10 +1036,15 @@ static void narrow_buffers(void)
         measure(buffers[i].function, buffers[i].expected);
     }
     runs_through_sides(VANECITRON_RUN);
+    memcpy(p, u, p_length = 1);
     least_room = VANECITRON_RUN - 1;
     measure(&least_run, "refused 14 0");
+    measure(&front, "front 4095");
+    least_room--;
+    measure(&front, "refused 14 0");
     offset = SIZE_MAX;
     measure(&least_run, "refused 14 0");
+    measure(&front, "refused 14 0");
 }
 
 /* what the program alone refuses: an input over the limit, and records behind the book that are cut off, of another kind, or of a wrong length */
@@ -925,8 +1076,10 @@ int main(void)
     rows_of_full_book();
     comparisons();
     least_runs();
-    full_calls(full_random_book, "next 4098 4098 -", "same 176");
-    full_calls(full_shared_book, "next 4126 4126 -", "same 1988");
+    fronts();
+    longest_fronts();
+    full_calls(full_random_book, "next 4098 4098 -", "same 176", 1, "front 4095");
+    full_calls(full_shared_book, "next 4126 4126 -", "same 1988", 30, "front 4066");
     limits();
     full_book_with_a_shared_run();
     full_held_books(full_random_book);

@@ -75,7 +75,7 @@ module _ (w old : List ℕ) (offset : ℕ) (h : offset + length w ≤ length old
       }
 
 -- where there is none, the outcome is 14
-placed-nowhere : (w old : List ℕ) (offset : ℕ) → length old < offset + length w → placedAt offset w old ≡ LeastOutcome.after (refused 14 0) old
+pub placed-nowhere : (w old : List ℕ) (offset : ℕ) → length old < offset + length w → placedAt offset w old ≡ LeastOutcome.after (refused 14 0) old
 unfolding placedAt lacksSpace
 placed-nowhere w old offset h = go (ltb (length old) offset) refl
   where

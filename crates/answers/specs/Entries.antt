@@ -11,7 +11,7 @@ use Rattle.words.specs.Families.{wordsOf, familyOf}
 use Rattle.congruence.specs.Rows.{Next, round}
 use Rattle.congruence.specs.Rows.Next.{end, go}
 use Rattle.refusals.specs.declared.Refusal.{Refusal}
-use Rattle.refusals.specs.declared.Refusal.the-variants.{Narrow, NoSpace}
+use Rattle.refusals.specs.declared.Refusal.the-variants.{Narrow, NoSpace, NoPrefix}
 use Rattle.limits.specs.Limits.{nextRoom, markMost, sheetColumns}
 use Rattle.format.specs.Book.{Presentation, BookReading}
 use Rattle.presentation.specs.Loading.{loadBook}
@@ -20,6 +20,7 @@ use Rattle.given.specs.declared.Given.the-variants as Words
 use Rattle.given.specs.Given.{onGiven, oneOf, tripleOf}
 use Rattle.sheet.specs.Sheet.{cutSheet}
 use Rattle.comparison.specs.Comparing.{comparisonOf}
+use Rattle.least.specs.Writing.{Found, found, absent}
 use Rattle.leastword.specs.Writing.{leastFor}
 use Rattle.output.specs.Program.{programOf}
 use Rattle.output.specs.Size.{outputMost}
@@ -95,6 +96,11 @@ unfoldable pub placedAt : ℕ → Word → List ℕ → LeastOutcome
 placedAt offset w buffer =
     cond (lacksSpace (length buffer) offset (length w)) (LeastOutcome.after (refusal NoSpace) buffer)
     (LeastOutcome.after (wrote (length w)) (take offset buffer ++ over w (drop offset buffer)))
+
+-- the same of what the rounds find; 19 where there is no such word
+abbrev pub foundAt : ℕ → Found → List ℕ → LeastOutcome
+foundAt offset (found w) buffer = placedAt offset w buffer
+foundAt offset absent buffer = LeastOutcome.after (refusal NoPrefix) buffer
 
 -- the least word under relation words B in families, of so many letters
 unfoldable pub loadedLeast : ℕ → List Word → (ℕ → ℕ) → Word → List ℕ → ℕ → LeastOutcome

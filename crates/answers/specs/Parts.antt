@@ -2,13 +2,18 @@
 use Prim.Native.Nat.{ℕ, _*_, _<_, _≤_}
 use mathlib.Core.Bool.{cond}
 use mathlib.Core.List.{List}
+use mathlib.Core.Path.{_≡_}
 use lib.Dec.{ltb}
 use lib.ListN.{length}
 use Rattle.words.specs.Words.{Word}
-use Rattle.limits.specs.Limits.{lettersMost, comparedMost, sheetColumns}
+use Rattle.limits.specs.Limits.{lettersMost, sheetColumns}
 use Rattle.refusals.specs.declared.Refusal.the-variants.{Narrow}
-use Rattle.moves.specs.State.{Ready}
-use Rattle.leastword.specs.Writing.{Asked}
+use Rattle.moves.specs.declared.Mark.{Mark}
+use Rattle.moves.specs.State.{Ready, placedMark}
+use Rattle.layout.specs.Layout.{wordsIn}
+use Rattle.layout.specs.Families.{familyBy}
+use Rattle.leastword.specs.declared.Counted.the-variants as Counts
+use Rattle.leastword.specs.Writing.{leastFrom, Asked, countedOf}
 use Rattle.rounds.specs.declared.RoundLengths.{RoundLengths}
 use Rattle.rounds.specs.declared.RoundLengths.the-variants as Lengths
 use Rattle.sheet.specs.Sheet.{sheetBytes, SideIn}
@@ -28,14 +33,14 @@ pub record LeastLoaded (text table : List ℕ) (n letters : ℕ) : Type 0 where
   pub ready : Ready text table n
   pub few : letters ≤ lettersMost
 
--- the same, and an array that has room for a word if that is within the limit
-pub record LeastGivable (text table : List ℕ) (n letters : ℕ) (u : Word) (wide : List ℕ) : Type 0 where
-  pub known : LeastLoaded text table n letters
-  pub room : length u ≤ comparedMost → length u ≤ length wide
+-- a word of which the least word behind a piece was asked, and has so many letters
+pub record LeastCounted (text table : List ℕ) (n : ℕ) (u : Word) (piece : Mark) (letters : ℕ) : Type 0 where
+  pub asked : Asked text table n u piece
+  pub counted : Counts.Letters letters ≡ countedOf (leastFrom (wordsIn text table n) (familyBy table n) (placedMark text piece) u)
 
--- a word of which the least word can be asked, and an array that has room for it
-pub record LeastWidenable (text table : List ℕ) (n : ℕ) (u : Word) (wide : List ℕ) : Type 0 where
-  pub asked : Asked text table n u
+-- a word of which the least word behind a piece can be asked, and an array that has room for it
+pub record LeastWidenable (text table : List ℕ) (n : ℕ) (u : Word) (piece : Mark) (wide : List ℕ) : Type 0 where
+  pub asked : Asked text table n u piece
   pub room : length u ≤ length wide
 
 -- the sheet by the table

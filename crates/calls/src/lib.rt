@@ -1,5 +1,5 @@
-// The answering of a line on a book by one call: what reading it gives, its check, its cut sheet, a single round, a least word, a comparison. Lent buffers are filled with
-// aa before a call; `touched` stands before an answer that came with a change of a byte which it must keep.
+// The answering of a line on a book by one call: what reading it gives, its check, its cut sheet, a single round, a least word, the removal of a prefix, a comparison. Lent buffers are
+// filled with aa before a call; `touched` stands before an answer that came with a change of a byte which it must keep.
 ghost use Rattle.fields.specs.Places.{Filled};
 ghost use Rattle.calls.specs.Places.{Lent};
 use comparison::Comparison;
@@ -93,7 +93,7 @@ fn place_least(line: &[u8], book: &[u8], u: &[u8]) {
     let n = fields::lent_field(line, 3, &buffer);
     let offset = fields::number_field(line, 4) as usize;
     let least = lend_least(book, u, &mut buffer, n, offset);
-    print_least(least, &buffer, offset);
+    print_placed(b"least ", least, &buffer, offset);
 }
 
 // The least word in the first bytes of a buffer.
@@ -103,10 +103,35 @@ fn lend_least(book: &[u8], u: &[u8], buffer: &mut [u8], n: usize, offset: usize)
     entries::least_word(book, u, &mut buffer[..n], offset)
 }
 
-// A least word, with the buffer after it.
-fn print_least(least: Least, buffer: &[u8], offset: usize) {
+// The removal of a prefix from a word.
+pub fn answer_front(line: &[u8], book: &[u8]) {
+    let mut u = fields::field_room();
+    let i = fields::put_field(line, 2, &mut u);
+    let mut p = [0u8; 256];
+    let k = fields::put_field(line, 3, &mut p);
+    place_behind(line, book, &u[..i], &p[..k]);
+}
+
+// The least word behind a prefix, in a buffer of the length that a line asks for, from its offset on.
+fn place_behind(line: &[u8], book: &[u8], u: &[u8], p: &[u8]) {
+    let mut buffer = fields::large_room();
+    let n = fields::lent_field(line, 4, &buffer);
+    let offset = fields::number_field(line, 5) as usize;
+    let least = lend_behind(book, u, p, &mut buffer, n, offset);
+    print_placed(b"front ", least, &buffer, offset);
+}
+
+// The least word behind a prefix in the first bytes of a buffer.
+fn lend_behind(book: &[u8], u: &[u8], p: &[u8], buffer: &mut [u8], n: usize, offset: usize) -> Least
+    requires { ⌜ Filled n (now buffer) ⌝ }
+{
+    removing::remove_prefix(book, u, p, &mut buffer[..n], offset)
+}
+
+// A word that was to be placed by a call of this name, with the buffer after it.
+fn print_placed(name: &[u8], least: Least, buffer: &[u8], offset: usize) {
     match least {
-        Least::Wrote(letters) => printing::print_least(buffer, offset, letters),
+        Least::Wrote(letters) => printing::print_placed(name, buffer, offset, letters),
         Least::Refused(refusal) => {
             printing::print_touched(buffer, 0);
             printing::print_refusal(refusal);

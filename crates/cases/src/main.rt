@@ -5,6 +5,7 @@
 //   sheet BOOK N               the cut sheet in a buffer of N bytes: `sheet BYTES`, the whole buffer
 //   round BOOK U V P N N N     a single round, with the lengths of the three buffers: `end same`, `end different` or `next U V P`
 //   least BOOK U N OFFSET      the least congruent word in a buffer of N bytes from an offset on: `least LENGTH BYTES`
+//   front BOOK U P N OFFSET    the least word w with P w congruent to U, in a buffer of N bytes from an offset on: `front LENGTH BYTES`
 //   compare BOOK U V N         a comparison with an allowance of N rounds: `same ROUNDS` or `different ROUNDS`
 //   held BOOK OP OP ..         a held book, loaded and then changed: a word for the loading and one for each OP
 // or `refused N P` (number, place). Any other line is a heading, and is printed as it is. Lent buffers are filled with aa before the call; `touched` stands
@@ -90,6 +91,8 @@ fn answer_call(word: &[u8], line: &[u8], book: &[u8]) {
         calls::answer_round(line, book);
     } else if fields::is_word(word, b"least") {
         calls::answer_least(line, book);
+    } else if fields::is_word(word, b"front") {
+        calls::answer_front(line, book);
     } else if fields::is_word(word, b"compare") {
         calls::answer_compare(line, book);
     } else if fields::is_word(word, b"held") {

@@ -1,7 +1,7 @@
 -- A law for each way that the checks of given words can go, and what words that are fine are.
 use Prim.Native.Nat.{ℕ, _+_, _<_, _≤_}
 use mathlib.Core.Bool.{Bool, true, false}
-use mathlib.Core.List.{List}
+use mathlib.Core.List.{List, []}
 use mathlib.Core.Path.{_≡_, refl, sym, ap, _∙_}
 use native.Mathlib.Omega.{arith}
 use borrow.Author.Needs.{needs}
@@ -23,7 +23,7 @@ use Rattle.letters.specs.Letters.{firstUnknown}
 use Rattle.letters.proofs.Letters.{known-of}
 use Rattle.given.specs.declared.Given.{Given}
 use Rattle.given.specs.declared.Given.the-variants.{Fine, Refused}
-use Rattle.given.specs.Given.{givenOf, onGiven, pairOf, tripleOf, Widened}
+use Rattle.given.specs.Given.{givenOf, onGiven, oneOf, markedOf, pairOf, tripleOf, Widened}
 
 -- what the word's constructor answers
 module _ (most n : ℕ) where
@@ -71,6 +71,18 @@ module _ (number most letters : ℕ) (w : Word) (made : MadeWord) (m : made ≡ 
     position-fits k l = let h = within in omega arith
 
 pub ruleset givens = (given-long, given-stranger, given-fine, position-fits, needs)
+
+-- a word and a front mark in turn
+module _ (letters : ℕ) (u p : Word) (a : Given) (e : a ≡ oneOf letters u) where
+  pub marked-first : (r : Refusal) → a ≡ Refused r → a ≡ markedOf letters u p
+  unfolding markedOf
+  marked-first r f = rw (← e, f)
+
+  pub marked-second : (b : Given) → a ≡ Fine → b ≡ givenOf 2 markMost letters p → b ≡ markedOf letters u p
+  unfolding markedOf
+  marked-second b f g = rw (← e, f) g
+
+pub ruleset marks = (marked-first, marked-second, needs)
 
 -- words in turn
 module _ (letters : ℕ) (u v : Word) (a : Given) (e : a ≡ givenOf 0 comparedMost letters u) where
@@ -139,6 +151,23 @@ fine-again m n most letters w e = go (ltb most (length w)) refl (ltb (firstUnkno
 pub fine-both : (g h : Given) → onGiven g Refused h ≡ Fine → (g ≡ Fine) × (h ≡ Fine)
 fine-both Fine h e = (refl, e)
 fine-both (Refused r) h e = let z : _≡_ {A = ℕ} 0 1 = cc in absurd (omega arith)
+
+-- of a word and a front mark, too
+pub fine-marked : (letters : ℕ) (u p : Word) → markedOf letters u p ≡ Fine → (oneOf letters u ≡ Fine) × (givenOf 2 markMost letters p ≡ Fine)
+unfolding markedOf
+fine-marked letters u p e = fine-both (oneOf letters u) (givenOf 2 markMost letters p) e
+
+-- the empty front mark is fine
+pub marked-nothing : (letters : ℕ) (u : Word) → markedOf letters u [] ≡ oneOf letters u
+unfolding markedOf givenOf firstUnknown
+marked-nothing letters u = go (oneOf letters u) refl
+  where
+    none : givenOf 2 markMost letters [] ≡ Fine
+    none = refl
+
+    go : (g : Given) → oneOf letters u ≡ g → onGiven (oneOf letters u) Refused (givenOf 2 markMost letters []) ≡ oneOf letters u
+    go Fine e = rw e none
+    go (Refused r) e = rw e
 
 -- a word at the start of an array
 pub widen-room : (w d : List ℕ) → length w ≤ length d → 0 + length w ≤ length d

@@ -29,6 +29,10 @@ onGiven (Refused r) stop next = stop r
 abbrev pub oneOf : ℕ → Word → Given
 oneOf letters u = givenOf 0 comparedMost letters u
 
+-- the word from which a prefix is removed, and that prefix, which is a front mark
+unfoldable pub markedOf : ℕ → Word → Word → Given
+markedOf letters u p = onGiven (oneOf letters u) Refused (givenOf 2 markMost letters p)
+
 -- the two words of a comparison
 unfoldable pub pairOf : ℕ → Word → Word → Given
 pairOf letters u v = onGiven (givenOf 0 comparedMost letters u) Refused (givenOf 1 comparedMost letters v)

@@ -2,7 +2,8 @@
 ghost use mathlib.Core.Path.{_≡_};
 ghost use Prim.Native.Nat.{_≤_};
 ghost use lib.ListN.{length};
-ghost use Rattle.given.specs.Given.{givenOf, oneOf, pairOf, tripleOf, Widened};
+ghost use Rattle.limits.specs.Limits.{markMost};
+ghost use Rattle.given.specs.Given.{givenOf, oneOf, markedOf, pairOf, tripleOf, Widened};
 use limits::MadeWord;
 use limits::Word;
 use refusals::Refusal;
@@ -32,11 +33,29 @@ fn check_word(number: u8, most: usize, letters: u8, word: &[u8]) -> Given
     Given::Fine
 }
 
+// A front mark, which is word 2 wherever one is given.
+fn check_mark(letters: u8, p: &[u8]) -> Given
+    ensures { λ r. ⌜ r ≡ givenOf 2 markMost letters (now (p .entry)) ⌝ }
+{
+    check_word(2, Word::MARK, letters, p)
+}
+
 // The word whose least congruent word is asked for.
 pub fn check_one(letters: u8, u: &[u8]) -> Given
     ensures { λ r. ⌜ r ≡ oneOf letters (now (u .entry)) ⌝ }
 {
     check_word(0, Word::COMPARED, letters, u)
+}
+
+// The word from which a prefix is removed, and that prefix, which is a front mark, in turn.
+pub fn check_marked(letters: u8, u: &[u8], p: &[u8]) -> Given
+    ensures { λ r. ⌜ r ≡ markedOf letters (now (u .entry)) (now (p .entry)) ⌝ }
+{
+    let first = check_one(letters, u);
+    let Given::Fine = first else {
+        return first;
+    };
+    check_mark(letters, p)
 }
 
 // The two words of a comparison, in turn.
@@ -62,7 +81,7 @@ pub fn check_triple(letters: u8, u: &[u8], v: &[u8], p: &[u8]) -> Given
     let Given::Fine = second else {
         return second;
     };
-    check_word(2, Word::MARK, letters, p)
+    check_mark(letters, p)
 }
 
 // Widens a given word into the start of an array.

@@ -1,6 +1,6 @@
 -- A law for each way that the writing of letters can go.
 use Prim.Native.Nat.{ℕ, _+_, _*_, _^_, _<_, _≤_}
-use mathlib.Core.Bool.{true, false}
+use mathlib.Core.Bool.{Bool, true, false}
 use mathlib.Core.List.{List}
 use mathlib.Core.Path.{_≡_, refl, sym, ap, _∙_, subst}
 use native.Mathlib.Omega.{arith}
@@ -12,8 +12,9 @@ use Rattle.words.specs.Words.{Word, part}
 use Rattle.words.proofs.Parts.{part-length}
 use Rattle.writing.specs.Writing.{written, Bytes, Narrowing}
 use Rattle.writing.proofs.Writing.{written-length}
+use Rattle.limits.specs.Limits.{sideMost}
 use Rattle.parts.specs.declared.Source.{Source}
-use Rattle.parts.specs.State.{LettersLow, sourceWord}
+use Rattle.parts.specs.State.{LettersLow, SourceFits, sourceWord}
 use Rattle.leastword.specs.Writing.{LettersPuttable, Puttable, Put}
 
 -- letters fit in bytes
@@ -31,6 +32,15 @@ module _ (c d : List ℕ) (at : ℕ) (p : LettersPuttable c at) where
   letters-kept h = record { behind = refl; long = refl; same = λ k. absurd (omega arith) }
 
 pub ruleset puts = (letters-narrow, letters-put, letters-kept, needs)
+
+-- a part has no more letters than a relation word
+pub source-short : (text : List ℕ) (given : Word) (source : Source) → SourceFits text given source → length (sourceWord text given source) ≤ sideMost
+unfolding sourceWord
+source-short text given source f = go (source .given) refl
+  where
+    go : (g : Bool) → source .given ≡ g → length (sourceWord text given source) ≤ sideMost
+    go true e = rw e (omega (arith, part-length given (source .from) (source .to) (f .inGiven e), f .short))
+    go false e = rw e (omega (arith, part-length text (source .from) (source .to) (f .inText e), f .short))
 
 module _ (text : List ℕ) (given : Word) (source : Source) (at : ℕ) (p : Puttable text given source at) where
   pub source-up : source .from ≤ source .to

@@ -1,10 +1,11 @@
-// The least congruent word of a given word, part by part: its letters are counted, and written at the start of a lent buffer as far as that has room.
+// The least congruent word of a given word, or the least word behind a piece with which it is congruent to it, part by part: its letters are counted, and written at
+// the start of a lent buffer as far as that has room. Both are one procedure, that starts with the piece as its mark.
 ghost use mathlib.Core.Path.{_≡_};
-ghost use lib.ListN.{length};
 ghost use Rattle.layout.specs.Layout.{wordsIn};
 ghost use Rattle.layout.specs.Families.{familyBy};
+ghost use Rattle.moves.specs.State.{placedMark};
 ghost use Rattle.parts.specs.State.{sourceWord};
-ghost use Rattle.leastword.specs.Writing.{leastFor, Asked, Puttable, Put, LettersPuttable, PutWhole};
+ghost use Rattle.leastword.specs.Writing.{leastFrom, Asked, Puttable, Put, LettersPuttable, countedOf, PutFound};
 use moves::Mark;
 use moves::PlacedWord;
 use parts::Hint;
@@ -12,6 +13,12 @@ use parts::LeastState;
 use parts::Source;
 use parts::Stage;
 use parts::make_part;
+
+// How many letters the word that was found has, or that there is none.
+pub enum Counted {
+    Letters(usize),
+    Absent,
+}
 
 // Writes letters from a place on if they have room there, and answers the place behind them.
 fn put_letters(letters: &[u16], out: &mut [u8], at: usize) -> usize
@@ -38,11 +45,18 @@ fn put_part(text: &[u16], given: &[u16], source: Source, out: &mut [u8], at: usi
     put_letters(&text[from..to], out, at)
 }
 
-// Writes the least word at the start of a buffer if it has room there, and answers how many letters it has. A buffer that is too small can be changed. A word is
-// congruent to itself, so that the rounds never find that there is none.
-pub fn write_least(text: &[u16], table: &[u16], n: usize, given: &[u16], out: &mut [u8]) -> usize
-    requires { ⌜ Asked (now text) (now table) n (now given) ⌝ }
-    ensures { λ r. ⌜ PutWhole (leastFor (wordsIn (now (text .entry)) (now (table .entry)) n) (familyBy (now (table .entry)) n) (now (given .entry))) (now (out .entry)) (now (out .exit)) r ⌝ }
+// Writes the least word behind a piece at the start of a buffer if it has room there, and answers how many letters it has, or that there is none. A buffer that is too
+// small can be changed. The piece is given by where it stands in the text; behind the empty one stands the least congruent word, of which there always is one.
+pub fn write_least(
+    text: &[u16],
+    table: &[u16],
+    n: usize,
+    given: &[u16],
+    piece: Mark,
+    out: &mut [u8],
+) -> Counted
+    requires { ⌜ Asked (now text) (now table) n (now given) piece ⌝ }
+    ensures { λ r. ⌜ PutFound (leastFrom (wordsIn (now (text .entry)) (now (table .entry)) n) (familyBy (now (table .entry)) n) (placedMark (now (text .entry)) piece) (now (given .entry))) (now (out .entry)) (now (out .exit)) r ⌝ }
 {
     let mut s = LeastState {
         word: PlacedWord {
@@ -50,15 +64,15 @@ pub fn write_least(text: &[u16], table: &[u16], n: usize, given: &[u16], out: &m
             to: 0,
             from: 0,
         },
-        mark: Mark { at: 0, to: 0 },
+        mark: piece,
         hint: Hint::Unknown,
     };
     let mut at = 0;
     loop {
         let stage = make_part(text, table, n, given, s);
         match stage {
-            Stage::End => return at,
-            Stage::None => return at,
+            Stage::End => return Counted::Letters(at),
+            Stage::None => return Counted::Absent,
             Stage::Go(source, next) => {
                 at = put_part(text, given, source, out, at);
                 s = next;
@@ -67,11 +81,11 @@ pub fn write_least(text: &[u16], table: &[u16], n: usize, given: &[u16], out: &m
     }
 }
 
-// How many letters the least word has: the counting pass, which has no room to write.
-pub fn count_least(text: &[u16], table: &[u16], n: usize, given: &[u16]) -> usize
-    requires { ⌜ Asked (now text) (now table) n (now given) ⌝ }
-    ensures { λ r. ⌜ r ≡ length (leastFor (wordsIn (now (text .entry)) (now (table .entry)) n) (familyBy (now (table .entry)) n) (now (given .entry))) ⌝ }
+// How many letters the least word behind a piece has, or that there is none: the counting pass, which has no room to write.
+pub fn count_least(text: &[u16], table: &[u16], n: usize, given: &[u16], piece: Mark) -> Counted
+    requires { ⌜ Asked (now text) (now table) n (now given) piece ⌝ }
+    ensures { λ r. ⌜ r ≡ countedOf (leastFrom (wordsIn (now (text .entry)) (now (table .entry)) n) (familyBy (now (table .entry)) n) (placedMark (now (text .entry)) piece) (now (given .entry))) ⌝ }
 {
     let mut none = [0u8; 0];
-    write_least(text, table, n, given, &mut none)
+    write_least(text, table, n, given, piece, &mut none)
 }

@@ -19,7 +19,7 @@ use Rattle.limits.specs.declared.Record.{Record}
 use Rattle.limits.specs.declared.Record.the-variants.{Whole, CutOff}
 use Rattle.limits.specs.Limits.{inputMost, relationsMost, comparisonKind, comparedMost}
 use Rattle.refusals.specs.declared.Refusal.{Refusal}
-use Rattle.refusals.specs.declared.Refusal.the-variants.{Short, Kind, Length, Range, UnknownLetter, TooMany, Loose, Long, Stranger, Spent, Narrow, Heavy, NoSpace, NoSuchRelation, StaleTicket, BookWorn}
+use Rattle.refusals.specs.declared.Refusal.the-variants.{Short, Kind, Length, Range, UnknownLetter, TooMany, Loose, Long, Stranger, Spent, Narrow, Heavy, NoSpace, NoSuchRelation, StaleTicket, BookWorn, NotPiece, NoPrefix}
 use Rattle.refusals.specs.Refusals.{numberAndPlace}
 use Rattle.letters.specs.Letters.{firstUnknown}
 use Rattle.format.specs.Book.{Presentation, BookReading, field, recordAt, differs, onWhole, readBook}
@@ -91,6 +91,8 @@ number-small NoSpace = omega arith
 number-small NoSuchRelation = omega arith
 number-small StaleTicket = omega arith
 number-small BookWorn = omega arith
+number-small NotPiece = omega arith
+number-small NoPrefix = omega arith
 
 -- the line of a refusal
 pub refused-short : (r : Refusal) → numberAndPlace r .place < numberMost → length (refusedLine r) ≤ lineMost

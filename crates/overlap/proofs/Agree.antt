@@ -1,21 +1,25 @@
 -- The tests that compute agree with the definitions in words (document 003, section 1): pieces, products of fewer than four pieces, C(4).
 use Prim.Native.Nat.{ℕ, zero, suc, _+_, _-_, _≤_, _<_}
-use mathlib.Core.Bool.{Bool, true, false, _&&_, true≢false, and-eq-true-iff}
-use mathlib.Core.List.{List, [], _++_, append-assoc}
+use mathlib.Core.Bool.{Bool, true, false, _&&_, _||_, true≢false, and-eq-true-iff}
+use mathlib.Core.List.{List, [], _∷_, _++_, append-assoc, append-nil}
 use mathlib.Core.Path.{_≡_, refl, sym, ap, _∙_, subst}
-use mathlib.Core.Logic.{_↔_}
+use mathlib.Core.Logic.{_↔_, _⊎_, inl, inr, ⊎-elim, by-cases}
 use native.Mathlib.Omega.{arith}
+use native.Mathlib.Decide.{decLt}
 use lib.Dec.{leb}
 use borrow.Author.Tests.{leb-true, le-leb}
-use lib.ListN.{length, take, drop, length-append}
+use lib.ListN.{length, take, drop, length-append, take-append-drop}
 use Rattle.words.specs.Search.{anyBelow, least}
-use Rattle.words.specs.Words.{Word}
+use lib.Seq.{length-take-le, drop-at, take-all}
+use Rattle.words.specs.Words.{Word, isEmpty, isPrefix}
+use Rattle.words.proofs.Tests.{or-found}
+use Rattle.words.proofs.Prefixes.{prefix-append, prefix-split}
 use Rattle.words.proofs.Searching.{any-of, any-found, least-bound, least-passes, least-first, least-is, least-none}
-use Rattle.overlap.specs.Pieces.{word, Occurs, IsPiece, empty, IsProduct, C4}
-use Rattle.overlap.specs.Cuts.{len, pieceAt, three, loose, firstLoose}
+use Rattle.overlap.specs.Pieces.{word, Occurs, IsPiece, empty, twice, IsProduct, C4}
+use Rattle.overlap.specs.Cuts.{len, pieceAt, isPiece, three, loose, firstLoose}
 use Rattle.overlap.specs.Verdict.{FewPieces, Lowest}
 use Rattle.overlap.proofs.Places.{piece-of-test, test-of-piece, piece-part, length-segment}
-use Rattle.overlap.proofs.Occurrences.{occurs-segment, occurs-fits, is-piece-of-occurs, place-of-is-piece}
+use Rattle.overlap.proofs.Occurrences.{occurs-segment, occurs-fits, occurs-is, is-piece-of-occurs, place-of-is-piece}
 use Rattle.overlap.proofs.Facts.{product-of-three}
 
 -- of a word that occurs, the test at that place says whether it is a piece
@@ -28,6 +32,71 @@ pub pieceAt-iff-segment-piece : (B : List Word) (i p n : ℕ) → i < length B �
 pieceAt-iff-segment-piece B i p n h f =
     subst (λ m. pieceAt B i p m ≡ true ↔ IsPiece B (take n (drop p (word B i)))) (length-segment (word B i) p n f)
     (pieceAt-iff-piece B (take n (drop p (word B i))) i p (occurs-segment B i p n h f))
+
+-- a word that is a prefix of what follows place p occurs there
+pub occurs-prefix : (B : List Word) (w : Word) (i p : ℕ) → i < length B → p < len B i → isPrefix w (drop p (word B i)) ≡ true → Occurs B w i p
+occurs-prefix B w i p h l e =
+    record {
+      there = h;
+      before = take p (word B i);
+      after = drop (length w) (drop p (word B i));
+      split = ap (take p (word B i) ++_) (prefix-split w (drop p (word B i)) e) ∙ take-append-drop p (word B i);
+      place = length-take-le p (word B i) (omega arith);
+    }
+
+-- and a word that occurs is one
+prefix-occurs : {B : List Word} {w : Word} {i p : ℕ} → Occurs B w i p → isPrefix w (drop p (word B i)) ≡ true
+prefix-occurs {B} {w} {i} {p} o =
+    let d : drop p (word B i) ≡ w ++ o .after = ap (drop p) (sym (o .split)) ∙ drop-at (o .before) (w ++ o .after) p (o .place) in
+    ap (isPrefix w) d ∙ prefix-append w (o .after)
+
+-- the test of a word by itself: if it is not empty, it is asked wherever it stands
+abbrev standsAt : List Word → Word → ℕ → ℕ → Bool
+standsAt B w i p = isPrefix w (drop p (word B i)) && pieceAt B i p (length w)
+
+empty-word : (w : Word) → isEmpty w ≡ true → w ≡ []
+empty-word [] e = refl
+empty-word (x ∷ w) e = absurd (true≢false (sym e))
+
+pub piece-stands : (B : List Word) (w : Word) → isPiece B w ≡ true → (w ≡ []) ⊎ ((i : ℕ) × (p : ℕ) × Occurs B w i p × IsPiece B w)
+unfolding isPiece
+piece-stands B w e =
+    ⊎-elim (λ f. inl (empty-word w f))
+    (λ f.
+    let (i, h, g) = any-found (length B) (λ i. anyBelow (len B i) (standsAt B w i)) f in
+    let (p, l, k) = any-found (len B i) (standsAt B w i) g in
+    let r = simp and-eq-true-iff at k in
+    let o = occurs-prefix B w i p h l (r .0) in
+    inr (i, p, o, pieceAt-iff-piece B w i p o .0 (r .1)))
+    (or-found (isEmpty w) (anyBelow (length B) (λ i. anyBelow (len B i) (standsAt B w i))) e)
+
+pub isPiece-of-occurs : (B : List Word) (w : Word) (i p : ℕ) → Occurs B w i p → IsPiece B w → isPiece B w ≡ true
+unfolding isPiece
+isPiece-of-occurs B [] i p o c = refl
+isPiece-of-occurs B (x ∷ w) i p o c =
+    let l = occurs-fits o in
+    any-of (length B) (λ i. anyBelow (len B i) (standsAt B (x ∷ w) i)) i (o .there)
+    (any-of (len B i) (standsAt B (x ∷ w) i) p (omega arith) (simp and-eq-true-iff (prefix-occurs o, pieceAt-iff-piece B (x ∷ w) i p o .1 c)))
+
+-- it is true exactly of pieces
+pub isPiece-iff-piece : (B : List Word) (w : Word) → isPiece B w ≡ true ↔ IsPiece B w
+unfolding isPiece
+isPiece-iff-piece B w = (λ e. ⊎-elim (λ f. empty f) (λ f. f .3) (piece-stands B w e), back)
+  where
+    back : IsPiece B w → isPiece B w ≡ true
+    back (empty e) = rw e
+    back (twice i p j q a b d) = isPiece-of-occurs B w i p a (twice i p j q a b d)
+
+-- under C(4) a piece is shorter than a relation word that it stands in: else that word were a product of one piece
+pub piece-shorter : (B : List Word) → C4 B → (w : Word) (i p : ℕ) → IsPiece B w → Occurs B w i p → length w < len B i
+unfolding IsProduct
+piece-shorter B c w i p s o = by-cases (decLt (length w) (len B i)) (λ l. l) (λ l.
+    let f = occurs-fits o in
+    let n : p ≡ 0 = omega arith in
+    let m : length w ≡ len B i = omega arith in
+    let e : take (length w) (drop p (word B i)) ≡ word B i = rw (n, m) (take-all (len B i) (word B i) (omega arith)) in
+    let same : w ≡ word B i = sym (occurs-is o) ∙ e in
+    absurd (c i 1 (o .there) (omega arith) (w, [], append-nil w ∙ same, s, refl)))
 
 -- what the search for three parts finds
 pub three-found : (piece : ℕ → ℕ → Bool) (n : ℕ) → three piece n ≡ true

@@ -8,8 +8,8 @@ use Rattle.words.specs.Words.{Word}
 use Rattle.words.specs.Families.{distinctWords}
 use Rattle.overlap.specs.Pieces.{word, SmallOverlap}
 use Rattle.overlap.specs.Counts.{noProduct, number, pieceCount, NumbersAtLeast}
-use Rattle.overlap.specs.Theorems.{TestsPieces, VerdictsRight, AcceptsC4, CountsFewest, NumbersDecide, NumbersSmall, LoneLetters, CutsMaximal, CutsGood, PiecesClosed}
-use Rattle.overlap.proofs.Agree.{pieceAt-iff-segment-piece, loose-iff-few-pieces}
+use Rattle.overlap.specs.Theorems.{TestsPieces, WordsTested, VerdictsRight, AcceptsC4, CountsFewest, NumbersDecide, NumbersSmall, LoneLetters, CutsMaximal, CutsGood, PiecesClosed}
+use Rattle.overlap.proofs.Agree.{pieceAt-iff-segment-piece, isPiece-iff-piece, piece-shorter, loose-iff-few-pieces}
 use Rattle.overlap.proofs.Counts.{count-fewest, count-iff-fewest, count-short, number-iff-no-fewer, number-below, number-iff-none, none-iff-lone}
 use Rattle.overlap.proofs.Maximal.{x-maximal, z-maximal, cut-whole, y-has-letters, y-is-no-piece, xy-occurs-once, piece-prefix-in-x}
 use Rattle.overlap.proofs.Occurrences.{factor-of-piece, piece-of-more}
@@ -17,6 +17,9 @@ use Rattle.overlap.proofs.Verdicts.{judge-iff-right, judge-accepts-iff-
 
 pub tests-pieces : TestsPieces
 tests-pieces = pieceAt-iff-segment-piece
+
+pub words-tested : WordsTested
+words-tested = record { tests = isPiece-iff-piece; shorter = piece-shorter }
 
 pub verdicts-right : VerdictsRight
 verdicts-right = judge-iff-right

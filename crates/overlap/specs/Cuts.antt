@@ -5,7 +5,7 @@ use mathlib.Core.List.{List}
 use lib.Dec.{eqb, leb}
 use lib.ListN.{length, take, drop}
 use Rattle.words.specs.Search.{anyBelow, least, greatest}
-use Rattle.words.specs.Words.{Word, isPrefix}
+use Rattle.words.specs.Words.{Word, isEmpty, isPrefix}
 use Rattle.overlap.specs.Pieces.{word}
 
 -- the length of relation word i
@@ -19,6 +19,10 @@ twin B i p n j q = not (eqb i j && eqb p q) && isPrefix (take n (drop p (word B 
 -- the n letters of relation word i from p on are a piece
 unfoldable pub pieceAt : List Word → ℕ → ℕ → ℕ → Bool
 pieceAt B i p n = eqb n 0 || anyBelow (length B) (λ j. anyBelow (len B j) (twin B i p n j))
+
+-- w is a piece: it is empty, or it stands in some relation word, and what stands there is a piece
+unfoldable pub isPiece : List Word → Word → Bool
+isPiece B w = isEmpty w || anyBelow (length B) (λ i. anyBelow (len B i) (λ p. isPrefix w (drop p (word B i)) && pieceAt B i p (length w)))
 
 -- n letters fall into three parts, each a piece by the test `piece FROM LENGTH`; parts may be empty
 unfoldable pub three : (ℕ → ℕ → Bool) → ℕ → Bool

@@ -8,7 +8,7 @@ use lib.ListN.{length, getD, take, drop}
 use Rattle.words.specs.Words.{Word, isPrefix}
 use Rattle.words.specs.Families.{distinctWords}
 use Rattle.overlap.specs.Pieces.{word, Occurs, IsPiece, IsProduct, SmallOverlap, C4}
-use Rattle.overlap.specs.Cuts.{len, pieceAt, loose, xOf, xyOf, zOf}
+use Rattle.overlap.specs.Cuts.{len, pieceAt, isPiece, loose, xOf, xyOf, zOf}
 use Rattle.overlap.specs.Counts.{PieceCount, pieces, noProduct, number, FewestPieces, pieceCount, NumbersAtLeast}
 use Rattle.overlap.specs.Maximal.{MaximalPiecePrefix, MaximalPieceSuffix, yOf}
 use Rattle.overlap.specs.Verdict.{Verdict, judge, RightVerdict}
@@ -16,6 +16,11 @@ use Rattle.overlap.specs.Verdict.{Verdict, judge, RightVerdict}
 -- the test for a piece is true exactly of pieces
 abbrev pub TestsPieces : Type 0
 TestsPieces = (B : List Word) (i p n : ℕ) → i < length B → p + n ≤ len B i → (pieceAt B i p n ≡ true) ↔ IsPiece B (take n (drop p (word B i)))
+
+-- so is the test of a word by itself, wherever it stands; and under C(4) a piece is shorter than every relation word that it stands in
+pub record WordsTested : Type 0 where
+  pub tests : (B : List Word) (w : Word) → (isPiece B w ≡ true) ↔ IsPiece B w
+  pub shorter : (B : List Word) → C4 B → (w : Word) (i p : ℕ) → IsPiece B w → Occurs B w i p → length w < len B i
 
 -- the verdict that is computed is the right one, and no other is
 abbrev pub VerdictsRight : Type 0

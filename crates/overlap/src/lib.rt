@@ -1,11 +1,16 @@
 // Pieces, C(4) and cuts: definitions and laws, with no code under them (document 003, section 1).
 // What is shown of them is the contracts of functions that do nothing, so that it is found here and the check holds it fast.
-ghost use Rattle.overlap.specs.Theorems.{TestsPieces, VerdictsRight, AcceptsC4, CountsFewest, NumbersDecide, NumbersSmall, LoneLetters, CutsMaximal, CutsGood, PiecesClosed, FewerKeepC4};
+ghost use Rattle.overlap.specs.Theorems.{TestsPieces, WordsTested, VerdictsRight, AcceptsC4, CountsFewest, NumbersDecide, NumbersSmall, LoneLetters, CutsMaximal, CutsGood, PiecesClosed, FewerKeepC4};
 ghost use Rattle.overlap.specs.Examples.{NumbersHold};
 
 // The test for a piece is true exactly of pieces.
 pub fn test_is_for_pieces()
     ensures { λ _. ⌜ TestsPieces ⌝ }
+{}
+
+// So is the test of a word by itself; and under C(4) a piece is shorter than every relation word that it stands in.
+pub fn words_are_tested()
+    ensures { λ _. ⌜ WordsTested ⌝ }
 {}
 
 // The verdict that is computed is the right one.

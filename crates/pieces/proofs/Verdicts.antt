@@ -7,8 +7,8 @@ use native.Mathlib.Omega.{arith}
 use native.Mathlib.Decide.{decLt}
 use borrow.Author.Needs.{needs}
 use borrow.Author.Tests.{lt-ltb, le-ltb}
-use lib.ListN.{length, take, replicate, length-replicate}
-use lib.Seq.{length-take-le}
+use lib.ListN.{length, getD, take, replicate, length-replicate, length-take}
+use lib.Seq.{length-take-le, getD-take, take-all}
 use Rattle.words.specs.Words.{Word}
 use Rattle.overlap.specs.Pieces.{C4}
 use Rattle.overlap.specs.Cuts.{firstLoose}
@@ -19,13 +19,14 @@ use Rattle.layout.proofs.Placed.{words-length, start-bound}
 use Rattle.layout.proofs.Whole.{words-take, whole-inside, whole-long, whole-laid, whole-ends, whole-words, whole-bytes}
 use Rattle.writing.specs.Writing.{written, Narrowing}
 use Rattle.writing.proofs.Writing.{written-length, written-taken}
+use Rattle.longest.specs.Longest.{Tabled}
 use Rattle.loose.specs.Pieces.{Fenced, AllInTables, Measurable, Measured}
 use Rattle.loose.proofs.Lowest.{all-in-tables}
 use Rattle.cuts.specs.Cutting.{CutBy}
 use Rattle.cuts.proofs.Cutting.{cut-true, words-kept, laid-kept}
 use Rattle.pieces.specs.declared.Judged.{Judged}
 use Rattle.pieces.specs.declared.Judged.the-variants.{Accepted, Loose}
-use Rattle.pieces.specs.Judging.{Recut, Judging, judgedOf}
+use Rattle.pieces.specs.Judging.{Recut, Judging, judgedOf, PiecesTabled, LongestKept, JudgedKept}
 
 -- the answers have different names
 said : Judged → ℕ
@@ -39,6 +40,25 @@ accepted-not-loose e = let d = ap said e in absurd (omega (arith, d))
 loose-number : (i k : ℕ) → Loose i ≡ Loose k → i ≡ k
 loose-number i k e = cc
 
+-- the table is copied, or the array has no room
+pub keep-copied : (longest array kept : List ℕ) → kept ≡ written 0 longest array → LongestKept longest array kept
+keep-copied longest array kept e = record { same = λ h. written-taken longest array kept e }
+
+pub keep-nothing : (longest array : List ℕ) → length array < length longest → LongestKept longest array array
+keep-nothing longest array h = record { same = λ k. absurd (omega arith) }
+
+pub ruleset keeps = (keep-copied, keep-nothing, needs)
+
+-- a copy of a table is one
+tabled-copy : (text longest kept : List ℕ) → Tabled text longest → take (length longest) kept ≡ longest → Tabled text kept
+tabled-copy text longest kept t e =
+    let l = ap length e in
+    let m = length-take (length longest) kept in
+    record {
+      room = omega (arith, t .room);
+      at = λ p h. sym (getD-take (length longest) kept p 0 (omega (arith, t .room))) ∙ ap (λ (w : List ℕ). getD w p 0) e ∙ t .at p h;
+    }
+
 -- a text that ends with its last fence
 module _ (text table : List ℕ) (n : ℕ) (f : Fenced text table n) where
   pub whole-measurable : Measurable text table n (replicate textRoom 0)
@@ -48,29 +68,42 @@ module _ (text table : List ℕ) (n : ℕ) (f : Fenced text table n) where
     pub whole-tables : AllInTables longest table n
     whole-tables = all-in-tables text table longest n f (m .tabled)
 
-    pub whole-loose : r < n → Judging text table n table (Loose r)
-    unfolding judgedOf
-    whole-loose h =
-        let e = m .lowest in
-        let l = words-length text table n in
-        let t = lt-ltb (firstLoose (wordsIn text table n)) (length (wordsIn text table n)) (omega (arith, e, l, h)) in
-        record {
-          verdict = rw t (ap Loose e);
-          cuts = λ d. accepted-not-loose (sym d);
-          looses = λ i d. refl;
-        }
+    module _ (long : length longest ≡ textRoom) (array kept : List ℕ) (k : LongestKept longest array kept) where
+      -- it is the text as far as its last fence
+      whole-kept : textRoom ≤ length array → PiecesTabled text table n kept
+      whole-kept h =
+          subst (λ (t : List ℕ). Tabled t kept) (sym (take-all (startOf table n) text (omega (arith, f .whole))))
+          (tabled-copy text longest kept (m .tabled) (k .same (omega (arith, long))))
 
-    pub whole-cut : n ≤ r → (after : List ℕ) → CutBy longest table n after → Judging text table n after Accepted
-    unfolding judgedOf
-    whole-cut h after c =
-        let e = m .lowest in
-        let l = words-length text table n in
-        let t = le-ltb (firstLoose (wordsIn text table n)) (length (wordsIn text table n)) (omega (arith, e, l, h)) in
-        record {
-          verdict = rw t;
-          cuts = λ d. record { kept = c .kept; cut = cut-true text table longest after n f (m .tabled) c };
-          looses = λ i d. accepted-not-loose d;
-        }
+      pub whole-loose : r < n → JudgedKept text table n array table kept (Loose r)
+      unfolding judgedOf
+      whole-loose h =
+          let e = m .lowest in
+          let l = words-length text table n in
+          let t = lt-ltb (firstLoose (wordsIn text table n)) (length (wordsIn text table n)) (omega (arith, e, l, h)) in
+          record {
+            judging = record {
+              verdict = rw t (ap Loose e);
+              cuts = λ d. accepted-not-loose (sym d);
+              looses = λ i d. refl;
+            };
+            tabled = whole-kept;
+          }
+
+      pub whole-cut : n ≤ r → (after : List ℕ) → CutBy longest table n after → JudgedKept text table n array after kept Accepted
+      unfolding judgedOf
+      whole-cut h after c =
+          let e = m .lowest in
+          let l = words-length text table n in
+          let t = le-ltb (firstLoose (wordsIn text table n)) (length (wordsIn text table n)) (omega (arith, e, l, h)) in
+          record {
+            judging = record {
+              verdict = rw t;
+              cuts = λ d. record { kept = c .kept; cut = cut-true text table longest after n f (m .tabled) c };
+              looses = λ i d. accepted-not-loose d;
+            };
+            tabled = whole-kept;
+          }
 
 pub ruleset wholes = (whole-measurable, whole-tables, whole-loose, whole-cut, needs)
 
@@ -111,14 +144,22 @@ module _ (text table : List ℕ) (n : ℕ) (f : Laid text table n) (t : ℕ) (e 
         let c = r .cut in
         record { kept = k; cut = record { xEnd = λ i h. rw w at (c .xEnd i h); zStart = λ i h. rw w at (c .zStart i h); pieces = λ i h. rw w at (c .pieces i h) } }
 
-    pub copied-judged : (after : List ℕ) (r : Judged) → Judging (take t b) table n after r
-        → Judging text table n after r
-    copied-judged after r j₀ =
-        let j : Judging (take t text) table n after r = rw copied at j₀ in
+    -- the text as far as its last fence has itself as that part
+    copied-tabled : (kept : List ℕ) → PiecesTabled (take t b) table n kept → PiecesTabled text table n kept
+    copied-tabled kept p =
+        let w : take (startOf table n) (take t b) ≡ take (startOf table n) text = ap (λ (k : ℕ). take k (take t b)) (sym e) ∙ take-all t (take t b) (omega (arith, copied-long)) ∙ copied ∙ ap (λ (k : ℕ). take k text) e in
+        subst (λ (u : List ℕ). Tabled u kept) w p
+
+    pub copied-judged : (array after kept : List ℕ) (r : Judged) → JudgedKept (take t b) table n array after kept r → JudgedKept text table n array after kept r
+    copied-judged array after kept r k =
+        let w : Judging (take t text) table n after r = rw copied at (k .judging) in
         record {
-          verdict = rw (← whole-words text table n f t e) (j .verdict);
-          cuts = λ d. whole-recut after (j .cuts d);
-          looses = j .looses;
+          judging = record {
+            verdict = rw (← whole-words text table n f t e) (w .verdict);
+            cuts = λ d. whole-recut after (w .cuts d);
+            looses = w .looses;
+          };
+          tabled = λ h. copied-tabled kept (k .tabled h);
         }
 
 pub ruleset copies = (copy-inside, copy-long, copy-narrowing, copied-inside, copied-long, copied-fenced, copied-judged, needs)

@@ -1,18 +1,21 @@
-// The least word of a given word under a loaded book: the word is checked, its least word counted, and then written into the part of a lent buffer from an offset on.
-// A part for the entries, which load the book.
+// The least word of a given word under a loaded book, or the least word behind a piece: its letters are counted, and it is then written into the part of a lent buffer from
+// an offset on. Parts for the entries, which load the book.
 ghost use mathlib.Core.Path.{_≡_};
 ghost use Rattle.layout.specs.Layout.{wordsIn};
 ghost use Rattle.layout.specs.Families.{familyBy};
-ghost use Rattle.leastword.specs.Writing.{leastFor, Asked};
+ghost use Rattle.moves.specs.State.{placedMark};
+ghost use Rattle.leastword.specs.Writing.{leastFrom, Asked};
 ghost use Rattle.answers.specs.Answers.{ofLeast};
-ghost use Rattle.answers.specs.Entries.{LeastOutcome as Leasts, lacksSpace, placedAt, loadedLeast};
-ghost use Rattle.answers.specs.Parts.{LeastLoaded, LeastGivable, LeastWidenable};
+ghost use Rattle.answers.specs.Entries.{LeastOutcome as Leasts, lacksSpace, foundAt, loadedLeast};
+ghost use Rattle.answers.specs.Parts.{LeastLoaded, LeastCounted, LeastWidenable};
 use answers::Least;
 use given::Given;
 use given::widen_word;
+use leastword::Counted;
 use leastword::count_least;
 use leastword::write_least;
 use limits::Word;
+use moves::Mark;
 use refusals::Refusal;
 
 // Whether a lent buffer has no space for so many letters behind an offset.
@@ -25,24 +28,45 @@ fn lacks_space(room: usize, offset: usize, letters: usize) -> bool
     room - offset < letters
 }
 
-// The least word of a word that is fine, in the part of a buffer from an offset on. A counting pass tells before a byte is written whether it has space there.
+// The least word behind a piece, where it was counted to have so many letters, in the part of a buffer from an offset on.
+fn place_counted(
+    text: &[u16],
+    table: &[u16],
+    n: usize,
+    u: &[u16],
+    piece: Mark,
+    letters: usize,
+    buffer: &mut [u8],
+    offset: usize,
+) -> Least
+    requires { ⌜ LeastCounted (now text) (now table) n (now u) piece letters ⌝ }
+    ensures { λ r. ⌜ Leasts.after (ofLeast r) (now (buffer .exit)) ≡ foundAt offset (leastFrom (wordsIn (now (text .entry)) (now (table .entry)) n) (familyBy (now (table .entry)) n) (placedMark (now (text .entry)) piece) (now (u .entry))) (now (buffer .entry)) ⌝ }
+{
+    if lacks_space(buffer.len(), offset, letters) {
+        return Least::Refused(Refusal::NoSpace);
+    }
+    write_least(text, table, n, u, piece, &mut buffer[offset..]);
+    Least::Wrote(letters)
+}
+
+// The least word behind a piece, of a word that is fine. A counting pass tells before a byte is written whether there is one, and whether it has space.
 fn place_least(
     text: &[u16],
     table: &[u16],
     n: usize,
     u: &[u16],
+    piece: Mark,
     buffer: &mut [u8],
     offset: usize,
 ) -> Least
-    requires { ⌜ Asked (now text) (now table) n (now u) ⌝ }
-    ensures { λ r. ⌜ Leasts.after (ofLeast r) (now (buffer .exit)) ≡ placedAt offset (leastFor (wordsIn (now (text .entry)) (now (table .entry)) n) (familyBy (now (table .entry)) n) (now (u .entry))) (now (buffer .entry)) ⌝ }
+    requires { ⌜ Asked (now text) (now table) n (now u) piece ⌝ }
+    ensures { λ r. ⌜ Leasts.after (ofLeast r) (now (buffer .exit)) ≡ foundAt offset (leastFrom (wordsIn (now (text .entry)) (now (table .entry)) n) (familyBy (now (table .entry)) n) (placedMark (now (text .entry)) piece) (now (u .entry))) (now (buffer .entry)) ⌝ }
 {
-    let letters = count_least(text, table, n, u);
-    if lacks_space(buffer.len(), offset, letters) {
-        return Least::Refused(Refusal::NoSpace);
-    }
-    write_least(text, table, n, u, &mut buffer[offset..]);
-    Least::Wrote(letters)
+    let counted = count_least(text, table, n, u, piece);
+    let Counted::Letters(letters) = counted else {
+        return Least::Refused(Refusal::NoPrefix);
+    };
+    place_counted(text, table, n, u, piece, letters, buffer, offset)
 }
 
 // The same of a word in bytes, which is widened into a lent array.
@@ -51,56 +75,56 @@ fn place_bytes(
     table: &[u16],
     n: usize,
     u: &[u8],
+    piece: Mark,
     wide: &mut [u16],
     buffer: &mut [u8],
     offset: usize,
 ) -> Least
-    requires { ⌜ LeastWidenable (now text) (now table) n (now u) (now wide) ⌝ }
-    ensures { λ r. ⌜ Leasts.after (ofLeast r) (now (buffer .exit)) ≡ placedAt offset (leastFor (wordsIn (now (text .entry)) (now (table .entry)) n) (familyBy (now (table .entry)) n) (now (u .entry))) (now (buffer .entry)) ⌝ }
+    requires { ⌜ LeastWidenable (now text) (now table) n (now u) piece (now wide) ⌝ }
+    ensures { λ r. ⌜ Leasts.after (ofLeast r) (now (buffer .exit)) ≡ foundAt offset (leastFrom (wordsIn (now (text .entry)) (now (table .entry)) n) (familyBy (now (table .entry)) n) (placedMark (now (text .entry)) piece) (now (u .entry))) (now (buffer .entry)) ⌝ }
 {
     widen_word(u, wide);
-    place_least(text, table, n, &wide[..u.len()], buffer, offset)
-}
-
-// The least word of a given word, which is checked first, under a loaded book of so many letters, and an array with room for it if it is within its limit.
-fn least_given(
-    text: &[u16],
-    table: &[u16],
-    n: usize,
-    letters: u8,
-    u: &[u8],
-    wide: &mut [u16],
-    buffer: &mut [u8],
-    offset: usize,
-) -> Least
-    requires { ⌜ LeastGivable (now text) (now table) n letters (now u) (now wide) ⌝ }
-    ensures { λ r. ⌜ Leasts.after (ofLeast r) (now (buffer .exit)) ≡ loadedLeast letters (wordsIn (now (text .entry)) (now (table .entry)) n) (familyBy (now (table .entry)) n) (now (u .entry)) (now (buffer .entry)) offset ⌝ }
-{
-    let given = given::check_one(letters, u);
-    match given {
-        Given::Refused(refusal) => Least::Refused(refusal),
-        Given::Fine => place_bytes(text, table, n, u, wide, buffer, offset),
-    }
+    place_least(text, table, n, &wide[..u.len()], piece, buffer, offset)
 }
 
 // The same with an array that holds the longest words.
-fn least_long(
+fn place_long(
     text: &[u16],
     table: &[u16],
     n: usize,
-    letters: u8,
     u: &[u8],
+    piece: Mark,
     buffer: &mut [u8],
     offset: usize,
 ) -> Least
-    requires { ⌜ LeastLoaded (now text) (now table) n letters ⌝ }
-    ensures { λ r. ⌜ Leasts.after (ofLeast r) (now (buffer .exit)) ≡ loadedLeast letters (wordsIn (now (text .entry)) (now (table .entry)) n) (familyBy (now (table .entry)) n) (now (u .entry)) (now (buffer .entry)) offset ⌝ }
+    requires { ⌜ Asked (now text) (now table) n (now u) piece ⌝ }
+    ensures { λ r. ⌜ Leasts.after (ofLeast r) (now (buffer .exit)) ≡ foundAt offset (leastFrom (wordsIn (now (text .entry)) (now (table .entry)) n) (familyBy (now (table .entry)) n) (placedMark (now (text .entry)) piece) (now (u .entry))) (now (buffer .entry)) ⌝ }
 {
     let mut wide = [0u16; Word::COMPARED];
-    least_given(text, table, n, letters, u, &mut wide, buffer, offset)
+    place_bytes(text, table, n, u, piece, &mut wide, buffer, offset)
 }
 
-// The least word of a given word under a loaded book, widened into an array made for this call: a short one where that suffices.
+// The same with an array made for this call: a short one where that suffices.
+pub fn place_word(
+    text: &[u16],
+    table: &[u16],
+    n: usize,
+    u: &[u8],
+    piece: Mark,
+    buffer: &mut [u8],
+    offset: usize,
+) -> Least
+    requires { ⌜ Asked (now text) (now table) n (now u) piece ⌝ }
+    ensures { λ r. ⌜ Leasts.after (ofLeast r) (now (buffer .exit)) ≡ foundAt offset (leastFrom (wordsIn (now (text .entry)) (now (table .entry)) n) (familyBy (now (table .entry)) n) (placedMark (now (text .entry)) piece) (now (u .entry))) (now (buffer .entry)) ⌝ }
+{
+    if given::SHORT < u.len() {
+        return place_long(text, table, n, u, piece, buffer, offset);
+    }
+    let mut wide = [0u16; given::SHORT];
+    place_bytes(text, table, n, u, piece, &mut wide, buffer, offset)
+}
+
+// The least word of a given word, which is checked first, under a loaded book of so many letters: the one behind the empty piece.
 pub fn loaded_least(
     text: &[u16],
     table: &[u16],
@@ -113,9 +137,9 @@ pub fn loaded_least(
     requires { ⌜ LeastLoaded (now text) (now table) n letters ⌝ }
     ensures { λ r. ⌜ Leasts.after (ofLeast r) (now (buffer .exit)) ≡ loadedLeast letters (wordsIn (now (text .entry)) (now (table .entry)) n) (familyBy (now (table .entry)) n) (now (u .entry)) (now (buffer .entry)) offset ⌝ }
 {
-    if given::SHORT < u.len() {
-        return least_long(text, table, n, letters, u, buffer, offset);
+    let given = given::check_one(letters, u);
+    match given {
+        Given::Refused(refusal) => Least::Refused(refusal),
+        Given::Fine => place_word(text, table, n, u, Mark { at: 0, to: 0 }, buffer, offset),
     }
-    let mut wide = [0u16; given::SHORT];
-    least_given(text, table, n, letters, u, &mut wide, buffer, offset)
 }

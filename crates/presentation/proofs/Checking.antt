@@ -6,24 +6,25 @@ use native.Mathlib.Omega.{arith}
 use borrow.Author.Needs.{needs}
 use borrow.Author.Tests.{eq-eqb, ne-eqb}
 use lib.Dec.{eqb}
-use lib.ListN.{length, getD}
+use lib.ListN.{length, getD, take}
 use Rattle.words.proofs.Searching.{NoneBelow, none-start, none-more, least-is, least-none}
-use Rattle.layout.specs.Places.{wordsMost, sideCell, countCell}
-use Rattle.layout.specs.Layout.{Laid}
+use Rattle.layout.specs.Places.{wordsMost, startCell, sideCell, countCell}
+use Rattle.layout.specs.Layout.{Laid, startOf}
+use Rattle.longest.specs.Longest.{Tabled}
 use Rattle.layout.specs.Families.{sideWordOf, sidesIn, countOf}
 use Rattle.layout.proofs.Cells.{sides-same}
 use Rattle.refusals.specs.declared.Refusal.the-variants.{Loose}
 use Rattle.format.specs.declared.Reading.the-variants.{Read, Refused}
 use Rattle.pieces.specs.declared.Judged.{Judged}
 use Rattle.pieces.specs.declared.Judged.the-variants as Judges
-use Rattle.pieces.specs.Judging.{Judging}
+use Rattle.pieces.specs.Judging.{Judging, JudgedKept}
 use Rattle.pieces.proofs.Verdicts.{accepted-laid, accepted-words, accepted-c4}
 use Rattle.listing.specs.Listing.{Unlisted, IndexMade}
 use Rattle.listing.proofs.Keeping.{words-kept, made-checked}
 use Rattle.families.specs.Joining.{Groupable}
 use Rattle.families.specs.Grouping.{GroupsMade}
 use Rattle.families.proofs.Reading as groups
-use Rattle.presentation.specs.Loading.{Unchecked, WordsChecked, Sided, firstSide, byJudged}
+use Rattle.presentation.specs.Loading.{Unchecked, WordsChecked, WordsKept, Sided, firstSide, byJudged}
 
 -- the verdict stands, and an accepted book's words are checked and grouped
 module _ (text table : List ℕ) (relations : ℕ) (u : Unchecked text table relations) where
@@ -34,10 +35,12 @@ module _ (text table : List ℕ) (relations : ℕ) (u : Unchecked text table rel
     few-words : n ≤ wordsMost
     few-words = checks-laid .few
 
-    module _ (after : List ℕ) (r : Judged) (j : Judging text table n after r) where
-      -- a loose word: the table is as it was
-      pub checks-loose : (i : ℕ) → r ≡ Judges.Loose i → WordsChecked text table relations after r
-      checks-loose i e =
+    module _ (array after kept : List ℕ) (r : Judged) (d : JudgedKept text table n array after kept r) where
+      j : Judging text table n after r
+      j = d .judging
+
+      loose-checked : (i : ℕ) → r ≡ Judges.Loose i → WordsChecked text table relations after r
+      loose-checked i e =
           let same = j .looses i e in
           record {
             verdict = rw (← c) (j .verdict);
@@ -51,6 +54,10 @@ module _ (text table : List ℕ) (relations : ℕ) (u : Unchecked text table rel
         where
           never : r ≡ Judges.Accepted → ⊥
           never a = let z : _≡_ {A = ℕ} 0 1 = cc in omega arith
+
+      -- a loose word: the table is as it was
+      pub checks-loose : (i : ℕ) → r ≡ Judges.Loose i → WordsKept text table relations array after kept r
+      checks-loose i e = record { checked = loose-checked i e; tabled = λ h a. let z : _≡_ {A = ℕ} 0 1 = cc in absurd (omega arith) }
 
       module _ (e : r ≡ Judges.Accepted) where
         pub accepted-unlisted : Unlisted text after n
@@ -73,8 +80,8 @@ module _ (text table : List ℕ) (relations : ℕ) (u : Unchecked text table rel
               }
 
           -- cuts, index and families are made, each keeping what the others wrote
-          pub checks-accepted : (last : List ℕ) → GroupsMade listed n relations last → WordsChecked text table relations last r
-          checks-accepted last g =
+          accepted-checked : (last : List ℕ) → GroupsMade listed n relations last → WordsChecked text table relations last r
+          accepted-checked last g =
               let laid = accepted-unlisted .laid in
               let checked = made-checked text after n listed laid (accepted-c4 text table n after r j e checks-laid) (j .cuts e .cut) m in
               record {
@@ -88,6 +95,17 @@ module _ (text table : List ℕ) (relations : ℕ) (u : Unchecked text table rel
                 counted = groups.count-kept listed last (g .kept) ∙ cell-kept countCell (omega arith) (omega arith);
                 sided = record { room = g .kept .long ∙ m .kept .long ∙ accepted-unlisted .room; few = omega (arith, u .few) };
               }
+
+          -- the words stay where they are, and so do their longest pieces
+          start-kept : (last : List ℕ) → GroupsMade listed n relations last → startOf table n ≡ startOf last n
+          start-kept last g =
+              sym (g .kept .before (startCell n) (omega (arith, few-words)) ∙ m .kept .same (startCell n) (omega (arith, few-words)) ∙ j .cuts e .kept .starts n few-words)
+
+          pub checks-accepted : (last : List ℕ) → GroupsMade listed n relations last → WordsKept text table relations array last kept r
+          checks-accepted last g =
+              let w = accepted-checked last g in
+              let k : countOf last ≡ n = w .counted ∙ sym c in
+              record { checked = w; tabled = λ h _. rw k (subst (λ (p : ℕ). Tabled (take p text) kept) (start-kept last g) (d .tabled h)) }
 
 pub ruleset checks = (checks-laid, checks-loose, accepted-unlisted, accepted-groupable, checks-accepted, needs)
 

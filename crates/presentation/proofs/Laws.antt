@@ -33,7 +33,7 @@ use Rattle.pieces.specs.declared.Judged.{Judged}
 use Rattle.pieces.specs.declared.Judged.the-variants as Judges
 use Rattle.pieces.specs.Judging.{judgedOf}
 use Rattle.pieces.proofs.Verdicts.{none-loose, lowest-loose}
-use Rattle.presentation.specs.Loading.{byVerdict, loadBook, Unchecked, WordsChecked, firstSide, byJudged, Holding, Memory, BookLoaded}
+use Rattle.presentation.specs.Loading.{byVerdict, loadBook, Unchecked, WordsChecked, WordsKept, firstSide, byJudged, Holding, Memory, BookLoaded, PiecesKept}
 
 -- where some number passes, the least one does
 least-below : (n : ℕ) (p : ℕ → Bool) (k : ℕ) → k < n → p k ≡ true → least n p < n
@@ -87,14 +87,17 @@ not-read book reading r text table e letters count f = let z : _≡_ {A = ℕ} 0
 
 module _ (book text table : List ℕ) (memory : Memory text table) (reading : Reading) (text′ table′ : List ℕ) (d : BookRead book text table reading text′ table′) where
   -- 1 to 6
-  pub load-unread : (r : Refusal) → reading ≡ Refused r → BookLoaded book reading text′ table′
+  pub load-unread : (array : List ℕ) (r : Refusal) → reading ≡ Refused r → PiecesKept book array reading text′ table′ array
   unfolding loadBook
-  load-unread r e =
+  load-unread array r e =
       let q = refused-reading (readBook book) r (sym e ∙ d .answer) in
       record {
-        answer = rw (q, e);
-        held = not-read book reading r text′ table′ e;
-        memory = record { textRoomy = d .textLong ∙ memory .textRoomy; tableRoomy = d .tableLong ∙ memory .tableRoomy };
+        loaded = record {
+          answer = rw (q, e);
+          held = not-read book reading r text′ table′ e;
+          memory = record { textRoomy = d .textLong ∙ memory .textRoomy; tableRoomy = d .tableLong ∙ memory .tableRoomy };
+        };
+        tabled = λ h letters count f. let z : _≡_ {A = ℕ} 0 1 = cc in absurd (omega arith);
       }
 
   module _ (letters count : ℕ) (e : reading ≡ Read letters count) where
@@ -131,7 +134,10 @@ module _ (book text table : List ℕ) (memory : Memory text table) (reading : Re
         }
 
     -- the verdict on the words of the book
-    module _ (last : List ℕ) (j : Judged) (s : WordsChecked text′ table′ count last j) where
+    module _ (array last kept : List ℕ) (j : Judged) (w : WordsKept text′ table′ count array last kept j) where
+      s : WordsChecked text′ table′ count last j
+      s = w .checked
+
       last-sides : sidesIn last (2 * count) ≡ sideWords sides
       last-sides = s .sides ∙ sides-of
 
@@ -187,8 +193,13 @@ module _ (book text table : List ℕ) (memory : Memory text table) (reading : Re
           refused-loaded (Loose (firstSide last (2 * count) i))
           (by-verdict (Verdict.loose (firstSide last (2 * count) i)) (loose-side sides last (2 * count) sides-long last-sides i (verdict ∙ a)))
 
-      pub load-judged : (r : Reading) → r ≡ byJudged last letters count j → BookLoaded book r text′ last
-      load-judged r a = rw a (by-judged j refl)
+      -- only accepted words give a book that is read
+      accepted-of-read : (k : Judged) (l c : ℕ) → byJudged last letters count k ≡ Read l c → k ≡ Judges.Accepted
+      accepted-of-read Judges.Accepted l c f = refl
+      accepted-of-read (Judges.Loose i) l c f = let z : _≡_ {A = ℕ} 0 1 = cc in absurd (omega arith)
+
+      pub load-judged : (r : Reading) → r ≡ byJudged last letters count j → PiecesKept book array r text′ last kept
+      load-judged r a = record { loaded = rw a (by-judged j refl); tabled = λ h l c f. w .tabled h (accepted-of-read j l c (sym a ∙ f)) }
 
 pub ruleset loads = (load-unread, load-unchecked, load-judged, needs)
 

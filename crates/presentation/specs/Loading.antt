@@ -14,7 +14,7 @@ use Rattle.layout.specs.Layout.{Laid, wordsIn}
 use Rattle.layout.specs.Families.{sideWordOf, sidesIn, countOf, familiesIn, Grouped}
 use Rattle.pieces.specs.declared.Judged.{Judged}
 use Rattle.pieces.specs.declared.Judged.the-variants as Judges
-use Rattle.pieces.specs.Judging.{judgedOf}
+use Rattle.pieces.specs.Judging.{judgedOf, PiecesTabled}
 use Rattle.refusals.specs.declared.Refusal.the-variants.{Loose}
 use Rattle.format.specs.declared.Reading.{Reading}
 use Rattle.format.specs.declared.Reading.the-variants.{Read, Refused}
@@ -56,6 +56,11 @@ pub record WordsChecked (text table : List ℕ) (relations : ℕ) (after : List 
   pub counted : countOf after ≡ countOf table
   pub sided : Sided after (2 * relations)
 
+-- the same, and where they are accepted, their longest pieces are kept in an array that has room for them
+pub record WordsKept (text table : List ℕ) (relations : ℕ) (array after kept : List ℕ) (r : Judged) : Type 0 where
+  pub checked : WordsChecked text table relations after r
+  pub tabled : textRoom ≤ length array → r ≡ Judges.Accepted → PiecesTabled text after (countOf after) kept
+
 -- the lowest of the first m sides that has word i, or m
 unfoldable pub firstSide : List ℕ → ℕ → ℕ → ℕ
 firstSide table m i = least m (λ s. eqb (sideWordOf table s) i)
@@ -87,3 +92,8 @@ pub record BookLoaded (book : List ℕ) (r : Reading) (text table : List ℕ) : 
   pub answer : r ≡ readingOf (loadBook book)
   pub held : (letters count : ℕ) → r ≡ Read letters count → Holding book letters count text table
   pub memory : Memory text table
+
+-- the same, and where the book is accepted, the longest pieces of its text are kept in an array that has room for them
+pub record PiecesKept (book array : List ℕ) (r : Reading) (text table kept : List ℕ) : Type 0 where
+  pub loaded : BookLoaded book r text table
+  pub tabled : textRoom ≤ length array → (letters count : ℕ) → r ≡ Read letters count → PiecesTabled text table (countOf table) kept

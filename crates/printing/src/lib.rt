@@ -57,12 +57,12 @@ pub fn print_sheet(sheet: &[u8], n: usize) {
     io::write_all(STDOUT_FILENO, b"\n");
 }
 
-// Prints a least word, which stands in a buffer from an offset on, and before it whether a byte outside it was changed.
-pub fn print_least(buffer: &[u8], offset: usize, letters: usize) {
+// Prints a word that stands in a buffer from an offset on, behind the name of its call, and before it whether a byte outside it was changed.
+pub fn print_placed(name: &[u8], buffer: &[u8], offset: usize, letters: usize) {
     if !fields::is_kept_outside(buffer, offset, letters) {
         io::write_all(STDOUT_FILENO, b"touched ");
     }
-    io::write_all(STDOUT_FILENO, b"least ");
+    io::write_all(STDOUT_FILENO, name);
     io::print_decimal(STDOUT_FILENO, letters as u64);
     io::write_all(STDOUT_FILENO, b" ");
     print_part(buffer, offset, letters);

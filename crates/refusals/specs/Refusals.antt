@@ -3,7 +3,7 @@ use Prim.Native.Nat.{_+_, _*_}
 use Rattle.limits.specs.Limits.{placeSpacing, inputMost}
 use Rattle.refusals.specs.declared.Numbered.{Numbered}
 use Rattle.refusals.specs.declared.Refusal.{Refusal}
-use Rattle.refusals.specs.declared.Refusal.the-variants.{Short, Kind, Length, Range, UnknownLetter, TooMany, Loose, Long, Stranger, Spent, Narrow, Heavy, NoSpace, NoSuchRelation, StaleTicket, BookWorn}
+use Rattle.refusals.specs.declared.Refusal.the-variants.{Short, Kind, Length, Range, UnknownLetter, TooMany, Loose, Long, Stranger, Spent, Narrow, Heavy, NoSpace, NoSuchRelation, StaleTicket, BookWorn, NotPiece, NoPrefix}
 
 -- the number and the place of each case, in the order of the table; 7 is not used
 abbrev pub numberAndPlace : Refusal → Numbered
@@ -23,3 +23,5 @@ numberAndPlace NoSpace = record { number = 14; place = 0 }
 numberAndPlace NoSuchRelation = record { number = 15; place = 0 }
 numberAndPlace StaleTicket = record { number = 16; place = 0 }
 numberAndPlace BookWorn = record { number = 17; place = 0 }
+numberAndPlace NotPiece = record { number = 18; place = 0 }
+numberAndPlace NoPrefix = record { number = 19; place = 0 }

@@ -40,6 +40,10 @@ pub enum Refusal {
     StaleTicket,
     // A held book has taken all the changes that it takes (book worn).
     BookWorn,
+    // A given word that is no piece of the book (not a piece).
+    NotPiece,
+    // A piece behind which no word is congruent to the given one (no such front).
+    NoPrefix,
 }
 
 // A refusal as document 01 writes it.
@@ -115,6 +119,14 @@ pub fn number_and_place(refusal: Refusal) -> Numbered
         },
         Refusal::BookWorn => Numbered {
             number: 17,
+            place: 0,
+        },
+        Refusal::NotPiece => Numbered {
+            number: 18,
+            place: 0,
+        },
+        Refusal::NoPrefix => Numbered {
+            number: 19,
             place: 0,
         },
     }

@@ -1,9 +1,11 @@
-// What the C functions return: the specification's numbers in plain structs, for each answer of the entries as specs/Numbers.antt gives them.
+// What the C functions return: the specification's numbers in plain structs, for each answer of the entries as specs/Numbers.antt gives them; and, in specs/Calls.antt, what
+// each of the functions promises.
 // The fields have the words of the C header, which are the specification's: a rule is a relation, a run a word.
 ghost use mathlib.Core.Path.{_≡_};
 ghost use Rattle.refusals.specs.Refusals.{numberAndPlace};
 ghost use Rattle.answers.specs.Answers.{ofVerdict, ofRound, ofComparison, ofPrinted, ofLeast};
 ghost use Rattle.results.specs.Numbers.{endOutcome, checkResult, roundResult, compareResult, programResult, leastResult, heldResult};
+ghost use Rattle.results.specs.Calls.{version};
 use answers::Least;
 use answers::Printed;
 use answers::Round;
@@ -11,6 +13,15 @@ use answers::Verdict;
 use comparison::Comparison;
 use refusals::Refusal;
 use refusals::number_and_place;
+
+// The version of the C functions, as a number: 10,000 times the first part, 100 times the second, and the third.
+pub struct Version {
+    pub number: u32,
+}
+
+impl Version {
+    pub const NUMBER: u32 = 800;
+}
 
 // What a round or a comparison says, as a number. 0 says nothing, so that a refused result, and one filled with zeros, reads as no answer.
 pub struct Outcome {
@@ -78,6 +89,13 @@ pub struct HeldResult {
     pub start: u64,
     pub length: u64,
     pub changes: u64,
+}
+
+// The version.
+pub fn version_number() -> u32
+    ensures { λ r. ⌜ r ≡ version ⌝ }
+{
+    Version::NUMBER
 }
 
 // A refusal's number, in the width of the structs.

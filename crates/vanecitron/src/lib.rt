@@ -1,5 +1,5 @@
-// The public entries as C functions, for C and Rust. Each passes on what the entry of crate `entries` answers, as the numbers that crate `results` gives for it;
-// each promise is the entry's own, read through them. None has a `requires`.
+// The public entries as C functions, for C and Rust. Each passes on what the entry of crate `entries`, `removing` or `heldbook` answers, as the numbers that crate `results`
+// gives for it; each promise is the entry's own, read through them (crate results, specs/Calls.antt). None has a `requires`.
 ghost use mathlib.Core.Path.{_≡_};
 ghost use Rattle.answers.specs.Entries.{checkOf, sheetOf, roundOf, outputOf};
 ghost use lib.ListN.{length};
@@ -7,7 +7,7 @@ ghost use Rattle.held.specs.Held.{bookIn, bookStart, changesTold};
 ghost use Rattle.held.specs.Changes.{loadOf, addition, withdrawal, changeOf};
 ghost use Rattle.held.specs.Tickets.{proposeOf, postOf};
 ghost use Rattle.results.specs.Numbers.{checkResult, heldResult};
-ghost use Rattle.vanecitron.specs.Calls.{version, SheetNumbers as Sheets, sheetNumbers, RoundNumbers as Rounds, roundNumbers, ComparedNumbers, LeastNumbered, ProgramNumbers as Programs, programNumbers, LoadNumbers as Loads, loadNumbers, ChangeNumbers as Changes, changeNumbers, ProposalNumbers as Proposals, proposalNumbers};
+ghost use Rattle.results.specs.Calls.{version, SheetNumbers as Sheets, sheetNumbers, RoundNumbers as Rounds, roundNumbers, ComparedNumbers, LeastNumbered, RemovalNumbered, ProgramNumbers as Programs, programNumbers, LoadNumbers as Loads, loadNumbers, ChangeNumbers as Changes, changeNumbers, ProposalNumbers as Proposals, proposalNumbers};
 use results::CheckResult;
 use results::CompareResult;
 use results::HeldResult;
@@ -15,21 +15,12 @@ use results::LeastResult;
 use results::ProgramResult;
 use results::RoundResult;
 
-// The version of these functions, as a number: 10,000 times the first part, 100 times the second, and the third.
-pub struct Version {
-    pub number: u32,
-}
-
-impl Version {
-    pub const NUMBER: u32 = 700;
-}
-
 // The version, so that a caller can hold his header to the archive that he links.
 #[no_mangle]
 pub extern "C" fn vanecitron_version() -> u32
     ensures { λ r. ⌜ r ≡ version ⌝ }
 {
-    Version::NUMBER
+    results::version_number()
 }
 
 // The check of a book.
@@ -88,6 +79,20 @@ pub extern "C" fn vanecitron_least(
     ensures { λ r. ⌜ LeastNumbered (now (book .entry)) (now (u .entry)) (now (buffer .entry)) offset r (now (buffer .exit)) ⌝ }
 {
     results::of_least(entries::least_word(book, u, buffer, offset))
+}
+
+// The least word behind a piece with which it is congruent to a word, in a lent buffer from an offset on.
+#[no_mangle]
+pub extern "C" fn vanecitron_front(
+    book: &[u8],
+    u: &[u8],
+    p: &[u8],
+    buffer: &mut [u8],
+    offset: usize,
+) -> LeastResult
+    ensures { λ r. ⌜ RemovalNumbered (now (book .entry)) (now (u .entry)) (now (p .entry)) (now (buffer .entry)) offset r (now (buffer .exit)) ⌝ }
+{
+    results::of_least(removing::remove_prefix(book, u, p, buffer, offset))
 }
 
 // The whole program: input bytes to output bytes, in a lent buffer.

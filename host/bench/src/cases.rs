@@ -1,5 +1,5 @@
-//! The cases: worst books for the check, worst words for the comparison and for the least word, changes of held books, made, proposed and posted, and how the cost
-//! grows.
+//! The cases: worst books for the check, worst words for the comparison, for the least word and for the front, changes of held books, made, proposed and posted, and
+//! how the cost grows.
 
 use std::cell::RefCell;
 
@@ -78,6 +78,14 @@ fn least(group: &'static str, name: impl Into<String>, book: &Book, word: Vec<u8
     let bytes = book.bytes();
     let buffer = RefCell::new(vec![0; LEAST]);
     let run = move |entries: &dyn Entries| numbers(entries.least(&bytes, &word, &mut buffer.borrow_mut(), 0), |length| length);
+    Case { group, name: name.into(), run: Box::new(run) }
+}
+
+/// What is left of a word behind a piece, in such a buffer.
+fn front(group: &'static str, name: impl Into<String>, book: &Book, word: Vec<u8>, piece: Vec<u8>) -> Case {
+    let bytes = book.bytes();
+    let buffer = RefCell::new(vec![0; LEAST]);
+    let run = move |entries: &dyn Entries| numbers(entries.front(&bytes, &word, &piece, &mut buffer.borrow_mut(), 0), |length| length);
     Case { group, name: name.into(), run: Box::new(run) }
 }
 
@@ -183,6 +191,8 @@ const CHANGES: &str = "changes of a held book, beside the check of the new book"
 const TICKETS: &str = "tickets of a held book, beside the check of the new book";
 const LEASTS: &str = "the least word as one call, which checks its book";
 const GROWTH_OF_LEAST: &str = "the least word, by length of words";
+const FRONTS: &str = "the front as one call, beside the least word of the same word, and that beside the check";
+const GROWTH_OF_FRONT: &str = "the front, by length of words";
 const PROGRAM: &str = "the program on 60,000 bytes";
 
 pub fn all() -> Vec<Case> {
@@ -196,6 +206,7 @@ pub fn all() -> Vec<Case> {
     least_words(&mut all, &mut chance);
     programs(&mut all, &mut chance);
     changes(&mut all, &mut chance);
+    fronts(&mut all, &mut chance);
     all
 }
 
@@ -399,5 +410,43 @@ fn changes(all: &mut Vec<Case>, chance: &mut Chance) {
         all.push(propose(TICKETS, format!("propose: proposal, {name}"), old, step.clone()));
         all.push(check(TICKETS, format!("check: posting, {name}"), new));
         all.push(post(TICKETS, format!("post: posting, {name}"), old, step.clone()));
+    }
+}
+
+/// Under `far_sight`, letters that are exchanged one after the other from the last on, so that the word can begin with the piece d; and the piece.
+fn far_front(n: usize) -> (Vec<u8>, Vec<u8>) {
+    let d = books::far_sight().words[1][0];
+    ([vec![books::FAR_SIGHT_LETTER; n - 1], vec![d]].concat(), vec![d])
+}
+
+/// A front is to cost a least word and little more; the worst kind is where whether there is one depends on the last letter of the word.
+fn fronts(all: &mut Vec<Case>, chance: &mut Chance) {
+    let (far, d) = far_front(4_096);
+    let most = books::most_rounds();
+    let tail = most.words[1][1..].to_vec();
+    let longest = books::longest_least();
+    let in_front = longest.words[1][1];
+    let shared_fronts = books::full_shared_fronts(chance);
+    let random = books::full_random(chance, 64);
+    let family = shared::random_family(chance, 20, shared::Shape::Chain);
+    let steps = [
+        ("book Q, c off abdc", q(), vec![0, 1, 3, 2], vec![2]),
+        ("book Q, c off 4,096 letters that begin with abdc", q(), sides(&q(), 4_096), vec![2]),
+        ("262,080 letters behind one of 4,096", longest, [vec![in_front], vec![books::LONGEST_LEAST_LETTER; 4_095]].concat(), vec![in_front]),
+        ("ad = de, d off a repeated 4,095 times and d", books::far_sight(), far, d.clone()),
+        ("ad = de, d off a repeated 4,096 times: none", books::far_sight(), vec![books::FAR_SIGHT_LETTER; 4_096], d),
+        ("63 letters off those of most rounds", most, [tail.clone(), books::most_rounds_word(4_033)].concat(), tail),
+        ("60 letters that all sides begin with", shared_fronts.clone(), sides(&shared_fronts, 4_096), shared_fronts.words[1][..60].to_vec()),
+        ("random sides, the other side's first letter", random.clone(), sides(&random, 4_096), random.words[1][..1].to_vec()),
+        ("33 in a chain, the last one's first letter", family.clone(), sides(&family, 4_000), family.words[63][..1].to_vec()),
+    ];
+    for (name, book, word, piece) in steps {
+        all.push(check(FRONTS, format!("check: {name}"), &book));
+        all.push(least(FRONTS, format!("least: {name}"), &book, word.clone()));
+        all.push(front(FRONTS, format!("front: {name}"), &book, word, piece));
+    }
+    for n in [64, 256, 1_024, 4_096] {
+        let (word, piece) = far_front(n);
+        all.push(front(GROWTH_OF_FRONT, format!("ad = de among 32 relations, d off {n} letters, d the last"), &books::far_sight(), word, piece));
     }
 }

@@ -18,7 +18,7 @@ pub enum Rounded {
     Next([u64; 3]),
 }
 
-/// The six entries that keep nothing between calls, those of held books, and those of tickets.
+/// The seven entries that keep nothing between calls, those of held books, and those of tickets.
 pub trait Entries {
     fn name(&self) -> &'static str;
     /// the least size of the program's output buffer
@@ -28,6 +28,7 @@ pub trait Entries {
     fn round(&self, book: &[u8], words: [&[u8]; 3], next: [&mut [u8]; 3]) -> Result<Rounded, Refused>;
     fn compare(&self, book: &[u8], u: &[u8], v: &[u8], allowance: u32) -> Result<Compared, Refused>;
     fn least(&self, book: &[u8], word: &[u8], buffer: &mut [u8], offset: usize) -> Result<u64, Refused>;
+    fn front(&self, book: &[u8], word: &[u8], piece: &[u8], buffer: &mut [u8], offset: usize) -> Result<u64, Refused>;
     fn program(&self, input: &[u8], output: &mut [u8]) -> Result<usize, Refused>;
     fn load(&self, book: &[u8], held: &mut [u8]) -> Result<u64, Refused>;
     fn add(&self, held: &mut [u8], record: &[u8], sheet: &mut [u8]) -> Result<u64, Refused>;
@@ -79,6 +80,10 @@ impl Entries for Fast {
 
     fn least(&self, book: &[u8], word: &[u8], buffer: &mut [u8], offset: usize) -> Result<u64, Refused> {
         fast::least(book, word, buffer, offset).map_err(of_fast)
+    }
+
+    fn front(&self, book: &[u8], word: &[u8], piece: &[u8], buffer: &mut [u8], offset: usize) -> Result<u64, Refused> {
+        fast::front(book, word, piece, buffer, offset).map_err(of_fast)
     }
 
     fn program(&self, input: &[u8], output: &mut [u8]) -> Result<usize, Refused> {
@@ -158,6 +163,10 @@ impl Entries for Proved {
 
     fn least(&self, book: &[u8], word: &[u8], buffer: &mut [u8], offset: usize) -> Result<u64, Refused> {
         vanecitron::least_into(book, word, buffer, offset).map(|length| length as u64).map_err(of_proved)
+    }
+
+    fn front(&self, book: &[u8], word: &[u8], piece: &[u8], buffer: &mut [u8], offset: usize) -> Result<u64, Refused> {
+        vanecitron::front_into(book, word, piece, buffer, offset).map(|length| length as u64).map_err(of_proved)
     }
 
     fn program(&self, input: &[u8], output: &mut [u8]) -> Result<usize, Refused> {

@@ -4,6 +4,7 @@
 //! The trials are functions of a seed and a size: the tests of this crate run them with fixed ones, and the command `difftest` for as long as it is told.
 
 pub mod entries;
+pub mod front_trials;
 pub mod held;
 pub mod held_trials;
 pub mod lent;

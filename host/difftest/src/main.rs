@@ -2,14 +2,14 @@
 
 use std::time::{Duration, Instant};
 
-use difftest::{chosen, held_trials, ticket_trials, trials, Entries, Tally, Trial};
+use difftest::{chosen, front_trials, held_trials, ticket_trials, trials, Entries, Tally, Trial};
 use gen::books::AT_THE_LIMITS;
 use gen::Chance;
 
 /// A trial by name.
 type Named = (&'static str, fn(&mut Trial, &mut Chance));
 
-const TRIALS: [Named; 37] = [
+const TRIALS: [Named; 41] = [
     ("generated books", |trial, chance| trials::generated_books(trial, chance, 1_000)),
     ("sheets", |trial, chance| trials::sheets(trial, chance, &trials::SHEETS, 1_000)),
     ("sheets, shared words", |trial, chance| trials::sheets(trial, chance, &trials::SHARED_SHEETS, 1_000)),
@@ -43,6 +43,19 @@ const TRIALS: [Named; 37] = [
         trials::least_of_joined_words(trial, chance, &trials::SHARED, 40, 200, 2_000);
     }),
     ("least at the limits", trials::least_at_the_limits),
+    ("every piece and all short words", |trial, chance| {
+        front_trials::every_piece(trial, chance, &trials::SMALL, 40, 600);
+        front_trials::every_piece(trial, chance, &trials::SHARED_SMALL, 40, 600);
+    }),
+    ("fronts", |trial, chance| {
+        front_trials::fronts(trial, chance, &trials::RANKED, 300);
+        front_trials::fronts(trial, chance, &trials::SHARED_CLASSES, 300);
+    }),
+    ("fronts of joined words", |trial, chance| {
+        front_trials::fronts_of_joined_words(trial, chance, &trials::RANKED, 40, 200, 2_000);
+        front_trials::fronts_of_joined_words(trial, chance, &trials::SHARED, 40, 200, 2_000);
+    }),
+    ("fronts at the limits", front_trials::fronts_at_the_limits),
     ("held books loaded", |trial, chance| held_trials::loadings(trial, chance, 1_000)),
     ("held books changed", |trial, chance| held_trials::held(trial, chance, &held_trials::STORIES, 16, 300)),
     ("held books changed, at the limits", |trial, chance| held_trials::held(trial, chance, &held_trials::FULL, 4, 30)),
@@ -69,6 +82,7 @@ fn main() {
     trials::heavy_programs(&mut trial);
     trials::two_letters(&mut trial, 9, 9);
     trials::least_of_two_letters(&mut trial, &mut Chance::new(seed), 9, 11);
+    front_trials::every_piece_of_two_letters(&mut trial, &mut Chance::new(seed), 9, 10);
     held_trials::altered_at_the_limits(&mut trial);
     ticket_trials::sixty_thousand(&mut trial);
     sum.add(&trial.tally);

@@ -13,7 +13,7 @@ use reference::Word;
 use crate::entries::Refused;
 
 /// How often each number of a refusal was met.
-pub type Numbers = [u64; 18];
+pub type Numbers = [u64; 20];
 
 /// What relations that share a word bring.
 #[derive(Debug, Clone, Default)]
@@ -259,6 +259,76 @@ impl fmt::Display for Tickets {
     }
 }
 
+/// What fronts that are taken off bring.
+#[derive(Debug, Clone, Default)]
+pub struct Fronts {
+    /// something is written: with the empty front, where the word begins with the front, and where only a chain leads to one that does
+    pub left: [u64; 3],
+    /// with a front that is longer than the word; and nothing is left behind a front that is not empty
+    pub longer: u64,
+    pub nothing: u64,
+    pub refused: Numbers,
+    /// refusals by 9 and 10 of the word, and of the front
+    pub given: [u64; 2],
+    /// refusals by 14 for want of one byte, and by an offset past the end
+    pub narrow: [u64; 2],
+    /// refusals by 18 of fronts of 64 letters; where the word begins with the front, and where it does not
+    pub long: u64,
+    pub no_pieces: [u64; 2],
+}
+
+impl Fronts {
+    /// Counts a front of a word, in a buffer of this size at an offset.
+    pub fn meet(&mut self, [word, piece]: [&[u8]; 2], known: &Result<Vec<u8>, Refused>, size: usize, offset: usize, result: Result<&[u8], Refused>) {
+        let begins = word.starts_with(piece);
+        match result {
+            Ok(rest) => {
+                self.left[if piece.is_empty() { 0 } else { 2 - begins as usize }] += 1;
+                self.longer += (piece.len() > word.len()) as u64;
+                self.nothing += (rest.is_empty() && !piece.is_empty()) as u64;
+            }
+            Err((number, place)) => {
+                self.refused[number as usize] += 1;
+                self.given[(place >= 10_000) as usize] += matches!(number, 9 | 10) as u64;
+                if number == 14 {
+                    self.narrow[0] += known.as_ref().is_ok_and(|rest| offset.checked_add(rest.len()) == Some(size + 1)) as u64;
+                    self.narrow[1] += (offset > size) as u64;
+                }
+                if number == 18 {
+                    self.long += (piece.len() == 64) as u64;
+                    self.no_pieces[1 - begins as usize] += 1;
+                }
+            }
+        }
+    }
+
+    fn add(&mut self, other: &Fronts) {
+        add_all(&mut self.left, &other.left);
+        self.longer += other.longer;
+        self.nothing += other.nothing;
+        add_all(&mut self.refused, &other.refused);
+        add_all(&mut self.given, &other.given);
+        add_all(&mut self.narrow, &other.narrow);
+        self.long += other.long;
+        add_all(&mut self.no_pieces, &other.no_pieces);
+    }
+}
+
+impl fmt::Display for Fronts {
+    fn fmt(&self, f: &mut fmt::Formatter<'_>) -> fmt::Result {
+        let [empty, begun, reached] = self.left;
+        write!(f, "fronts taken off: empty {empty}, of a word that begins so {begun}, by a chain alone {reached}")?;
+        write!(f, ", longer than the word {}, leaving nothing {}", self.longer, self.nothing)?;
+        write!(f, "; refusals by number {:?}, of 9 and 10 of word and front {:?}", &self.refused[1..], self.given)?;
+        let ([byte, past], [begun, other]) = (self.narrow, self.no_pieces);
+        write!(
+            f,
+            "; no space for want of a byte {byte}, past the end {past}; no piece, of 64 letters {}, in front of the word {begun}, not {other}",
+            self.long
+        )
+    }
+}
+
 /// Where a relation stands: the first of several, between others, the last, or the only one.
 fn place_of(relation: usize, relations: usize) -> usize {
     match relation {
@@ -303,6 +373,8 @@ pub struct Tally {
     pub numbers: [u64; 6],
     /// least words: those that are the given word, that are longer, that are shorter, and others
     pub least: [u64; 4],
+    /// what fronts that are taken off bring
+    pub fronts: Fronts,
     /// what relations that share a word bring
     pub shared: Shared,
     /// what loadings and changes of held books bring
@@ -357,6 +429,7 @@ impl Tally {
     }
 
     pub fn add(&mut self, other: &Tally) {
+        self.fronts.add(&other.fronts);
         self.shared.add(&other.shared);
         self.held.add(&other.held);
         self.tickets.add(&other.tickets);
@@ -381,8 +454,8 @@ impl fmt::Display for Tally {
         let [kept, longer, shorter, other] = self.least;
         write!(
             f,
-            "; least words: {kept} the given one, {longer} longer, {shorter} shorter, {other} others; {}; {}; {}",
-            self.shared, self.held, self.tickets
+            "; least words: {kept} the given one, {longer} longer, {shorter} shorter, {other} others; {}; {}; {}; {}",
+            self.fronts, self.shared, self.held, self.tickets
         )
     }
 }

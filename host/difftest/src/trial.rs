@@ -16,17 +16,25 @@ pub const NEXT: [usize; 3] = [4_224, 4_224, 64];
 pub const SHEET_SIDE: usize = 4;
 pub const SHEET: usize = 64 * SHEET_SIDE;
 
-/// The most letters of a least word.
+/// The most letters of a least word, and of what a front leaves.
 pub const LEAST: usize = 262_144;
 
 /// What the reference says of a book.
 pub type Known = Result<Accepted, Refusal>;
 
-/// What is known of a least word: the word itself, or the refusal of the book or of the given word.
-pub type KnownLeast = Result<Vec<u8>, Refused>;
+/// What is known of a least word, or of what a front leaves: the word itself, or the refusal that comes before room is asked for.
+pub type KnownWord = Result<Vec<u8>, Refused>;
 
 pub(crate) fn of_reference(refusal: Refusal) -> Refused {
     (refusal.number, refusal.place)
+}
+
+/// What a call writes at the start of a buffer that has room for everything.
+fn in_ample_buffer(call: impl FnOnce(&mut [u8]) -> Result<u64, Refused>) -> KnownWord {
+    let mut buffer = vec![0; LEAST];
+    let length = call(&mut buffer)?;
+    buffer.truncate(length as usize);
+    Ok(buffer)
 }
 
 /// The entries under trial, and what was met so far.
@@ -147,7 +155,7 @@ impl<'a> Trial<'a> {
     }
 
     /// What the reference says of a least word; nothing where a chain reaches more than `most` words.
-    pub fn search_least(&mut self, known: &Known, word: &[u8], most: usize) -> Option<KnownLeast> {
+    pub fn search_least(&mut self, known: &Known, word: &[u8], most: usize) -> Option<KnownWord> {
         match known {
             Err(refusal) => Some(Err(of_reference(*refusal))),
             Ok(accepted) => reference::entries::find_least(accepted, word, most).map_err(of_reference).transpose(),
@@ -155,15 +163,9 @@ impl<'a> Trial<'a> {
     }
 
     /// The least word, which is known, at an offset of a buffer of this size.
-    pub fn least(&mut self, book: &[u8], known: &KnownLeast, word: &[u8], size: usize, offset: usize) {
-        let fits = |least: &Vec<u8>| offset <= size && least.len() <= size - offset;
-        let expected = known.as_ref().map_err(|refused| *refused).and_then(|least| if fits(least) { Ok(&least[..]) } else { Err((14, 0)) });
-        let mut lent = Lent::new(size);
-        let result = self.entries.least(book, word, lent.slice(), offset);
+    pub fn least(&mut self, book: &[u8], known: &KnownWord, word: &[u8], size: usize, offset: usize) {
         let call = || format!("least {} {} {size} {offset}", hex(book), hex(word));
-        assert_eq!(result, expected.map(|least| least.len() as u64), "{}", call());
-        assert_eq!(lent.fault_at(offset, expected.unwrap_or(&[])), None, "a byte of the buffer: {}", call());
-        self.met(&expected);
+        let expected = self.placed(known, size, offset, |entries, buffer| entries.least(book, word, buffer, offset), call);
         if let Ok(least) = expected {
             let kind = match least.len().cmp(&word.len()) {
                 _ if least == word => 0,
@@ -175,13 +177,52 @@ impl<'a> Trial<'a> {
         }
     }
 
+    /// A call that writes a word, which is known, at an offset of a buffer of this size; gives what is expected of it.
+    fn placed<'w>(
+        &mut self,
+        known: &'w KnownWord,
+        size: usize,
+        offset: usize,
+        call: impl FnOnce(&dyn Entries, &mut [u8]) -> Result<u64, Refused>,
+        told: impl Fn() -> String,
+    ) -> Result<&'w [u8], Refused> {
+        let fits = |word: &Vec<u8>| offset <= size && word.len() <= size - offset;
+        let expected = known.as_ref().map_err(|refused| *refused).and_then(|word| if fits(word) { Ok(&word[..]) } else { Err((14, 0)) });
+        let mut lent = Lent::new(size);
+        let result = call(self.entries, lent.slice());
+        assert_eq!(result, expected.map(|word| word.len() as u64), "{}", told());
+        assert_eq!(lent.fault_at(offset, expected.unwrap_or(&[])), None, "a byte of the buffer: {}", told());
+        self.met(&expected);
+        expected
+    }
+
     /// The least word in a buffer with room for every one, where no search could find it: the fast version is asked beside the one under trial.
     pub fn least_in_ample_buffer(&mut self, book: &[u8], word: &[u8]) -> Vec<u8> {
-        let mut buffer = vec![0; LEAST];
-        let length = Fast.least(book, word, &mut buffer, 0).expect("an accepted book, a word under it, and room enough");
-        buffer.truncate(length as usize);
-        self.least(book, &Ok(buffer.clone()), word, LEAST, 0);
-        buffer
+        let least = in_ample_buffer(|buffer| Fast.least(book, word, buffer, 0));
+        self.least(book, &least, word, LEAST, 0);
+        least.expect("an accepted book, and a word under it")
+    }
+
+    /// What the reference says of what a front leaves; nothing where a chain reaches more than `most` words.
+    pub fn search_front(&mut self, known: &Known, word: &[u8], piece: &[u8], most: usize) -> Option<KnownWord> {
+        match known {
+            Err(refusal) => Some(Err(of_reference(*refusal))),
+            Ok(accepted) => reference::entries::find_front(accepted, word, piece, most).map_err(of_reference).transpose(),
+        }
+    }
+
+    /// What a front leaves of a word, which is known, at an offset of a buffer of this size.
+    pub fn front(&mut self, book: &[u8], known: &KnownWord, [word, piece]: [&[u8]; 2], size: usize, offset: usize) {
+        let call = || format!("front {} {} {} {size} {offset}", hex(book), hex(word), hex(piece));
+        let expected = self.placed(known, size, offset, |entries, buffer| entries.front(book, word, piece, buffer, offset), call);
+        self.tally.fronts.meet([word, piece], known, size, offset, expected);
+    }
+
+    /// The same in a buffer with room for everything, where no search could find it: the fast version is asked beside the one under trial.
+    pub fn front_in_ample_buffer(&mut self, book: &[u8], given: [&[u8]; 2]) -> KnownWord {
+        let left = in_ample_buffer(|buffer| Fast.front(book, given[0], given[1], buffer, 0));
+        self.front(book, &left, given, LEAST, 0);
+        left
     }
 
     /// The program, with an output buffer of the size it needs and some bytes more; gives its lines.

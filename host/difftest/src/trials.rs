@@ -8,7 +8,7 @@ use reference::pieces::{longest_tail, numbers};
 use reference::{Accepted, Refusal};
 
 use crate::entries::Compared;
-use crate::trial::{Known, KnownLeast, Trial, LEAST, NEXT, SHEET, SHEET_SIDE};
+use crate::trial::{Known, KnownWord, Trial, LEAST, NEXT, SHEET, SHEET_SIDE};
 
 /// What makes books of one kind.
 pub type Make = fn(&mut Chance) -> Book;
@@ -95,6 +95,10 @@ fn every_entry(trial: &mut Trial, bytes: &[u8], known: &Known, u: &[u8], v: &[u8
     trial.round(bytes, known, [u, v, &[]], NEXT);
     if let Some(least) = trial.search_least(known, u, 100) {
         trial.least(bytes, &least, u, 40, 3);
+    }
+    let letter = &v[..v.len().min(1)];
+    if let Some(left) = trial.search_front(known, u, letter, 100) {
+        trial.front(bytes, &left, [u, letter], 40, 3);
     }
 }
 
@@ -294,6 +298,8 @@ pub fn other_ways(trial: &mut Trial, chance: &mut Chance, kinds: &[Make], cases:
             assert_eq!(trial.round(&longer_bytes, &longer_known, [&u, &v, &p], NEXT), next, "{u:?} {v:?} {p:?} {book:?} {longer:?}");
             let least = trial.least_in_ample_buffer(&bytes, &u);
             assert_eq!(trial.least_in_ample_buffer(&longer_bytes, &u), least, "{u:?} {book:?} {longer:?}");
+            let left = trial.front_in_ample_buffer(&bytes, [&u, &p]);
+            assert_eq!(trial.front_in_ample_buffer(&longer_bytes, [&u, &p]), left, "{u:?} {p:?} {book:?} {longer:?}");
         }
     }
 }
@@ -403,7 +409,7 @@ pub fn heavy_programs(trial: &mut Trial) {
 }
 
 /// All words of at most so many letters.
-fn all_words(letters: u8, most: usize) -> Vec<Vec<u8>> {
+pub(crate) fn all_words(letters: u8, most: usize) -> Vec<Vec<u8>> {
     let mut all = vec![Vec::new()];
     let mut from = 0;
     for _ in 0..most {
@@ -419,7 +425,7 @@ fn all_words(letters: u8, most: usize) -> Vec<Vec<u8>> {
 }
 
 /// The greatest length such that there are at most `count` words of it and below.
-fn length_for(letters: u8, count: usize) -> usize {
+pub(crate) fn length_for(letters: u8, count: usize) -> usize {
     (1..).find(|&n| all_words(letters, n + 1).len() > count).expect("words grow without end")
 }
 
@@ -526,16 +532,16 @@ pub fn classes(trial: &mut Trial, chance: &mut Chance, kinds: &[Make], cases: us
     }
 }
 
-/// An accepted book for least words: words are made under its first names, and renamed, so that its letters lie on both sides of the house table's middle.
-struct Ranked {
-    book: Book,
-    table: Renaming,
-    bytes: Vec<u8>,
-    known: Known,
+/// An accepted book for least words and fronts: words are made under its first names, and renamed, so that its letters lie on both sides of the house table's middle.
+pub(crate) struct Ranked {
+    pub book: Book,
+    pub table: Renaming,
+    pub bytes: Vec<u8>,
+    pub known: Known,
 }
 
 impl Ranked {
-    fn new(trial: &mut Trial, chance: &mut Chance, make: Make) -> Ranked {
+    pub fn new(trial: &mut Trial, chance: &mut Chance, make: Make) -> Ranked {
         let (book, _, _) = accepted(trial, chance, make);
         Ranked::of(book, books::renaming(chance))
     }
@@ -555,7 +561,9 @@ pub fn least_words(trial: &mut Trial, chance: &mut Chance, kinds: &[Make], cases
         for _ in 0..4 {
             let mut word = renamed(&words::pair(chance, &ranked.book, 40).0, &ranked.table);
             if let Some(least) = trial.search_least(&ranked.known, &word, 300) {
-                least_in_many_buffers(trial, &ranked.bytes, &least, &word);
+                for (size, offset) in buffers_near(&least) {
+                    trial.least(&ranked.bytes, &least, &word, size, offset);
+                }
             }
             if !word.is_empty() && chance.once_in(4) {
                 let at = chance.below(word.len());
@@ -566,17 +574,13 @@ pub fn least_words(trial: &mut Trial, chance: &mut Chance, kinds: &[Make], cases
     }
 }
 
-/// A least word in buffers that have its length, up to three bytes less or more, at the offsets 0, in the middle, at the end, one past it, and as far as can be.
-fn least_in_many_buffers(trial: &mut Trial, bytes: &[u8], least: &KnownLeast, word: &[u8]) {
-    let length = least.as_ref().map_or(0, Vec::len);
-    for size in length.saturating_sub(3)..=length + 3 {
-        for offset in [0, size - length.min(size), size / 2, size, size + 1, usize::MAX] {
-            trial.least(bytes, least, word, size, offset);
-        }
-    }
-    for (before, behind) in [(1, 0), (7, 2), (40, 0), (0, 40)] {
-        trial.least(bytes, least, word, before + length + behind, before);
-    }
+/// Sizes of buffers, with offsets: those that have a word's length, up to three bytes less or more, at the offsets 0, in the middle, at the end, one past it, and as far as
+/// can be; and some that are longer.
+pub(crate) fn buffers_near(known: &KnownWord) -> impl Iterator<Item = (usize, usize)> {
+    let length = known.as_ref().map_or(0, Vec::len);
+    let offsets = move |size: usize| [0, size - length.min(size), size / 2, size, size + 1, usize::MAX].map(|offset| (size, offset));
+    let longer = [(1, 0), (7, 2), (40, 0), (0, 40)].map(|(before, behind)| (before + length + behind, before));
+    (length.saturating_sub(3)..=length + 3).flat_map(offsets).chain(longer)
 }
 
 /// Least words of all words of a length and below under small books, for about `count` words each.
@@ -588,17 +592,26 @@ pub fn least_of_all_words(trial: &mut Trial, chance: &mut Chance, kinds: &[Make]
     }
 }
 
-/// The same under the first books of one relation over two letters, up to a length of the longer side, with the letters in either order.
+/// The same under books over two letters.
 pub fn least_of_two_letters(trial: &mut Trial, chance: &mut Chance, most: usize, words_of: usize) {
+    for ranked in ranked_of_two_letters(chance, most) {
+        least_of_words_up_to(trial, &ranked, words_of);
+    }
+}
+
+/// The first accepted books of one relation over two letters, up to a length of the longer side, with the letters in either order.
+pub(crate) fn ranked_of_two_letters(chance: &mut Chance, most: usize) -> Vec<Ranked> {
+    let mut all = Vec::new();
     for n in 1..=most {
         for book in books::of_two_letters(n).filter(|book| reference::accept(&book.bytes()).is_ok()).take(26) {
             let mut table = books::renaming(chance);
             for _ in 0..2 {
                 table.swap(0, 1);
-                least_of_words_up_to(trial, &Ranked::of(book.clone(), table), words_of);
+                all.push(Ranked::of(book.clone(), table));
             }
         }
     }
+    all
 }
 
 /// All words of at most so many letters; those of one class have one least word, which one search finds for them all.

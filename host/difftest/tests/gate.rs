@@ -1,7 +1,7 @@
 //! The fixed part of the differential tests: fixed seeds and sizes, some tens of seconds.
 
 use difftest::tally::Numbers;
-use difftest::{chosen, held_trials, ticket_trials, trials, Tally, Trial};
+use difftest::{chosen, front_trials, held_trials, ticket_trials, trials, Tally, Trial};
 use gen::books::AT_THE_LIMITS;
 use gen::Chance;
 
@@ -194,6 +194,51 @@ fn least_words_where_words_are_shared() {
 /// The numbers of refusals that were met fewer than `least` times.
 fn seldom(refused: &Numbers, numbers: &[usize], least: u64) -> Vec<usize> {
     numbers.iter().copied().filter(|&number| refused[number] < least).collect()
+}
+
+#[test]
+fn every_piece_and_all_short_words() {
+    let tally = tried(46, |trial, chance| front_trials::every_piece(trial, chance, &trials::SMALL, 60, 400));
+    assert!(tally.searched > 10_000 && tally.fronts.left[1..].iter().all(|&met| met > 500) && tally.fronts.refused[19] > 1_000, "{tally}");
+    let tally = tried(47, |trial, chance| front_trials::every_piece(trial, chance, &trials::SHARED_SMALL, 60, 400));
+    assert!(tally.fronts.left[1..].iter().all(|&met| met > 500) && tally.fronts.refused[19] > 1_000 && tally.shared.families > 20, "{tally}");
+    let tally = tried(48, |trial, chance| front_trials::every_piece_of_two_letters(trial, chance, 8, 9));
+    assert!(tally.fronts.left.iter().all(|&met| met > 500) && tally.fronts.refused[19] > 10_000 && tally.fronts.nothing > 200, "{tally}");
+}
+
+/// Each kind of front was met often, and each refusal.
+fn fronts_were_met(tally: &Tally) {
+    let fronts = &tally.fronts;
+    assert!(fronts.left.iter().all(|&met| met > 500) && fronts.longer > 50 && fronts.nothing > 100, "{fronts}");
+    assert_eq!(seldom(&fronts.refused, &[9, 10, 14, 18, 19], 500), [], "{fronts}");
+    assert!(fronts.given.iter().chain(&fronts.narrow).chain(&fronts.no_pieces).all(|&met| met > 200) && fronts.long > 100, "{fronts}");
+}
+
+#[test]
+fn fronts() {
+    fronts_were_met(&tried(49, |trial, chance| front_trials::fronts(trial, chance, &trials::RANKED, 600)));
+}
+
+#[test]
+fn fronts_where_words_are_shared() {
+    let tally = tried(50, |trial, chance| front_trials::fronts(trial, chance, &trials::SHARED_CLASSES, 600));
+    fronts_were_met(&tally);
+    assert!(tally.shared.families > 200, "{}", tally.shared);
+}
+
+#[test]
+fn fronts_of_joined_words() {
+    for (seed, kinds) in [(51, &trials::RANKED[..]), (52, &trials::SHARED)] {
+        let tally = tried(seed, |trial, chance| front_trials::fronts_of_joined_words(trial, chance, kinds, 100, 120, 1_000));
+        assert!(tally.fronts.left.iter().all(|&met| met > 50) && tally.fronts.refused[19] > 20 && tally.same > 100, "{tally}");
+    }
+}
+
+#[test]
+fn fronts_at_the_limits() {
+    let fronts = tried(53, front_trials::fronts_at_the_limits).fronts;
+    assert!(fronts.left[1..].iter().all(|&met| met > 10) && fronts.long > 0, "{fronts}");
+    assert_eq!(seldom(&fronts.refused, &[9, 14, 18, 19], 3), [], "{fronts}");
 }
 
 #[test]

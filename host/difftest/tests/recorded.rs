@@ -1,12 +1,12 @@
-//! The recorded calls and inputs, the executed changes and tickets of held books, and document 01's bench cases, with answers that are written down: the reference
-//! has no part in these.
+//! The recorded calls and inputs, the executed fronts and the executed changes and tickets of held books, and document 01's bench cases, with answers that are
+//! written down: the reference has no part in these.
 
 use difftest::entries::{Compared, Refused, Rounded};
 use difftest::trial::{SHEET, SHEET_SIDE};
 use difftest::{chosen, Entries};
 use gen::{books, Book};
 use vectors::held::{told, Answer, Holder};
-use vectors::{bytes, hex, Call};
+use vectors::{bytes, hex, placed, Call};
 
 fn refused((number, place): Refused) -> String {
     format!("refused {number} {place}")
@@ -69,10 +69,9 @@ fn answer(entries: &dyn Entries, call: &Call) -> String {
                 Err(refusal) => refused(refusal),
             }
         }
-        Call::Least { book, word, size, offset } => {
-            let mut buffer = vec![0xaa; *size];
-            let length = entries.least(book, word, &mut buffer, *offset);
-            length.map_or_else(refused, |length| format!("least {length} {}", hex(&buffer[*offset..][..length as usize])))
+        Call::Least { book, word, size, offset } => placed("least", *size, *offset, |buffer| entries.least(book, word, buffer, *offset)),
+        Call::Front { book, word, piece, size, offset } => {
+            placed("front", *size, *offset, |buffer| entries.front(book, word, piece, buffer, *offset))
         }
         Call::Held { book, operations } => told(&Held(entries), book, operations),
     }
@@ -91,13 +90,23 @@ fn recorded_calls() {
     }
 }
 
-#[test]
-fn executed_changes_of_held_books() {
-    let stories: Vec<_> = vectors::executed().into_iter().filter(|case| case.line.starts_with("held ")).collect();
-    assert!(stories.len() > 200, "{} lines", stories.len());
-    for case in stories {
+/// The executed cases of one line form, of which there are more than `least`.
+fn executed(form: &str, least: usize) {
+    let cases: Vec<_> = vectors::executed().into_iter().filter(|case| case.line.split(' ').next() == Some(form)).collect();
+    assert!(cases.len() > least, "{} lines", cases.len());
+    for case in cases {
         assert_eq!(answer(&chosen(), &vectors::call(&case.line)), case.answer, "{}", case.line);
     }
+}
+
+#[test]
+fn executed_changes_of_held_books() {
+    executed("held", 200);
+}
+
+#[test]
+fn executed_fronts() {
+    executed("front", 100);
 }
 
 #[test]

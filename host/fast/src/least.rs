@@ -1,12 +1,13 @@
-//! The least word (document 01, "The least equal run"): one walk along the word, which holds a part of the text and the rest of the given word, and
-//! rewrites nothing. What is still to be written is held as a word u and a mark p: the least w such that p w is congruent to u.
+//! The least word, and what a front leaves of a word (document 01, "The least equal run" and "Taking a front off"): one walk along the word, which holds a part
+//! of the text and the rest of the given word, and rewrites nothing. What is still to be written is held as a word u and a mark p: the least w such that p w is
+//! congruent to u. The least word begins with the empty mark, what a front leaves with that front, which is a part of the text since it is a piece.
 //!
 //! Whether a mark is a possible front of the rest of the word is found by a second walk ahead of the first. Its answer is kept as a hint that goes along
 //! with u, so that no letter is walked over twice.
 
 use crate::reader::{Laid, SIDES};
-use crate::rounds::{check_word, Held, Parts, Ready, COMPARED};
-use crate::{refuse, Refusal};
+use crate::rounds::{check_word, Held, Parts, Ready, COMPARED, ROUND_MARK};
+use crate::{pieces, refuse, Refusal};
 
 /// A part of the text.
 type Part = (usize, usize);
@@ -53,7 +54,7 @@ struct State {
     hint: Option<Hint>,
 }
 
-/// What receives the least word, part by part.
+/// What receives the letters that are written, part by part.
 trait Sink {
     fn letter(&mut self, letter: u8);
     fn part(&mut self, part: &[u8]);
@@ -102,10 +103,31 @@ struct Walk<'a> {
     given: &'a [u8],
 }
 
-impl Walk<'_> {
-    /// Gives the sink the least word.
-    fn run(&self, sink: &mut impl Sink) {
-        let mut state = State::default();
+impl<'a> Walk<'a> {
+    fn new(ready: &'a Ready, given: &'a [u8]) -> Walk<'a> {
+        Walk { ready, first: First::new(&ready.laid), text: &ready.laid.text, given }
+    }
+
+    /// The given word with a mark; none where the mark is no possible front of it.
+    fn start(&self, p: Part) -> Option<State> {
+        let u = Held::default();
+        let hint = (p.0 < p.1).then_some(Hint { q: p, possible: true });
+        self.is_possible(p, u.parts(self.text, self.given)).then_some(State { u, p, hint })
+    }
+
+    /// Writes what is left from a state on at an offset of a buffer, and gives its length. It is counted before a byte is written.
+    fn write(&self, start: State, buffer: &mut [u8], offset: usize) -> Result<u64, Refusal> {
+        let mut count = Count(0);
+        self.run(start, &mut count);
+        match buffer.get_mut(offset..) {
+            Some(room) if count.0 <= room.len() => self.run(start, &mut Write { buffer: room, length: 0 }),
+            _ => return refuse(14, 0),
+        }
+        Ok(count.0 as u64)
+    }
+
+    /// Gives the sink what is left from a state on.
+    fn run(&self, mut state: State, sink: &mut impl Sink) {
         loop {
             let u = state.u.parts(self.text, self.given);
             let Some(letter) = u.first() else { return };
@@ -285,16 +307,20 @@ impl Walk<'_> {
     }
 }
 
-/// Writes the least word of a word under a book at an offset of a lent buffer, and gives its length. It is counted before a byte is written.
+/// Writes the least word of a word under a book at an offset of a lent buffer, and gives its length.
 pub fn least(book: &[u8], word: &[u8], buffer: &mut [u8], offset: usize) -> Result<u64, Refusal> {
     let ready = Ready::new(book)?;
     check_word(word, 0, COMPARED, ready.laid.letters)?;
-    let walk = Walk { ready: &ready, first: First::new(&ready.laid), text: &ready.laid.text, given: word };
-    let mut count = Count(0);
-    walk.run(&mut count);
-    match buffer.get_mut(offset..) {
-        Some(room) if count.0 <= room.len() => walk.run(&mut Write { buffer: room, length: 0 }),
-        _ => return refuse(14, 0),
-    }
-    Ok(count.0 as u64)
+    Walk::new(&ready, word).write(State::default(), buffer, offset)
+}
+
+/// Takes a piece off the front of a word under a book, writes the least rest at an offset of a lent buffer, and gives its length.
+pub fn front(book: &[u8], word: &[u8], piece: &[u8], buffer: &mut [u8], offset: usize) -> Result<u64, Refusal> {
+    let ready = Ready::new(book)?;
+    check_word(word, 0, COMPARED, ready.laid.letters)?;
+    check_word(piece, 2, ROUND_MARK, ready.laid.letters)?;
+    let Some(p) = pieces::find(&ready.laid, piece) else { return refuse(18, 0) };
+    let walk = Walk::new(&ready, word);
+    let Some(start) = walk.start(p) else { return refuse(19, 0) };
+    walk.write(start, buffer, offset)
 }

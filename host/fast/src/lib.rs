@@ -4,7 +4,7 @@
 //! and each word that of its family and a link to the next member. One row of common fronts, updated in place, gives the
 //! longest piece that starts at each place of the text; C(4), the cuts and the numbers of pieces are read off that table. A comparison finds relation
 //! words by an index and holds each of its words as a part of the text followed by the rest of a given word, in three numbers, and copies nothing; so does
-//! the least word. A change of a held book, made, proposed or posted, makes the new book in an array, and checks it once, as any other.
+//! the least word and what a front leaves. A change of a held book, made, proposed or posted, makes the new book in an array, and checks it once, as any other.
 //!
 //! Document 01's words: a step is a letter, a run a word, a side a relation word, a rule a relation, a book a presentation.
 
@@ -18,7 +18,7 @@ mod rounds;
 mod tickets;
 
 pub use held::{add, book_of, load, withdraw, HELD};
-pub use least::least;
+pub use least::{front, least};
 pub use program::{program, OUTPUT};
 pub use rounds::{compare, round, Comparison, RoundEnd};
 pub use tickets::{post, propose_add, propose_withdraw, TICKET};

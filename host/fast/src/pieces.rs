@@ -79,3 +79,15 @@ pub fn cut_all(laid: &mut Laid) -> Option<usize> {
     }
     None
 }
+
+/// Where a piece stands in the text, from one place to another; none where the word is no piece. A word other than the empty one is a piece just where it stands in the
+/// text twice, since each distinct word is laid there once and no fence is a letter.
+pub fn find(laid: &Laid, word: &[u8]) -> Option<(usize, usize)> {
+    if word.is_empty() {
+        return Some((0, 0));
+    }
+    let text = &laid.text[..laid.length];
+    let mut places = text.windows(word.len()).enumerate().filter(|(_, part)| *part == word).map(|(at, _)| at);
+    let at = places.next()?;
+    places.next().map(|_| (at, at + word.len()))
+}

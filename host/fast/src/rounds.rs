@@ -7,7 +7,7 @@ use crate::{accept, refuse, Refusal};
 /// Most letters of a compared word, of the round's u and v, and of its p; the least sizes of the three lent buffers.
 pub const COMPARED: usize = 4_096;
 const ROUND_WORD: usize = 4_160;
-const ROUND_MARK: usize = 64;
+pub const ROUND_MARK: usize = 64;
 const NEXT: [usize; 3] = [4_224, 4_224, 64];
 
 /// A word in two parts, one behind the other.

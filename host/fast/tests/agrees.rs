@@ -1,6 +1,7 @@
-//! Agrees with the reference on generated books, words, rounds, least words, damage, program inputs, changes of held books and tickets, and on the
+//! Agrees with the reference on generated books, words, rounds, least words, fronts, damage, program inputs, changes of held books and tickets, and on the
 //! recorded vectors.
 
+use gen::fronts::Fronts;
 use gen::stories::{Act, Change, Story};
 use gen::{books, damage, inputs, shared, words, Book, Chance};
 use vectors::held::{told, Answer, Holder};
@@ -57,16 +58,29 @@ fn round(book: &[u8], accepted: &reference::Accepted, state: [&[u8]; 3]) -> Opti
     Some(two)
 }
 
-/// The least word at an offset of a buffer, if the class has few words. The answer, and every byte of the buffer, are as they should be.
-fn least(book: &[u8], accepted: &reference::Accepted, word: &[u8], offset: usize, spare: isize) -> Option<Vec<u8>> {
-    let least = reference::least::least_word(&accepted.sides, word, 300)?;
-    let room = (offset + least.len()).saturating_add_signed(spare);
+/// A word that is known, or its refusal, at an offset of a buffer with so many bytes more or less than it needs. The answer, and every byte of the buffer, are as they
+/// should be.
+fn placed(known: &Result<Vec<u8>, Refused>, offset: usize, spare: isize, call: impl FnOnce(&mut [u8]) -> Result<u64, fast::Refusal>, told: &str) {
+    let room = (offset + known.as_ref().map_or(0, Vec::len)).saturating_add_signed(spare);
     let mut one = vec![170; room];
     let mut two = one.clone();
-    let expected = reference::entries::write_at(&least, &mut two, offset).map_err(theirs);
-    assert_eq!(fast::least(book, word, &mut one, offset).map_err(ours), expected, "{book:?} {word:?}");
-    assert_eq!(one, two, "{book:?} {word:?}");
+    let expected = known.as_ref().map_err(|refused| *refused).and_then(|word| reference::entries::write_at(word, &mut two, offset).map_err(theirs));
+    assert_eq!(call(&mut one).map_err(ours), expected, "{told}");
+    assert_eq!(one, two, "{told}");
+}
+
+/// The least word at an offset of a buffer, if the class has few words.
+fn least(book: &[u8], accepted: &reference::Accepted, word: &[u8], offset: usize, spare: isize) -> Option<Vec<u8>> {
+    let least = reference::least::least_word(&accepted.sides, word, 300)?;
+    placed(&Ok(least.clone()), offset, spare, |buffer| fast::least(book, word, buffer, offset), &format!("{book:?} {word:?}"));
     Some(least)
+}
+
+/// What a front leaves at an offset of a buffer, or the refusal, if the class has few words.
+fn front(book: &[u8], accepted: &reference::Accepted, [word, piece]: [&[u8]; 2], offset: usize, spare: isize) -> Option<Result<Vec<u8>, Refused>> {
+    let known = reference::entries::find_front(accepted, word, piece, 300).map_err(theirs).transpose()?;
+    placed(&known, offset, spare, |buffer| fast::front(book, word, piece, buffer, offset), &format!("{book:?} {word:?} {piece:?}"));
+    Some(known)
 }
 
 fn program(input: &[u8]) {
@@ -271,6 +285,98 @@ fn on_refused_least_words() {
 }
 
 #[test]
+fn on_fronts() {
+    let mut chance = Chance::new(11);
+    let kinds =
+        [books::any, books::few_letters, books::overlapping, books::linked, books::tangled, books::small, shared::any, shared::linked, shared::apart];
+    let (mut left, mut by_exchange, mut refused) = (0, 0, [0; 20]);
+    for case in 0..6_000 {
+        let book = kinds[case % kinds.len()](&mut chance);
+        let table = books::renaming(&mut chance);
+        let bytes = book.renamed(&table).bytes();
+        let Some(accepted) = check(&bytes) else { continue };
+        let fronts = Fronts::new(&book);
+        for _ in 0..4 {
+            let piece = fronts.any(&mut chance);
+            let word = fronts.word(&mut chance, &piece, 30);
+            let mut given = [word, piece].map(|word| books::renamed(&word, &table));
+            if chance.once_in(10) {
+                let strange = &mut given[chance.below(2)];
+                *strange = words::strange(&mut chance, strange, 64);
+            }
+            let (offset, spare) = (chance.below(9), chance.below(5) as isize - 1);
+            match front(&bytes, &accepted, given.each_ref().map(|word| &word[..]), offset, spare) {
+                Some(Ok(rest)) if spare < 0 => refused[14] += (offset > 0 || !rest.is_empty()) as usize,
+                Some(Ok(_)) => {
+                    left += 1;
+                    by_exchange += !given[0].starts_with(&given[1]) as usize;
+                }
+                Some(Err((number, _))) => refused[number as usize] += 1,
+                None => {}
+            }
+        }
+    }
+    assert!(left > 3_000 && by_exchange > 600, "{left} left, {by_exchange} by way of exchanges");
+    let seldom: Vec<usize> = [9, 10, 14, 18, 19].into_iter().filter(|&number| refused[number] < 200).collect();
+    assert_eq!(seldom, [], "refusals that are hardly met: {refused:?}");
+}
+
+#[test]
+fn on_refused_fronts() {
+    let answer = |book: &[u8], word: &[u8], piece: &[u8], room: usize, offset: usize| {
+        let (mut one, mut two) = (vec![170; room], vec![170; room]);
+        let expected = reference::front(book, word, piece, &mut two, offset).map_err(theirs);
+        assert_eq!(fast::front(book, word, piece, &mut one, offset).map_err(ours), expected, "{book:?} {word:?} {piece:?} {room} {offset}");
+        assert_eq!(one, two);
+        expected
+    };
+    let mut chance = Chance::new(13);
+    for _ in 0..2_000 {
+        let book = books::any(&mut chance);
+        let bytes = damage::damaged(&mut chance, &book.bytes());
+        let _ = answer(&bytes, &[0], &[book.letters; 65], 3, 4);
+    }
+    let q = books::Book::new(4, vec![vec![0, 1, 3, 2], vec![2, 0, 3, 1]]).bytes();
+    assert_eq!(answer(&q, &[4; 4_097], &[4; 65], 0, 1), Err((9, 0)));
+    assert_eq!(answer(&q, &[0, 4], &[4; 65], 0, 1), Err((10, 1)));
+    assert_eq!(answer(&q, &[0; 4_096], &[4; 65], 0, 1), Err((9, 10_000)));
+    assert_eq!(answer(&q, &[2], &[0, 4, 1], 0, 1), Err((10, 10_001)));
+    assert_eq!(answer(&q, &[2], &[0; 64], 0, 1), Err((18, 0)));
+    assert_eq!(answer(&q, &[2], &[0, 1], 0, 1), Err((18, 0)));
+    assert_eq!(answer(&q, &[2], &[0], 0, 1), Err((19, 0)));
+    assert_eq!(answer(&q, &[2], &[2], 0, 1), Err((14, 0)));
+    assert_eq!(answer(&q, &[0, 1, 3, 2], &[2], 2, 0), Err((14, 0)));
+    assert_eq!(answer(&q, &[0, 1, 3, 2], &[2], 3, 0), Ok(3));
+    assert_eq!(answer(&q, &[0; 4_096], &[0], 4_095, 0), Ok(4_095));
+}
+
+#[test]
+fn on_every_piece_and_all_short_words() {
+    let mut chance = Chance::new(12);
+    let mut met = [0; 20];
+    for case in 0..60 {
+        let book = [books::small, shared::small][case % 2](&mut chance);
+        let bytes = book.bytes();
+        let Some(accepted) = check(&bytes) else { continue };
+        let mut words = vec![Vec::new()];
+        for at in 0.. {
+            if words.len() > 200 {
+                break;
+            }
+            let word: Vec<u8> = Vec::clone(&words[at]);
+            words.extend((0..book.letters).map(|letter| [&word[..], &[letter]].concat()));
+        }
+        for piece in Fronts::new(&book).pieces {
+            for word in &words {
+                let known = front(&bytes, &accepted, [word, &piece], 0, 0).expect("few words are reached");
+                met[known.map_or_else(|(number, _)| number as usize, |_| 0)] += 1;
+            }
+        }
+    }
+    assert!(met[0] > 2_000 && met[19] > 2_000, "{met:?}");
+}
+
+#[test]
 fn on_damaged_books() {
     let mut chance = Chance::new(3);
     for _ in 0..8_000 {
@@ -399,10 +505,12 @@ fn on_recorded_vectors() {
             }
             Call::Round { words, .. } => drop(round(book, &accepted, words.each_ref().map(|word| &word[..]))),
             Call::Least { word, size, offset, .. } => {
-                let mut buffer = vec![170; *size];
-                let length = fast::least(book, word, &mut buffer, *offset).map_err(ours);
-                let answer = length.map(|length| format!("least {length} {}", vectors::hex(&buffer[*offset..][..length as usize])));
-                assert_eq!(answer.unwrap_or_else(|(number, place)| format!("refused {number} {place}")), recorded.answer, "{}", recorded.line)
+                let answer = vectors::placed("least", *size, *offset, |buffer| fast::least(book, word, buffer, *offset).map_err(ours));
+                assert_eq!(answer, recorded.answer, "{}", recorded.line)
+            }
+            Call::Front { word, piece, size, offset, .. } => {
+                let answer = vectors::placed("front", *size, *offset, |buffer| fast::front(book, word, piece, buffer, *offset).map_err(ours));
+                assert_eq!(answer, recorded.answer, "{}", recorded.line)
             }
             Call::Sheet { size, .. } => sheet(book, *size),
             Call::Held { .. } => {}

@@ -370,6 +370,11 @@ pub fn longest_least() -> Book {
 /// The letter of `longest_least` that is repeated.
 pub const LONGEST_LEAST_LETTER: u8 = 1;
 
+/// The book with the longest rests behind a front: as `longest_least`, with a long side that ends as it begins, so that its first letter is a piece, which leaves 64 n − 1.
+pub fn longest_rest() -> Book {
+    Book::new(3, vec![vec![LONGEST_LEAST_LETTER], [&[0], &[2; 62][..], &[0]].concat()])
+}
+
 /// 31 relations whose sides have long middles that begin alike, so that each test for a clean front tries many places.
 pub fn long_middles(chance: &mut Chance) -> Book {
     let front = chance.word(20, 2);

@@ -32,7 +32,12 @@ pub fn overlap(word: &mut Vec<u8>, side: &[u8]) {
 
 /// A word of up to about `most` letters in which each side is laid over an end of the side before it where it can be.
 pub fn linked(chance: &mut Chance, book: &Book, most: usize) -> Vec<u8> {
-    let mut word = Vec::new();
+    linked_behind(chance, book, &[], most)
+}
+
+/// The same behind a front that is given, which has at most `most` letters, the first side laid over an end of it.
+pub fn linked_behind(chance: &mut Chance, book: &Book, front: &[u8], most: usize) -> Vec<u8> {
+    let mut word = front.to_vec();
     let length = chance.below(most + 1);
     while word.len() < length && !book.words.is_empty() {
         let shared = |side: &[u8]| (1..side.len().min(word.len() + 1)).rev().find(|&l| word.ends_with(&side[..l])).unwrap_or(0);
@@ -67,12 +72,16 @@ pub fn exchanged(chance: &mut Chance, book: &Book, word: &[u8], times: usize, mo
             break;
         }
         let (at, i) = *chance.pick(&places);
-        let other = &book.words[i ^ 1];
-        if word.len() - book.words[i].len() + other.len() <= most {
-            word.splice(at..at + book.words[i].len(), other.iter().copied());
+        if word.len() - book.words[i].len() + book.words[i ^ 1].len() <= most {
+            exchange(book, &mut word, at, i);
         }
     }
     word
+}
+
+/// Exchanges a side that stands at a place of the word for the other side of its relation.
+pub fn exchange(book: &Book, word: &mut Vec<u8>, at: usize, side: usize) {
+    word.splice(at..at + book.words[side].len(), book.words[side ^ 1].iter().copied());
 }
 
 /// The word with a side that stands in it replaced by any other, of its family or not; none that would make it longer than `most`.
@@ -138,6 +147,13 @@ pub fn pair(chance: &mut Chance, book: &Book, most: usize) -> (Vec<u8>, Vec<u8>)
     } else {
         (v, u)
     }
+}
+
+/// The word with a letter put in that a book of so many letters does not have.
+pub fn strange(chance: &mut Chance, word: &[u8], letters: u8) -> Vec<u8> {
+    let mut word = word.to_vec();
+    word.insert(chance.below(word.len() + 1), chance.between(letters as usize, 255) as u8);
+    word
 }
 
 /// A front mark: empty, a front, an end or another part of a side, or anything.

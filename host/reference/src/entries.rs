@@ -1,15 +1,18 @@
-//! The entries over slices: check, cut sheet, single round, comparison, least word (document 01, with the order of refusals that it fixes).
+//! The entries over slices: check, cut sheet, single round, comparison, least word, taking a front off (document 01, with the order of refusals that it fixes).
 
 use crate::book::{accept, Accepted, SHEET_SIDE};
+use crate::chains::reached;
+use crate::front::least_rest;
 use crate::least::least_word;
+use crate::pieces::pieces;
 use crate::rows::{self, Answer, Next};
 use crate::{refuse, Refusal, Word};
 
-/// The most letters of a word that is compared, and of one whose least word is asked for.
+/// The most letters of a word that is compared, of one whose least word is asked for, and of one that a front is taken off.
 pub const COMPARED: usize = 4_096;
 /// The most letters of the single round's u and v.
 pub const ROUND_WORD: usize = 4_160;
-/// The most letters of the single round's p.
+/// The most letters of the single round's p, and of a front that is taken off.
 pub const ROUND_MARK: usize = 64;
 /// The least sizes of the single round's three lent buffers.
 pub const NEXT: [usize; 3] = [4_224, 4_224, 64];
@@ -115,11 +118,33 @@ pub fn find_least(book: &Accepted, word: &[u8], most: usize) -> Result<Option<Wo
     Ok(least_word(&book.sides, word, most))
 }
 
-/// Writes a least word at an offset: 14 where the offset lies past the buffer's end, or the word is longer than what follows the offset.
-pub fn write_at(least: &[u8], buffer: &mut [u8], offset: usize) -> Result<u64, Refusal> {
-    if offset > buffer.len() || least.len() > buffer.len() - offset {
+/// Takes a piece off the front of a word under a book, writes the least rest at an offset of a lent buffer, and gives its length.
+pub fn front(book: &[u8], word: &[u8], piece: &[u8], buffer: &mut [u8], offset: usize) -> Result<u64, Refusal> {
+    front_under(&accept(book)?, word, piece, buffer, offset)
+}
+
+/// The same under a book that is accepted already.
+pub fn front_under(book: &Accepted, word: &[u8], piece: &[u8], buffer: &mut [u8], offset: usize) -> Result<u64, Refusal> {
+    let rest = find_front(book, word, piece, usize::MAX)?.expect("a search without a limit ends");
+    write_at(&rest, buffer, offset)
+}
+
+/// 9 and 10 of the word, and then of the piece, 18, 19, and then the least rest; none where a chain reaches more than `most` words.
+pub fn find_front(book: &Accepted, word: &[u8], piece: &[u8], most: usize) -> Result<Option<Word>, Refusal> {
+    check_word(word, 0, COMPARED, book.letters)?;
+    check_word(piece, 2, ROUND_MARK, book.letters)?;
+    if !pieces(&book.sides).contains(piece) {
+        return refuse(18, 0);
+    }
+    let Some(reached) = reached(&book.sides, word, most) else { return Ok(None) };
+    least_rest(&reached, piece).map_or_else(|| refuse(19, 0), |rest| Ok(Some(rest)))
+}
+
+/// Writes a word at an offset: 14 where the offset lies past the buffer's end, or the word is longer than what follows the offset.
+pub fn write_at(word: &[u8], buffer: &mut [u8], offset: usize) -> Result<u64, Refusal> {
+    if offset > buffer.len() || word.len() > buffer.len() - offset {
         return refuse(14, 0);
     }
-    buffer[offset..offset + least.len()].copy_from_slice(least);
-    Ok(least.len() as u64)
+    buffer[offset..offset + word.len()].copy_from_slice(word);
+    Ok(word.len() as u64)
 }

@@ -3,7 +3,8 @@
 //! It is written literally from document 01 and from document 003, section 1: words are vectors, pieces are found by listing every factor of
 //! every distinct relation word, numbers of pieces by trying every start of the last piece, families by breadth-first search over the relations, the rows
 //! stand in the order and by the words of the paper, chains are found by breadth-first search over single exchanges, the least word by looking at every
-//! word that a chain reaches, and a change of a held book by writing the new book out from its list of rules: it is proposed, and then its ticket is posted.
+//! word that a chain reaches, what is left behind a front by looking at those of them that begin with it, and a change of a held book by writing the new
+//! book out from its list of rules: it is proposed, and then its ticket is posted.
 //! It shares nothing with any other implementation, and is made to be read, not to be fast.
 //!
 //! Document 01's words: a step is a letter, a run a word, a side a relation word, a rule a relation, a book a presentation.
@@ -12,6 +13,7 @@ pub mod book;
 pub mod chains;
 pub mod entries;
 pub mod families;
+pub mod front;
 pub mod held;
 pub mod least;
 pub mod pieces;
@@ -20,7 +22,7 @@ pub mod rows;
 pub mod tickets;
 
 pub use book::{accept, Accepted, SHEET_SIDE};
-pub use entries::{check, compare, compare_under, cut_sheet, least, least_under, round, round_under, Comparison, RoundEnd};
+pub use entries::{check, compare, compare_under, cut_sheet, front, front_under, least, least_under, round, round_under, Comparison, RoundEnd};
 pub use held::{add, book_of, load, withdraw};
 pub use program::program;
 pub use tickets::{post, propose_add, propose_withdraw};

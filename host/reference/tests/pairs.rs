@@ -69,6 +69,7 @@ fn rows_where_no_word_is_shared() {
             Call::Compare { u, v, .. } => [u, v, Vec::new()],
             Call::Round { words, .. } => words,
             Call::Least { word, .. } => [word.clone(), word, Vec::new()],
+            Call::Front { word, piece, .. } => [word.clone(), word, piece],
             Call::Sheet { .. } | Call::Held { .. } => continue,
         };
         loop {

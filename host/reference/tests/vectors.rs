@@ -1,9 +1,9 @@
 //! Every recorded call, every recorded input of the program, and every executed case.
 
-use reference::entries::find_least;
-use reference::{accept, book, check, compare, cut_sheet, least, program, round, Comparison, Refusal, RoundEnd};
-use vectors::held::{told, Answer, Holder};
-use vectors::{bytes, call, hex, Call, Case};
+use reference::entries::{find_front, find_least};
+use reference::{accept, book, check, compare, cut_sheet, front, least, program, round, Comparison, Refusal, RoundEnd};
+use vectors::held::{told, Holder};
+use vectors::{bytes, call, hex, placed, Answer, Call, Case};
 
 fn refused(refusal: Refusal) -> String {
     format!("refused {} {}", refusal.number, refusal.place)
@@ -65,10 +65,9 @@ fn answer(call: &Call) -> String {
                 Err(refusal) => refused(refusal),
             }
         }
-        Call::Least { book, word, size, offset } => {
-            let mut buffer = vec![0xaa; *size];
-            least(book, word, &mut buffer, *offset)
-                .map_or_else(refused, |length| format!("least {length} {}", hex(&buffer[*offset..][..length as usize])))
+        Call::Least { book, word, size, offset } => placed("least", *size, *offset, |buffer| least(book, word, buffer, *offset).map_err(numbers)),
+        Call::Front { book, word, piece, size, offset } => {
+            placed("front", *size, *offset, |buffer| front(book, word, piece, buffer, *offset).map_err(numbers))
         }
         Call::Held { book, operations } => told(&Reference, book, operations),
     }
@@ -88,7 +87,7 @@ fn recorded_inputs_of_the_program() {
     }
 }
 
-/// The answer to an executed case; none where a least word is asked for that no search finds.
+/// The answer to an executed case; none where a word is asked for that no search finds.
 fn executed_answer(line: &str) -> Option<String> {
     let (word, fields) = line.split_once(' ').expect("a word and its fields");
     Some(match word {
@@ -104,10 +103,13 @@ fn executed_answer(line: &str) -> Option<String> {
     })
 }
 
-/// A least word is asked for, and a chain reaches more words than can be searched.
+/// A least word is asked for or what a front leaves, and a chain reaches more words than can be searched.
 fn is_beyond_search(call: &Call) -> bool {
-    let Call::Least { book, word, .. } = call else { return false };
-    accept(book).is_ok_and(|accepted| matches!(find_least(&accepted, word, 10_000), Ok(None)))
+    match call {
+        Call::Least { book, word, .. } => accept(book).is_ok_and(|accepted| matches!(find_least(&accepted, word, 10_000), Ok(None))),
+        Call::Front { book, word, piece, .. } => accept(book).is_ok_and(|accepted| matches!(find_front(&accepted, word, piece, 10_000), Ok(None))),
+        _ => false,
+    }
 }
 
 #[test]

@@ -1,4 +1,5 @@
-//! The specification's example, book Q, through every function but those of a held book: `cargo run --offline --release -p vanecitron --example compare`.
+//! The specification's example, book Q, through every function but the front and those of a held book:
+//! `cargo run --offline --release -p vanecitron --example compare`.
 
 use std::error::Error;
 

@@ -1,6 +1,6 @@
 //! Safe Rust functions over the proved library: the C(4) check of a book, its cut sheet, the comparison of two runs, one single round of it, the least
-//! run that exchanges make of a run, the whole program as bytes to bytes, and a book that is held and changed rule by rule, each change proposed before
-//! where that is wanted.
+//! run that exchanges make of a run, what is left of a run once a front is taken off it, the whole program as bytes to bytes, and a book that is held and
+//! changed rule by rule, each change proposed before where that is wanted.
 //!
 //! A step is a byte below the book's number of letters; a run is a slice of steps; a rule has two sides, which are runs. A book is given as bytes
 //! (docs/SPECIFICATION.md, "Book bytes"), which [`BookWriter`] writes.
@@ -50,7 +50,7 @@ mod sheet;
 pub use book::{rule_record, BookWriter, NoRoom, BOOK, RULE};
 pub use held::{add, book_of, changes, load, post, propose_addition, propose_withdrawal, withdraw};
 #[cfg(feature = "alloc")]
-pub use owned::{cut_sheet, least, program, round, HeldBook, Round, Ticket};
+pub use owned::{cut_sheet, front, least, program, round, HeldBook, Round, Ticket};
 pub use refusal::{Place, Reason, Refusal, Run, HELD_BUFFER, PLACE_SPACING, TICKET_BUFFER};
 pub use sheet::{cuts, Cut, PieceCount};
 
@@ -62,11 +62,11 @@ pub const RULES: usize = 32;
 pub const SIDE: usize = 64;
 /// The most bytes of a book that is accepted.
 pub const BOOK_MOST: usize = 4_293;
-/// The most steps of a run that is compared, or whose least run is asked for.
+/// The most steps of a run that is compared, whose least run is asked for, or off which a front is taken.
 pub const RUN: usize = 4_096;
 /// The most steps of the single round's u and v.
 pub const ROUND_RUN: usize = 4_160;
-/// The most steps of the single round's p.
+/// The most steps of the single round's p, and of the front that is taken off.
 pub const ROUND_MARK: usize = 64;
 /// The most rounds that an allowance can give.
 pub const ALLOWANCE: u32 = 4_294_967_295;
@@ -88,7 +88,8 @@ pub const SHEET: usize = 2 * SHEET_SIDE * RULES;
 pub const NEXT_RUN: usize = 4_224;
 /// The least size of the buffer lent for the next p.
 pub const NEXT_MARK: usize = 64;
-/// The most steps of a least run, 64 for each step of the given run: a buffer with so many bytes behind the offset is enough for every one.
+/// The most steps of a least run, and of the run behind a front, 64 for each step of the given run: a buffer with so many bytes behind the offset is enough
+/// for every one.
 pub const LEAST: usize = 262_144;
 /// The most bytes of the program's input.
 pub const INPUT: usize = 60_000;
@@ -237,6 +238,32 @@ pub fn round_into(
 /// ```
 pub fn least_into(book: &[u8], run: &[u8], buffer: &mut [u8], offset: usize) -> Result<usize, Refusal> {
     let result = raw::least(book, run, buffer, offset);
+    refusal::none(result.refusal, result.place)?;
+    Ok(result.length as usize)
+}
+
+/// Takes a front off a run: writes the run w into the buffer from the offset on, and gives its length, such that a chain of exchanges joins the piece followed
+/// by w to the run; of all such w it is the first in the order of [`least_into`]. The piece is one of the book: the empty run, or a run that stands in two
+/// different sides or at two places of one. The run itself need not begin with it. Refusal 18 says that it is no piece, and 19 that there is no w. With
+/// the empty piece w is the least run. The bytes before and behind it are untouched; [`LEAST`] bytes are always enough room.
+///
+/// ```
+/// use vanecitron::{front_into, Reason};
+///
+/// // four letters, and the rule abdc = cadb, where each letter is a piece; abdc with c taken off leaves adb
+/// let book = [1, 0, 1, 0, 4, 10, 0, 2, 0, 4, 4, 0, 1, 3, 2, 2, 0, 3, 1];
+/// let mut buffer = [9; 6];
+/// assert_eq!(front_into(&book, &[0, 1, 3, 2], &[2], &mut buffer, 2)?, 3);
+/// assert_eq!(buffer, [9, 9, 0, 3, 1, 9]);
+///
+/// // no run that is joined to abdc begins with d; ab stands in one side alone; and at 4 there is no room for adb
+/// assert_eq!(front_into(&book, &[0, 1, 3, 2], &[3], &mut buffer, 2).unwrap_err().reason, Reason::NoFront);
+/// assert_eq!(front_into(&book, &[0, 1, 3, 2], &[0, 1], &mut buffer, 2).unwrap_err().reason, Reason::NotPiece);
+/// assert_eq!(front_into(&book, &[0, 1, 3, 2], &[2], &mut buffer, 4).unwrap_err().reason, Reason::NoSpace);
+/// # Ok::<(), vanecitron::Refusal>(())
+/// ```
+pub fn front_into(book: &[u8], run: &[u8], piece: &[u8], buffer: &mut [u8], offset: usize) -> Result<usize, Refusal> {
+    let result = raw::front(book, run, piece, buffer, offset);
     refusal::none(result.refusal, result.place)?;
     Ok(result.length as usize)
 }

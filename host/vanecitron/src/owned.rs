@@ -6,7 +6,8 @@ use alloc::vec::Vec;
 use core::fmt;
 
 use crate::{
-    add, book_of, changes, cut_sheet_into, cuts, least_into, load, post, program_into, propose_addition, propose_withdrawal, round_into, withdraw,
+    add, book_of, changes, cut_sheet_into, cuts, front_into, least_into, load, post, program_into, propose_addition, propose_withdrawal, round_into,
+    withdraw,
 };
 use crate::{Cut, Refusal, RoundLengths};
 use crate::{HELD, NEXT_MARK, NEXT_RUN, OUTPUT, RUN, SHEET, SHEET_SIDE, SIDE, TICKET, TICKET_ADDITION};
@@ -81,11 +82,35 @@ pub fn round(book: &[u8], u: &[u8], v: &[u8], p: &[u8]) -> Result<Round, Refusal
 /// # Ok::<(), Box<dyn std::error::Error>>(())
 /// ```
 pub fn least(book: &[u8], run: &[u8]) -> Result<Vec<u8>, Refusal> {
+    written(run, |buffer| least_into(book, run, buffer, 0))
+}
+
+/// What is left of a run once a front is taken off it, as [`front_into`] writes it.
+///
+/// ```
+/// use vanecitron::{front, BookWriter, Reason, BOOK};
+///
+/// // four letters, and the rule abdc = cadb: cadbadb and abdcadb are joined to abdabdc, which is a followed by bdabdc
+/// let mut bytes = [0; BOOK];
+/// let mut book = BookWriter::new(&mut bytes, 4)?;
+/// book.rule(&[0, 1, 3, 2], &[2, 0, 3, 1])?;
+/// assert_eq!(front(book.bytes(), &[2, 0, 3, 1, 0, 3, 1], &[0])?, [1, 3, 0, 1, 3, 2]);
+/// assert_eq!(front(book.bytes(), &[0, 1, 3, 2, 0, 3, 1], &[0])?, [1, 3, 0, 1, 3, 2]);
+/// assert_eq!(front(book.bytes(), &[0], &[0])?, []);
+/// assert_eq!(front(book.bytes(), &[0], &[2]).unwrap_err().reason, Reason::NoFront);
+/// # Ok::<(), Box<dyn std::error::Error>>(())
+/// ```
+pub fn front(book: &[u8], run: &[u8], piece: &[u8]) -> Result<Vec<u8>, Refusal> {
+    written(run, |buffer| front_into(book, run, piece, buffer, 0))
+}
+
+/// The run that is written for a run, in a buffer with room for it.
+fn written(run: &[u8], write: impl FnOnce(&mut [u8]) -> Result<usize, Refusal>) -> Result<Vec<u8>, Refusal> {
     // no step comes to more than a side's; a run over its limit is refused
-    let mut least = vec![0; SIDE * run.len().min(RUN)];
-    let length = least_into(book, run, &mut least, 0)?;
-    least.truncate(length);
-    Ok(least)
+    let mut buffer = vec![0; SIDE * run.len().min(RUN)];
+    let length = write(&mut buffer)?;
+    buffer.truncate(length);
+    Ok(buffer)
 }
 
 /// The program's whole output for an input.

@@ -36,7 +36,7 @@ pub struct CompareResult {
     pub rounds: u64,
 }
 
-/// Of the least run.
+/// Of the least run, and of the run behind a front.
 #[repr(C)]
 pub struct LeastResult {
     pub refusal: u32,
@@ -131,6 +131,17 @@ extern "C" {
         buffer_length: usize,
         offset: usize,
     ) -> LeastResult;
+    fn vanecitron_front(
+        book: *const u8,
+        book_length: usize,
+        u: *const u8,
+        u_length: usize,
+        p: *const u8,
+        p_length: usize,
+        buffer: *mut u8,
+        buffer_length: usize,
+        offset: usize,
+    ) -> LeastResult;
     fn vanecitron_program(input: *const u8, input_length: usize, output: *mut u8, output_length: usize) -> ProgramResult;
     fn vanecitron_load(book: *const u8, book_length: usize, held: *mut u8, held_length: usize) -> CheckResult;
     fn vanecitron_add(held: *mut u8, held_length: usize, record: *const u8, record_length: usize, sheet: *mut u8, sheet_length: usize)
@@ -214,6 +225,13 @@ pub fn compare(book: &[u8], u: &[u8], v: &[u8], allowance: u32) -> CompareResult
 pub fn least(book: &[u8], run: &[u8], buffer: &mut [u8], offset: usize) -> LeastResult {
     // SAFETY: as said above
     unsafe { vanecitron_least(book.as_ptr(), book.len(), run.as_ptr(), run.len(), buffer.as_mut_ptr(), buffer.len(), offset) }
+}
+
+pub fn front(book: &[u8], run: &[u8], piece: &[u8], buffer: &mut [u8], offset: usize) -> LeastResult {
+    // SAFETY: as said above
+    unsafe {
+        vanecitron_front(book.as_ptr(), book.len(), run.as_ptr(), run.len(), piece.as_ptr(), piece.len(), buffer.as_mut_ptr(), buffer.len(), offset)
+    }
 }
 
 pub fn program(input: &[u8], output: &mut [u8]) -> ProgramResult {

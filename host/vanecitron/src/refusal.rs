@@ -37,7 +37,7 @@ pub enum Reason {
     Narrow,
     /// 13: the program's input is over its limit
     Heavy,
-    /// 14: the offset lies past the buffer's end, or the least run is longer than what follows it
+    /// 14: the offset lies past the buffer's end, or the least run, or the run behind the front, is longer than what follows it
     NoSpace,
     /// 15: the held book has no rule of the index that is to be withdrawn
     NoSuchRule,
@@ -45,12 +45,16 @@ pub enum Reason {
     StaleTicket,
     /// 17: the held book has had all the changes that it takes from loading, [`CHANGES_MOST`](crate::CHANGES_MOST)
     BookWorn,
+    /// 18: the front that is to be taken off is no piece of the book
+    NotPiece,
+    /// 19: no run that a chain joins to the given one begins with that front
+    NoFront,
     /// a number that this version does not know
     Other(u32),
 }
 
 /// Each reason with its number, the specification's word for it and an explanation; the C header has the same. 7 is not used: a side may equal an earlier one.
-const KNOWN: [(u32, Reason, &str, &str); 16] = [
+const KNOWN: [(u32, Reason, &str, &str); 18] = [
     (1, Reason::Short, "short", "the bytes end inside a record, or there is no book"),
     (2, Reason::Kind, "kind", "the first record is no head, or a later one is no rule"),
     (3, Reason::Length, "length", "a record's length does not fit it"),
@@ -63,10 +67,12 @@ const KNOWN: [(u32, Reason, &str, &str); 16] = [
     (11, Reason::Spent, "spent", "another round was due and the allowance was used up"),
     (12, Reason::Narrow, "narrow", "a lent buffer is too small"),
     (13, Reason::Heavy, "heavy", "the program's input is over its limit"),
-    (14, Reason::NoSpace, "no space", "the offset lies past the buffer's end, or the least run is longer than what follows it"),
+    (14, Reason::NoSpace, "no space", "the offset lies past the buffer's end, or the least run, or the run behind the front, does not fit there"),
     (15, Reason::NoSuchRule, "no such rule", "the held book has no rule of the index that is to be withdrawn"),
     (16, Reason::StaleTicket, "stale ticket", "the held book's count of changes is not that of the ticket"),
     (17, Reason::BookWorn, "book worn", "the held book has had all the changes that it takes, and must be loaded anew"),
+    (18, Reason::NotPiece, "not a piece", "the front that is to be taken off is no piece of the book"),
+    (19, Reason::NoFront, "no such front", "no run that a chain joins to the given one begins with that front"),
 ];
 
 impl Reason {
@@ -106,7 +112,7 @@ impl Reason {
 pub enum Run {
     U,
     V,
-    /// the front mark of a single round
+    /// the front mark of a single round, and the front that is to be taken off a run
     P,
 }
 
@@ -126,11 +132,11 @@ pub enum Place {
     /// Reason 11: the rounds done.
     Rounds(u64),
     /// Reasons 12 and 14: the buffer that is too small, by its number: the sheet 0, a held book [`HELD_BUFFER`], a ticket [`TICKET_BUFFER`]; the next
-    /// u, v and p 0, 1 and 2; the program's output 0; that of a least run 0.
+    /// u, v and p 0, 1 and 2; the program's output 0; that of a least run, or of the run behind a front, 0.
     Buffer(usize),
     /// Reason 13: the most bytes of an input.
     Limit(usize),
-    /// Reasons 15 to 17, which have no place; its number is 0.
+    /// Reasons 15 to 19, which have no place; its number is 0.
     Nowhere,
     /// The place of a reason that this version does not know.
     Other(u64),
@@ -154,8 +160,8 @@ impl Place {
             (Reason::Spent, _) => Place::Rounds(place),
             (Reason::Narrow | Reason::NoSpace, _) => Place::Buffer(number),
             (Reason::Heavy, _) => Place::Limit(number),
-            (Reason::NoSuchRule | Reason::StaleTicket | Reason::BookWorn, _) if place == 0 => Place::Nowhere,
-            (Reason::NoSuchRule | Reason::StaleTicket | Reason::BookWorn, _) => Place::Other(place),
+            (Reason::NoSuchRule | Reason::StaleTicket | Reason::BookWorn | Reason::NotPiece | Reason::NoFront, _) if place == 0 => Place::Nowhere,
+            (Reason::NoSuchRule | Reason::StaleTicket | Reason::BookWorn | Reason::NotPiece | Reason::NoFront, _) => Place::Other(place),
             (Reason::Long | Reason::Stranger | Reason::Other(_), _) => Place::Other(place),
         }
     }

@@ -1,12 +1,13 @@
 //! What the wrapper adds to the archive: typed places and reasons, the sides of the cut sheet, the writer of books with its bounds, room enough for a least
-//! run, held books, and their tickets.
+//! run and for the run behind a front, held books, and their tickets.
 
 use vanecitron::{
-    add, ample_allowance, book_of, changes, check, compare, cut_sheet, cut_sheet_into, cuts, least, least_into, load, post, propose_addition,
-    propose_withdrawal, rule_record, withdraw, BookWriter, Comparison, Cut, HeldBook, NoRoom, PieceCount, Place, Reason, Refusal, Run, Ticket,
+    add, ample_allowance, book_of, changes, check, compare, cut_sheet, cut_sheet_into, cuts, front, front_into, least, least_into, load, post,
+    propose_addition, propose_withdrawal, rule_record, withdraw, BookWriter, Comparison, Cut, HeldBook, NoRoom, PieceCount, Place, Reason, Refusal,
+    Run, Ticket,
 };
 use vanecitron::{
-    BOOK, BOOK_MOST, CHANGES_MOST, HELD, HELD_BUFFER, LEAST, NO_PRODUCT, RULE, RULES, RUN, SHEET, SHEET_SIDE, SIDE, TICKET, TICKET_BUFFER,
+    BOOK, BOOK_MOST, CHANGES_MOST, HELD, HELD_BUFFER, LEAST, NO_PRODUCT, ROUND_MARK, RULE, RULES, RUN, SHEET, SHEET_SIDE, SIDE, TICKET, TICKET_BUFFER,
 };
 
 /// Book Q and the comparison abdc, cadb with the allowance 100, as the specification writes their bytes ("The program").
@@ -73,7 +74,7 @@ fn reasons_and_places_have_their_numbers() {
     for number in 0..40 {
         let reason = Reason::from_number(number);
         assert_eq!(reason.number(), number);
-        assert_eq!(matches!(reason, Reason::Other(_)), !(1..=17).contains(&number) || number == 7, "{number}");
+        assert_eq!(matches!(reason, Reason::Other(_)), !(1..=19).contains(&number) || number == 7, "{number}");
         for place in [0, 1, 4_999, 5_000, 5_003, 10_000, 10_063, 15_000, 60_000, u64::MAX] {
             // the place of 9 is the start of a run
             if reason != Reason::Long || place % 5_000 == 0 {
@@ -92,12 +93,12 @@ fn reasons_and_places_have_their_numbers() {
     assert_eq!(Place::from_number(Reason::Narrow, 1), Place::Buffer(HELD_BUFFER));
     assert_eq!(Place::from_number(Reason::NoSuchRule, 0), Place::Nowhere);
     assert_eq!(Place::from_number(Reason::NoSuchRule, 7), Place::Other(7));
-    for reason in [Reason::StaleTicket, Reason::BookWorn] {
+    for reason in [Reason::StaleTicket, Reason::BookWorn, Reason::NotPiece, Reason::NoFront] {
         assert_eq!(Place::from_number(reason, 0), Place::Nowhere);
         assert_eq!(Place::from_number(reason, 7), Place::Other(7));
     }
     assert_eq!(Place::from_number(Reason::Narrow, 2), Place::Buffer(TICKET_BUFFER));
-    assert_eq!(Place::from_number(Reason::Other(18), 7), Place::Other(7));
+    assert_eq!(Place::from_number(Reason::Other(20), 7), Place::Other(7));
     let refusal = Refusal { reason: Reason::NoSuchRule, place: Place::Nowhere };
     assert_eq!(refusal.to_string(), "no such rule: the held book has no rule of the index that is to be withdrawn");
     assert_eq!(refusal.place.to_string(), "no place");
@@ -105,6 +106,10 @@ fn reasons_and_places_have_their_numbers() {
     assert_eq!(refusal.to_string(), "stale ticket: the held book's count of changes is not that of the ticket");
     let refusal = Refusal { reason: Reason::BookWorn, place: Place::Nowhere };
     assert_eq!(refusal.to_string(), "book worn: the held book has had all the changes that it takes, and must be loaded anew");
+    let refusal = Refusal { reason: Reason::NotPiece, place: Place::Nowhere };
+    assert_eq!(refusal.to_string(), "not a piece: the front that is to be taken off is no piece of the book");
+    let refusal = Refusal { reason: Reason::NoFront, place: Place::Nowhere };
+    assert_eq!(refusal.to_string(), "no such front: no run that a chain joins to the given one begins with that front");
 }
 
 /// Book Q is the front of the example.
@@ -166,26 +171,69 @@ fn an_allowance_goes_by_the_longest_z() {
     assert_eq!(ample_allowance(&[0, 1, 63, 4], usize::MAX), u32::MAX);
 }
 
-#[test]
-fn a_least_run_stands_at_its_offset() {
-    let cadb = [2, 0, 3, 1];
-    for offset in 0..9 {
+/// What writes this run at each offset of a buffer of 8 bytes where there is room for it, and nothing else; at the others it is refused by 14.
+fn stands_at_its_offset(run: &[u8], write: impl Fn(&mut [u8], usize) -> Result<usize, Refusal>) {
+    for offset in 0..10 {
         let mut buffer = [0xa5; 8];
-        let result = least_into(Q, &cadb, &mut buffer, offset);
-        if offset <= 4 {
-            assert_eq!(result, Ok(4));
-            assert_eq!(buffer[offset..offset + 4], [0, 1, 3, 2]);
-            buffer[offset..offset + 4].fill(0xa5);
+        let result = write(&mut buffer, offset);
+        if offset + run.len() <= 8 {
+            assert_eq!(result, Ok(run.len()));
+            assert_eq!(buffer[offset..offset + run.len()], *run);
+            buffer[offset..offset + run.len()].fill(0xa5);
         } else {
-            let refusal = result.unwrap_err();
-            assert_eq!((refusal.reason, refusal.place), (Reason::NoSpace, Place::Buffer(0)));
+            assert_eq!(told(result), (Reason::NoSpace, Place::Buffer(0)));
         }
         assert_eq!(buffer, [0xa5; 8]);
     }
+}
+
+#[test]
+fn a_least_run_stands_at_its_offset() {
+    stands_at_its_offset(&[0, 1, 3, 2], |buffer, offset| least_into(Q, &[2, 0, 3, 1], buffer, offset));
     assert_eq!(least_into(Q, &[], &mut [], 0), Ok(0));
     let refusal = least_into(Q, &[], &mut [], 1).unwrap_err();
-    let text = "no space: the offset lies past the buffer's end, or the least run is longer than what follows it (buffer 0)";
+    let text = "no space: the offset lies past the buffer's end, or the least run, or the run behind the front, does not fit there (buffer 0)";
     assert_eq!(refusal.to_string(), text);
+}
+
+/// abdc and cadb are joined to each other alone, so that what is left is bdc behind a, and adb behind c; and nothing is left of c behind c.
+#[test]
+fn a_run_behind_a_front_stands_at_its_offset() {
+    for run in [[0, 1, 3, 2], [2, 0, 3, 1]] {
+        stands_at_its_offset(&[1, 3, 2], |buffer, offset| front_into(Q, &run, &[0], buffer, offset));
+        stands_at_its_offset(&[0, 3, 1], |buffer, offset| front_into(Q, &run, &[2], buffer, offset));
+        stands_at_its_offset(&[0, 1, 3, 2], |buffer, offset| front_into(Q, &run, &[], buffer, offset));
+    }
+    stands_at_its_offset(&[], |buffer, offset| front_into(Q, &[2], &[2], buffer, offset));
+    assert_eq!(front_into(Q, &[], &[], &mut [], 0), Ok(0));
+    assert_eq!(front_into(Q, &[2], &[2], &mut [], 0), Ok(0));
+    assert_eq!(told(front_into(Q, &[2], &[2], &mut [], 1)), (Reason::NoSpace, Place::Buffer(0)));
+}
+
+/// 9 and 10 of the run, then of the piece, which is run p; then 18, 19 and 14. Each call has something wrong that would come later.
+#[test]
+fn refusals_of_a_front_come_in_order() {
+    let (long, long_piece) = (vec![4; RUN + 1], [4; ROUND_MARK + 1]);
+    let refused = |book: &[u8], run: &[u8], piece: &[u8]| {
+        let mut buffer = [0xa5; 2];
+        let refusal = told(front_into(book, run, piece, &mut buffer, 3));
+        assert_eq!(buffer, [0xa5; 2]);
+        refusal
+    };
+    assert_eq!(refused(&[], &long, &long_piece), (Reason::Short, Place::Byte(0)));
+    assert_eq!(refused(Q, &long, &long_piece), (Reason::Long, Place::Run(Run::U)));
+    assert_eq!(refused(Q, &[0, 4], &long_piece), (Reason::Stranger, Place::Step { run: Run::U, position: 1 }));
+    assert_eq!(refused(Q, &[0], &long_piece), (Reason::Long, Place::Run(Run::P)));
+    assert_eq!(refused(Q, &[0], &long_piece[1..]), (Reason::Stranger, Place::Step { run: Run::P, position: 0 }));
+    assert_eq!(refused(Q, &[0], &[0, 1, 4]), (Reason::Stranger, Place::Step { run: Run::P, position: 2 }));
+    assert_eq!(refused(Q, &[0], &[0; ROUND_MARK]), (Reason::NotPiece, Place::Nowhere));
+    assert_eq!(refused(Q, &[0], &[0, 1]), (Reason::NotPiece, Place::Nowhere));
+    assert_eq!(refused(Q, &[0], &[2]), (Reason::NoFront, Place::Nowhere));
+    assert_eq!(refused(Q, &[], &[0]), (Reason::NoFront, Place::Nowhere));
+    assert_eq!(refused(Q, &[0], &[0]), (Reason::NoSpace, Place::Buffer(0)));
+    // without rules the empty run is the only piece, whatever the run begins with
+    assert_eq!(told(front(&Q[..5], &[0], &[0])), (Reason::NotPiece, Place::Nowhere));
+    assert_eq!(front(&Q[..5], &[1, 0], &[]).unwrap(), [1, 0]);
 }
 
 #[test]
@@ -209,6 +257,13 @@ fn the_longest_least_run_has_room() {
     assert_eq!(longest.len(), LEAST);
     assert!(longest.chunks(SIDE).all(|part| part == side));
     assert_eq!(least_into(book.bytes(), &[1; RUN], &mut vec![0; LEAST - 1], 0).unwrap_err().reason, Reason::NoSpace);
+
+    // c, which is a piece, stands before the rest and is a part of no side there, so that the least run of the rest is what is left
+    let run = [&[2], &[1; RUN - 1][..]].concat();
+    assert_eq!(front(book.bytes(), &run, &[2]).unwrap(), longest[SIDE..]);
+    let room = LEAST - SIDE;
+    assert_eq!(told(front_into(book.bytes(), &run, &[2], &mut vec![0; room - 1], 0)), (Reason::NoSpace, Place::Buffer(0)));
+    assert_eq!(front(book.bytes(), &[1; RUN], &[]).unwrap(), longest);
 }
 
 /// A refusal by its reason and place.

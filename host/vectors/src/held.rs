@@ -3,7 +3,7 @@
 //! A line is answered by a word for the loading and one for each operation, with a space between: `accepted:RULES` for the loading, `accepted:RULES:SHEET` for an
 //! operation, `refused:NUMBER:PLACE`. A refused loading ends the line. `touched:` stands before a word where a byte changed that must be kept.
 
-use crate::{bytes, hex};
+use crate::{bytes, hex, FILLED};
 
 /// The size of the lent buffer of a held book, and of that of a ticket.
 pub const HELD: usize = 4_297;
@@ -13,9 +13,6 @@ pub const TICKET: usize = 140;
 const PREFIX: usize = 4;
 const FIELDS: usize = 6;
 const SHEET_RULE: usize = 8;
-
-/// What lent buffers are filled with.
-const FILLED: u8 = 0xaa;
 
 /// An operation on a held book, with the size of the sheet's buffer: a change, one that is only proposed, or the posting of a ticket. The tickets of a line are counted from
 /// 0; a refused proposal gives none.
@@ -42,7 +39,7 @@ pub(crate) fn operation(text: &str) -> Operation {
     }
 }
 
-/// The number of rules, or the number and place of a refusal.
+/// The number of rules or a length, or the number and place of a refusal.
 pub type Answer = Result<u64, (u32, u64)>;
 
 /// What loads and changes held books, proposes changes and posts tickets.

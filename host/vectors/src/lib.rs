@@ -1,5 +1,6 @@
-//! The recorded calls of the entries (`entries.txt`; `least.txt` of least words; `shared.txt` under books whose relations share words; `held.txt` of held books
-//! and tickets), the recorded inputs and outputs of the program (`program/`) and the executed cases of the proved part (`crates/cases`), as tests read them.
+//! The recorded calls of the entries (`entries.txt`; `least.txt` of least words; `front.txt` of fronts taken off; `shared.txt` under books whose relations share
+//! words; `held.txt` of held books and tickets), the recorded inputs and outputs of the program (`program/`) and the executed cases of the proved part
+//! (`crates/cases`), as tests read them.
 //! Their answers are written down, so no implementation has a part in this crate.
 
 pub mod held;
@@ -7,7 +8,10 @@ pub mod held;
 use std::fs;
 use std::path::PathBuf;
 
-pub use held::Operation;
+pub use held::{Answer, Operation};
+
+/// What lent buffers are filled with.
+const FILLED: u8 = 0xaa;
 
 /// A call of an entry, with what it takes; lent buffers by their sizes.
 pub enum Call {
@@ -15,6 +19,7 @@ pub enum Call {
     Sheet { book: Vec<u8>, size: usize },
     Round { book: Vec<u8>, words: [Vec<u8>; 3], sizes: [usize; 3] },
     Least { book: Vec<u8>, word: Vec<u8>, size: usize, offset: usize },
+    Front { book: Vec<u8>, word: Vec<u8>, piece: Vec<u8>, size: usize, offset: usize },
     Held { book: Vec<u8>, operations: Vec<Operation> },
 }
 
@@ -23,7 +28,7 @@ impl Call {
     pub fn book(&self) -> &[u8] {
         match self {
             Call::Compare { book, .. } | Call::Sheet { book, .. } | Call::Round { book, .. } => book,
-            Call::Least { book, .. } | Call::Held { book, .. } => book,
+            Call::Least { book, .. } | Call::Front { book, .. } | Call::Held { book, .. } => book,
         }
     }
 }
@@ -50,7 +55,7 @@ pub struct Run {
 
 /// All recorded calls.
 pub fn calls() -> Vec<Recorded> {
-    let files = [("entries.txt", 381), ("least.txt", 148), ("shared.txt", 178), ("held.txt", 129)];
+    let files = [("entries.txt", 381), ("least.txt", 148), ("front.txt", 146), ("shared.txt", 178), ("held.txt", 129)];
     files.into_iter().flat_map(|(name, count)| calls_of(name, count)).collect()
 }
 
@@ -83,6 +88,23 @@ pub fn executed() -> Vec<Case> {
     assert_eq!(lines.lines().count(), answers.lines().count(), "a line of answer for each");
     let cases = lines.lines().zip(answers.lines()).map(|(line, answer)| Case { line: line.to_string(), answer: answer.to_string() });
     cases.filter(|case| !(case.line.starts_with('#') && case.answer == case.line)).collect()
+}
+
+/// The answer of a call that writes a word at an offset of a lent buffer of this size: the call's name, the length and the word, or the refusal. `touched` stands before it
+/// where a byte changed that must be kept.
+pub fn placed(name: &str, size: usize, offset: usize, call: impl FnOnce(&mut [u8]) -> Answer) -> String {
+    let mut buffer = vec![FILLED; size];
+    let answer = call(&mut buffer);
+    let written = answer.map_or(0..0, |length| offset..offset + length as usize);
+    let told = match answer {
+        Ok(length) => format!("{name} {length} {}", hex(&buffer[written.clone()])),
+        Err((number, place)) => format!("refused {number} {place}"),
+    };
+    let is_kept = |at: usize| written.contains(&at) || buffer[at] == FILLED;
+    if (0..size).all(is_kept) {
+        return told;
+    }
+    format!("touched {told}")
 }
 
 /// Bytes as they are written in entries.txt.
@@ -121,6 +143,7 @@ pub fn call(line: &str) -> Call {
         "sheet" => Call::Sheet { book, size: number(2) },
         "round" => Call::Round { book, words: [2, 3, 4].map(word), sizes: [5, 6, 7].map(number) },
         "least" => Call::Least { book, word: word(2), size: number(3), offset: number(4) },
+        "front" => Call::Front { book, word: word(2), piece: word(3), size: number(4), offset: number(5) },
         "held" => Call::Held { book, operations: fields[2..].iter().map(|text| held::operation(text)).collect() },
         other => panic!("no entry {other}"),
     }

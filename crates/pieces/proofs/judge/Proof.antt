@@ -14,4 +14,5 @@ judge-spec =
     (λ c. search copies)
     (λ c κs. search copies)
     (λ c. search copies)
+    (λ c. search copies)
     (λ c. search copies))

@@ -1,4 +1,4 @@
-use Rattle.answers.proofs.LeastCalls.{placings}
+use Rattle.answers.proofs.LeastCalls.{countings}
 use Rattle.placing.proofs.place_least.Statement.{statement}
 use Rattle.placing.proofs.place_least.Tie as tie
 
@@ -6,12 +6,10 @@ pub place-least-spec : {M : Type 1} → statement M
 place-least-spec =
     tie.close
     (tie.spec
-    (λ c κs. search placings)
-    (λ c κs. search placings)
-    (λ c. search placings)
-    (λ c. search placings)
-    (λ c. search placings)
-    (λ c. search placings)
-    (λ c κs. search placings)
-    (λ c. search placings)
-    (λ c. search placings))
+    (λ c κs. search countings)
+    (λ c. search countings)
+    (λ c. search countings)
+    (λ c. search countings)
+    (λ c κs. search countings)
+    (λ c. search countings)
+    (λ c. search countings))

@@ -15,4 +15,6 @@ check-words-spec =
     (λ c. search checks)
     (λ c. search checks)
     (λ c. search checks)
+    (λ c. search checks)
+    (λ c. search checks)
     (λ c. search checks-accepted))

@@ -44,4 +44,8 @@ number-and-place-spec =
     (λ c. search places)
     (λ c. search places)
     (λ c. search places)
+    (λ c. search places)
+    (λ c. search places)
+    (λ c. search places)
+    (λ c. search places)
     (λ c. search places))
