@@ -326,7 +326,7 @@ vanecitron_least_result vanecitron_least(
  * possible that no chain joins to each other, as b and c behind a under ab = ac: the first in dictionary order is written, and the others are not told of.
  *
  * It is written into `buffer` from `offset` on, and its length is the answer; room and offset are as of vanecitron_least, by the length of w. An offset equal
- * to the buffer's length is fine where w is empty, which is where a chain joins p to u.
+ * to the buffer's length is fine where w is empty, which is where a chain joins p to u. Time grows with the number of steps, beside the check of the book.
  * p may have VANECITRON_ROUND_MARK steps, as the front mark of a round. No piece has so many: a longer p is refused by 9, and one of just so many by 18.
  * Refusals 1 to 10; then 18, 19, 14. In the places of 9 and 10 u has the number 0 and p has 2.
  */

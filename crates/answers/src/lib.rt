@@ -23,7 +23,7 @@ pub enum Printed {
     Refused(Refusal),
 }
 
-// The least congruent word is written, with its length, or its call is refused.
+// The least congruent word, or the least word behind a prefix, is written, with its length, or its call is refused.
 pub enum Least {
     Wrote(usize),
     Refused(Refusal),

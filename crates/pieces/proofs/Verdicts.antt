@@ -21,6 +21,7 @@ use Rattle.writing.specs.Writing.{written, Narrowing}
 use Rattle.writing.proofs.Writing.{written-length, written-taken}
 use Rattle.longest.specs.Longest.{Tabled}
 use Rattle.loose.specs.Pieces.{Fenced, AllInTables, Measurable, Measured}
+use Rattle.loose.proofs.Fences.{text-short}
 use Rattle.loose.proofs.Lowest.{all-in-tables}
 use Rattle.cuts.specs.Cutting.{CutBy}
 use Rattle.cuts.proofs.Cutting.{cut-true, words-kept, laid-kept}
@@ -49,14 +50,16 @@ keep-nothing longest array h = record { same = λ k. absurd (omega arith) }
 
 pub ruleset keeps = (keep-copied, keep-nothing, needs)
 
--- a copy of a table is one
-tabled-copy : (text longest kept : List ℕ) → Tabled text longest → take (length longest) kept ≡ longest → Tabled text kept
+-- a copy of a table, as far as the text goes, is one
+tabled-copy : (text longest kept : List ℕ) → Tabled text longest → take (length text) kept ≡ take (length text) longest → Tabled text kept
 tabled-copy text longest kept t e =
     let l = ap length e in
-    let m = length-take (length longest) kept in
+    let m = length-take (length text) kept in
+    let n = length-take-le (length text) longest (t .room) in
     record {
-      room = omega (arith, t .room);
-      at = λ p h. sym (getD-take (length longest) kept p 0 (omega (arith, t .room))) ∙ ap (λ (w : List ℕ). getD w p 0) e ∙ t .at p h;
+      room = omega arith;
+      at = λ p h.
+          sym (getD-take (length text) kept p 0 h) ∙ ap (λ (w : List ℕ). getD w p 0) e ∙ getD-take (length text) longest p 0 h ∙ t .at p h;
     }
 
 -- a text that ends with its last fence
@@ -68,12 +71,19 @@ module _ (text table : List ℕ) (n : ℕ) (f : Fenced text table n) where
     pub whole-tables : AllInTables longest table n
     whole-tables = all-in-tables text table longest n f (m .tabled)
 
-    module _ (long : length longest ≡ textRoom) (array kept : List ℕ) (k : LongestKept longest array kept) where
+    pub whole-covered : length text ≤ length longest
+    whole-covered = m .tabled .room
+
+    pub whole-part : length text ≡ length (take (length text) longest)
+    whole-part = sym (length-take-le (length text) longest whole-covered)
+
+    module _ (array kept : List ℕ) (k : LongestKept (take (length text) longest) array kept) where
       -- it is the text as far as its last fence
       whole-kept : textRoom ≤ length array → PiecesTabled text table n kept
       whole-kept h =
+          let e = k .same (omega (arith, whole-part, text-short text table n f)) in
           subst (λ (t : List ℕ). Tabled t kept) (sym (take-all (startOf table n) text (omega (arith, f .whole))))
-          (tabled-copy text longest kept (m .tabled) (k .same (omega (arith, long))))
+          (tabled-copy text longest kept (m .tabled) (ap (λ (i : ℕ). take i kept) whole-part ∙ e))
 
       pub whole-loose : r < n → JudgedKept text table n array table kept (Loose r)
       unfolding judgedOf
@@ -105,7 +115,7 @@ module _ (text table : List ℕ) (n : ℕ) (f : Fenced text table n) where
             tabled = whole-kept;
           }
 
-pub ruleset wholes = (whole-measurable, whole-tables, whole-loose, whole-cut, needs)
+pub ruleset wholes = (whole-measurable, whole-tables, whole-covered, whole-part, whole-loose, whole-cut, needs)
 
 -- the text as far as its last fence, copied in bytes
 module _ (text table : List ℕ) (n : ℕ) (f : Laid text table n) (t : ℕ) (e : t ≡ startOf table n) where

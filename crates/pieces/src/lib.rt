@@ -29,7 +29,7 @@ fn judge_whole(text: &[u8], table: &mut [u16], n: usize, array: &mut [u8]) -> Ju
 {
     let mut longest = [0u8; Text::ROOM];
     let r = first_loose(text, table, n, &mut longest);
-    keep_longest(&longest, array);
+    keep_longest(&longest[..text.len()], array);
     if r < n {
         return Judged::Loose(r);
     }

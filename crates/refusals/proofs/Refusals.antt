@@ -12,11 +12,11 @@ pub number-of-case : (r s : Refusal) (n : Numbered) → r ≡ s → n ≡ number
 number-of-case r s n e f = rw e f
 
 -- the places of the refusals of given words are reckoned
-pub number-long : (r : Refusal) (word w : ℕ) → r ≡ Long word → w ≡ word → record { number = 9; place = placeSpacing * w } ≡ numberAndPlace r
-number-long r word w e f = rw (e, f)
+pub number-long : (r : Refusal) (word w : ℕ) (n : Numbered) → r ≡ Long word → w ≡ word → n ≡ record { number = 9; place = placeSpacing * w } → n ≡ numberAndPlace r
+number-long r word w n e f g = rw (g, e, f)
 
-pub number-stranger : (r : Refusal) (word w position : ℕ) → r ≡ Stranger word position → w ≡ word
-    → record { number = 10; place = placeSpacing * w + position } ≡ numberAndPlace r
-number-stranger r word w position e f = rw (e, f)
+pub number-stranger : (r : Refusal) (word w position : ℕ) (n : Numbered) → r ≡ Stranger word position → w ≡ word
+    → n ≡ record { number = 10; place = placeSpacing * w + position } → n ≡ numberAndPlace r
+number-stranger r word w position n e f g = rw (g, e, f)
 
 pub ruleset places = (number-of-case, number-long, number-stranger, needs)

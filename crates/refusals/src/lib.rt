@@ -52,82 +52,38 @@ pub struct Numbered {
     pub place: usize,
 }
 
+// A number and a place.
+fn told(number: u8, place: usize) -> Numbered
+    ensures { λ r. ⌜ r ≡ record { number = number; place = place } ⌝ }
+{
+    Numbered { number, place }
+}
+
 // Document 01's number and place of a refusal.
 pub fn number_and_place(refusal: Refusal) -> Numbered
     ensures { λ r. ⌜ r ≡ numberAndPlace refusal ⌝ }
 {
     match refusal {
-        Refusal::Short(at) => Numbered {
-            number: 1,
-            place: at,
-        },
-        Refusal::Kind(at) => Numbered {
-            number: 2,
-            place: at,
-        },
-        Refusal::Length(at) => Numbered {
-            number: 3,
-            place: at,
-        },
-        Refusal::Range(at) => Numbered {
-            number: 4,
-            place: at,
-        },
-        Refusal::UnknownLetter(at) => Numbered {
-            number: 5,
-            place: at,
-        },
-        Refusal::TooMany(at) => Numbered {
-            number: 6,
-            place: at,
-        },
-        Refusal::Loose(side) => Numbered {
-            number: 8,
-            place: side,
-        },
-        Refusal::Long(word) => Numbered {
-            number: 9,
-            place: Word::SPACING * wide(word),
-        },
-        Refusal::Stranger(word, position) => Numbered {
-            number: 10,
-            place: Word::SPACING * wide(word) + position as usize,
-        },
-        Refusal::Spent(rounds) => Numbered {
-            number: 11,
-            place: rounds as usize,
-        },
-        Refusal::Narrow(buffer) => Numbered {
-            number: 12,
-            place: buffer,
-        },
-        Refusal::Heavy => Numbered {
-            number: 13,
-            place: Input::MOST,
-        },
-        Refusal::NoSpace => Numbered {
-            number: 14,
-            place: 0,
-        },
-        Refusal::NoSuchRelation => Numbered {
-            number: 15,
-            place: 0,
-        },
-        Refusal::StaleTicket => Numbered {
-            number: 16,
-            place: 0,
-        },
-        Refusal::BookWorn => Numbered {
-            number: 17,
-            place: 0,
-        },
-        Refusal::NotPiece => Numbered {
-            number: 18,
-            place: 0,
-        },
-        Refusal::NoPrefix => Numbered {
-            number: 19,
-            place: 0,
-        },
+        Refusal::Short(at) => told(1, at),
+        Refusal::Kind(at) => told(2, at),
+        Refusal::Length(at) => told(3, at),
+        Refusal::Range(at) => told(4, at),
+        Refusal::UnknownLetter(at) => told(5, at),
+        Refusal::TooMany(at) => told(6, at),
+        Refusal::Loose(side) => told(8, side),
+        Refusal::Long(word) => told(9, Word::SPACING * wide(word)),
+        Refusal::Stranger(word, position) => told(
+            10,
+            Word::SPACING * wide(word) + position as usize,
+        ),
+        Refusal::Spent(rounds) => told(11, rounds as usize),
+        Refusal::Narrow(buffer) => told(12, buffer),
+        Refusal::Heavy => told(13, Input::MOST),
+        Refusal::NoSpace => told(14, 0),
+        Refusal::NoSuchRelation => told(15, 0),
+        Refusal::StaleTicket => told(16, 0),
+        Refusal::BookWorn => told(17, 0),
+        Refusal::NotPiece => told(18, 0),
+        Refusal::NoPrefix => told(19, 0),
     }
 }

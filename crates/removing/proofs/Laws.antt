@@ -36,14 +36,14 @@ use Rattle.answers.specs.Entries.{LeastOutcome, foundAt}
 use Rattle.answers.proofs.LeastCalls.{fine-asked}
 use Rattle.answers.proofs.Laws.{memory-made, loaded-room, loaded-letters}
 use Rattle.removal.specs.Removal.{removedAt, loadedRemoval, removalOf}
-use Rattle.removal.specs.Asked.{Removable, Marked}
+use Rattle.removal.specs.Asked.{Removable, PrefixGiven, Marked}
 use Rattle.removal.specs.Demands.{RemovalAnswered}
 use Rattle.removal.proofs.Removals.{piece-removed, no-piece-removed, removal-answered}
 
 -- where the prefix stands
-module _ (text table longest : List ℕ) (n : ℕ) (u p : Word) (m : Marked text table longest n u p) where
+module _ (text table longest : List ℕ) (n : ℕ) (p : Word) (m : PrefixGiven text table longest n p) where
   mark-short : length p ≤ markMost
-  mark-short = fine-short 2 markMost (m .letters) p (fine-marked (m .letters) u p (m .fine) .1)
+  mark-short = fine-short 2 markMost (m .letters) p (m .fine)
 
   pub mark-room : length p ≤ length (replicate {A = ℕ} markMost 0)
   mark-room = omega (arith, mark-short, length-replicate {A = ℕ} markMost 0)
@@ -53,7 +53,7 @@ module _ (text table longest : List ℕ) (n : ℕ) (u p : Word) (m : Marked text
       record {
         laid = m .known .loaded .ready .grouped .checked .laid;
         tabled = m .known .tabled;
-        letters = λ k h. omega (arith, fine-known 2 markMost (m .letters) p (fine-marked (m .letters) u p (m .fine) .1) k h, m .known .loaded .few);
+        letters = λ k h. omega (arith, fine-known 2 markMost (m .letters) p (m .fine) k h, m .known .loaded .few);
         few = mark-short;
       }
 
@@ -67,6 +67,9 @@ module _ (text table longest : List ℕ) (n : ℕ) (u p : Word) (m : Marked text
 pub ruleset finds = (mark-room, mark-sought, mark-found, needs)
 
 -- 18, or the least word behind the piece
+pub remove-given : (text table longest : List ℕ) (n : ℕ) (u p : Word) → Marked text table longest n u p → PrefixGiven text table longest n p
+remove-given text table longest n u p m = record { letters = m .letters; known = m .known; fine = fine-marked (m .letters) u p (m .fine) .1 }
+
 module _ (text table longest : List ℕ) (n : ℕ) (u p : Word) (m : Marked text table longest n u p) (r : Place) (s : PieceSought text table n p r) where
   pub remove-strange : (buffer : List ℕ) (offset : ℕ) → r ≡ Nowhere
       → LeastOutcome.after (ofLeast (Leasts.Refused NotPiece)) buffer ≡ removedAt (wordsIn text table n) (familyBy table n) u p buffer offset
@@ -87,7 +90,7 @@ module _ (text table longest : List ℕ) (n : ℕ) (u p : Word) (m : Marked text
         f ∙ ap (λ (q : Word). foundAt offset (leastFrom (wordsIn text table n) (familyBy table n) q u) buffer) (k .same)
         ∙ sym (piece-removed (wordsIn text table n) (familyBy table n) u p buffer offset (k .piece))
 
-pub ruleset removes = (remove-strange, remove-asked, remove-placed, needs)
+pub ruleset removes = (remove-given, remove-strange, remove-asked, remove-placed, needs)
 
 -- a given word and a given prefix
 module _ (text table longest : List ℕ) (n letters : ℕ) (k : Removable text table longest n letters) (u p : Word) (g : Given) (e : g ≡ markedOf letters u p) where

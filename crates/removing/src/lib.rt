@@ -7,7 +7,7 @@ ghost use Rattle.occurrence.specs.Standing.{PieceSought};
 ghost use Rattle.answers.specs.Answers.{ofLeast};
 ghost use Rattle.answers.specs.Entries.{LeastOutcome as Leasts};
 ghost use Rattle.removal.specs.Removal.{removedAt, loadedRemoval};
-ghost use Rattle.removal.specs.Asked.{Removable, Marked};
+ghost use Rattle.removal.specs.Asked.{Removable, PrefixGiven, Marked};
 ghost use Rattle.removal.specs.Demands.{RemovalAnswered};
 pub use answers::Least;
 use format::Reading;
@@ -22,8 +22,8 @@ use presentation::load_pieces;
 use refusals::Refusal;
 
 // Where the prefix stands in the text if it is a piece. It is widened, as words inside are.
-fn find_prefix(text: &[u16], table: &[u16], longest: &[u8], n: usize, u: &[u8], p: &[u8]) -> Place
-    requires { ⌜ Marked (now text) (now table) (now longest) n (now u) (now p) ⌝ }
+fn find_prefix(text: &[u16], table: &[u16], longest: &[u8], n: usize, p: &[u8]) -> Place
+    requires { ⌜ PrefixGiven (now text) (now table) (now longest) n (now p) ⌝ }
     ensures { λ r. ⌜ PieceSought (now (text .entry)) (now (table .entry)) n (now (p .entry)) r ⌝ }
 {
     let mut wide = [0u16; Word::MARK];
@@ -45,7 +45,7 @@ fn remove_piece(
     requires { ⌜ Marked (now text) (now table) (now longest) n (now u) (now p) ⌝ }
     ensures { λ r. ⌜ Leasts.after (ofLeast r) (now (buffer .exit)) ≡ removedAt (wordsIn (now (text .entry)) (now (table .entry)) n) (familyBy (now (table .entry)) n) (now (u .entry)) (now (p .entry)) (now (buffer .entry)) offset ⌝ }
 {
-    let place = find_prefix(text, table, longest, n, u, p);
+    let place = find_prefix(text, table, longest, n, p);
     match place {
         Place::Nowhere => Least::Refused(Refusal::NotPiece),
         Place::At(piece) => place_word(text, table, n, u, piece, buffer, offset),

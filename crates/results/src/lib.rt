@@ -75,7 +75,7 @@ pub struct ProgramResult {
     pub length: u64,
 }
 
-// Of the least word: its length.
+// Of the least word, and of the one behind a prefix: its length.
 #[repr(C)]
 pub struct LeastResult {
     pub refusal: u32,

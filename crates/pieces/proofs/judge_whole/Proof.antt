@@ -9,6 +9,7 @@ judge-whole-spec =
     (λ c. search wholes)
     (λ c κs. search wholes)
     (λ c. search wholes)
+    (λ c. search wholes)
     (λ c κs. search wholes)
     (λ c. search wholes)
     (λ c. search wholes)
