@@ -1,8 +1,8 @@
 #!/usr/bin/env python3
-"""Holds the C header, the Rust wrapper and the book tool to the proved sources: limits, sizes, structs, outcomes, the version, and refusals.
+"""Holds the C header and the Rust wrapper to the proved sources: limits, sizes, structs, outcomes, the version, and refusals.
 
 The list of refusals is the definition `numberAndPlace` (crates/refusals/specs/Refusals.antt) beside the enum `Refusal`: a case that has no number there, or whose number is missing
-anywhere else (the header's macros and texts, the wrapper's reasons and texts, the tool's explanations), fails. It ends with 1 and a line for each fault.
+anywhere else (the header's macros and texts, the wrapper's reasons and texts), fails. It ends with 1 and a line for each fault.
 """
 
 import re
@@ -18,7 +18,6 @@ WRAPPER = (ROOT / "host/vanecitron/src/lib.rs").read_text()
 RAW = (ROOT / "host/vanecitron/src/raw.rs").read_text()
 REASONS = (ROOT / "host/vanecitron/src/refusal.rs").read_text()
 MANIFEST = (ROOT / "host/Cargo.toml").read_text()
-TOOL = (ROOT / "tools/booktext.py").read_text()
 SPECIFICATION = ROOT / "docs/SPECIFICATION.md"
 
 # what the proved sources say, and its name in the header, without VANECITRON_, and in the wrapper
@@ -55,9 +54,6 @@ LIMITS = {
 
 # the header's name where it is another
 HEADER_NAMES = {"SHEET": "SHEET_MOST", "LEAST": "LEAST_MOST"}
-
-# what the book tool names too
-TOOL_NAMES = {"SHEET_SIDE", "NO_PRODUCT"}
 
 # the specification's word for a case of `Refusal` whose name is another; the macro and the reason are named by the word
 WORDS = {"UnknownLetter": "unknown step", "TooMany": "thick", "NoSuchRelation": "no such rule", "NotPiece": "not a piece", "NoPrefix": "no such front"}
@@ -102,10 +98,6 @@ def rust_constants(text):
     return found
 
 
-def tool_constants(text):
-    return {name: int(number) for name, number in re.findall(r"^(\w+) = (\d+)\b", text, re.M)}
-
-
 def differ(what, expected, places):
     """A line for each place, by name, whose value is not the expected one."""
     for place, found in places.items():
@@ -114,7 +106,7 @@ def differ(what, expected, places):
 
 
 def limits(header):
-    constants, wrapper, tool = associated_constants(), rust_constants(WRAPPER) | rust_constants(REASONS), tool_constants(TOOL)
+    constants, wrapper = associated_constants(), rust_constants(WRAPPER) | rust_constants(REASONS)
     for expression, name in LIMITS.items():
         try:
             number = value(expression, constants)
@@ -122,10 +114,7 @@ def limits(header):
             yield f"{missing.args[0]} is missing in the proved sources"
             continue
         macro = HEADER_NAMES.get(name, name)
-        places = {f"VANECITRON_{macro} of the header": header.get(macro), f"{name} of the wrapper": wrapper.get(name)}
-        if name in TOOL_NAMES:
-            places[f"{name} of the book tool"] = tool.get(name)
-        yield from differ(expression.strip(), number, places)
+        yield from differ(expression.strip(), number, {f"VANECITRON_{macro} of the header": header.get(macro), f"{name} of the wrapper": wrapper.get(name)})
 
 
 def outcomes(header):
@@ -201,8 +190,6 @@ def refusals(header):
     texts = {macro: (word, text) for macro, word, text in re.findall(r'case VANECITRON_(\w+): return "([^":]*): ([^"]*)";', HEADER)}
     listed = {int(number): told for number, *told in re.findall(r'^    \((\d+), Reason::(\w+), "([^"]*)", "([^"]*)"\),', REASONS, re.M)}
     variants = re.findall(r"^    (\w+),$", re.search(r"^pub enum Reason \{\n(.*?)^\}", REASONS, re.M | re.S)[1], re.M)
-    told = dict(re.findall(r'def refusal_(\d+)\(.*?return f?"([a-z ]+):', TOOL, re.S))
-
     for number, word in sorted(expected.items()):
         name = NAMES.get(word, word)
         macro, reason = name.upper().replace(" ", "_"), name.title().replace(" ", "")
@@ -211,13 +198,12 @@ def refusals(header):
         yield from differ(f"the word of refusal {number}", word, {
             "vanecitron_refusal_text": texts.get(macro, (None, None))[0],
             "the wrapper": in_rust[1],
-            "the book tool": told.get(str(number)),
         })
         yield from differ(f"the reason of refusal {number}", reason, {"the wrapper's list": in_rust[0]})
         yield from differ(f"the text of refusal {number}", texts.get(macro, (None, None))[1], {"the wrapper": in_rust[2]})
         if reason not in variants:
             yield f"refusal {number} is {word!r}: the wrapper's enum has no {reason}"
-    for where, known in [("the wrapper's list", len(listed)), ("the wrapper's enum", len(variants)), ("the header's texts", len(texts)), ("the book tool's", len(told))]:
+    for where, known in [("the wrapper's list", len(listed)), ("the wrapper's enum", len(variants)), ("the header's texts", len(texts))]:
         if known != len(expected):
             yield f"there are {len(expected)} refusals: of {where} there are {known}"
     section = re.search(r"^## Refusals by number\n(.*?)^##", SPECIFICATION.read_text(), re.M | re.S)[1]
