@@ -1,7 +1,5 @@
 // What the public entries answer. specs/Answers.antt gives document 01's number and values for each case, specs/Entries.antt defines the answer of every entry,
-// and specs/Demands.antt spells out the demands; the functions here do nothing and carry demand 2 and those on least words as theorems on these
-// definitions.
-ghost use Rattle.answers.specs.Demands.{Acceptance, CutsReported, LeastWritten, LeastDecides};
+// and specs/Demands.antt spells out the demands, of which demand 2 and those on least words are theorems on these definitions (crate `theorems`).
 use refusals::Refusal;
 
 // A book is accepted, with its number of relations (document 01: rules), or refused.
@@ -28,23 +26,3 @@ pub enum Least {
     Wrote(usize),
     Refused(Refusal),
 }
-
-// The demands on acceptance, as a theorem on the check's definition.
-pub fn acceptance_is_c4()
-    ensures { λ _. ⌜ Acceptance ⌝ }
-{}
-
-// The demands on the cut sheet, as a theorem on its definition.
-pub fn sheet_reports_cuts()
-    ensures { λ _. ⌜ CutsReported ⌝ }
-{}
-
-// The demands on the least word, as a theorem on its definition.
-pub fn least_is_written()
-    ensures { λ _. ⌜ LeastWritten ⌝ }
-{}
-
-// That two least words tell what a comparison tells, as a theorem on both definitions.
-pub fn least_words_agree()
-    ensures { λ _. ⌜ LeastDecides ⌝ }
-{}
