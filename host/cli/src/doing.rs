@@ -65,7 +65,7 @@ impl Teller<'_> {
             (true, true) => "nothing is exchanged".to_string(),
             (false, true) => becomes("u", of_u),
             (true, false) => becomes("v", of_v),
-            (false, false) => format!("{}, {}", becomes("u", of_u), becomes("v", of_v)),
+            (false, false) => format!("{} and {}", becomes("u", of_u), becomes("v", of_v)),
         }
     }
 

@@ -48,6 +48,7 @@ impl Desk<'_> {
 pub fn name(file: &OsStr) -> String {
     match file.to_string_lossy() {
         file if file == STANDARD => "standard input".to_string(),
+        file if file.is_empty() => "''".to_string(),
         file => file.into_owned(),
     }
 }

@@ -7,7 +7,7 @@ use crate::book::{side_name, At, Rules};
 use crate::given::Given;
 use crate::json::Object;
 use crate::pieces::{self, Pieces};
-use crate::show::{count, drawn, grouped, listed, short};
+use crate::show::{count, drawn, grouped, listed, parts_text, short};
 
 /// The most places of a piece that are told.
 const PLACES: usize = 3;
@@ -28,6 +28,8 @@ pub struct Told {
 /// A piece of a loose side, and where else it stands.
 struct PartTold {
     steps: Vec<u8>,
+    /// the piece in letters or in numbers, as the others of its side
+    text: String,
     position: usize,
     elsewhere: Vec<(pieces::Place, At)>,
 }
@@ -97,8 +99,8 @@ impl About<'_> {
         told.at = Some(self.rules.at(side, 0));
         told.side = Some(side);
         let parts = Pieces::new(&runs).fewest(&runs, side).unwrap_or_default();
-        let of = |part: &pieces::Part| &steps[part.position..part.position + part.length];
-        let cut = drawn(&parts.iter().map(of).collect::<Vec<_>>());
+        let runs_of_parts: Vec<&[u8]> = parts.iter().map(|part| &steps[part.position..part.position + part.length]).collect();
+        let cut = drawn(&runs_of_parts);
         let shown = short(steps, SHOWN);
         told.sentence = match parts.len() {
             // what is found here is told only where it agrees with the library
@@ -109,13 +111,14 @@ impl About<'_> {
             _ => format!("{}, {shown}, is a product of three or fewer pieces", side_name(side)),
         };
         if parts.len() < FEWEST {
-            told.parts = parts.iter().map(|part| self.part_told(part, of(part))).collect();
+            let texts = parts_text(&runs_of_parts);
+            told.parts = parts.iter().zip(runs_of_parts).zip(texts).map(|((part, run), text)| self.part_told(part, run, text)).collect();
         }
     }
 
-    fn part_told(&self, part: &pieces::Part, steps: &[u8]) -> PartTold {
+    fn part_told(&self, part: &pieces::Part, steps: &[u8], text: String) -> PartTold {
         let elsewhere = part.elsewhere.iter().map(|place| (*place, self.rules.at(place.side, place.position)));
-        PartTold { steps: steps.to_vec(), position: part.position, elsewhere: elsewhere.collect() }
+        PartTold { steps: steps.to_vec(), text, position: part.position, elsewhere: elsewhere.collect() }
     }
 
     fn run(&self, which: Which) -> Option<&Given> {
@@ -210,7 +213,7 @@ impl PartTold {
         let told = self.elsewhere.iter().take(PLACES).map(|(place, at)| format!("{} (at {})", side_name(place.side), at.within()));
         let more = self.elsewhere.len().saturating_sub(PLACES);
         let places: Vec<String> = told.chain((more > 0).then(|| count(more, "more place"))).collect();
-        format!("    {} also stands in {}", short(&self.steps, SHOWN), listed(&places))
+        format!("    {} also stands in {}", self.text, listed(&places))
     }
 
     fn object(&self) -> Object {

@@ -19,7 +19,7 @@ pub fn count(number: usize, noun: &str) -> String {
 }
 
 /// Parts of one run as text: all of them in letters, or all in numbers where a step has no letter; an empty part is nothing.
-fn parts_text(parts: &[&[u8]]) -> Vec<String> {
+pub fn parts_text(parts: &[&[u8]]) -> Vec<String> {
     let in_letters = run_text(&parts.concat()).bytes().all(|byte| byte.is_ascii_lowercase() || byte == b'-');
     let text = |part: &&[u8]| match (part.is_empty(), in_letters) {
         (true, _) => String::new(),

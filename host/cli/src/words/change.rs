@@ -3,7 +3,7 @@
 use std::ffi::OsStr;
 use std::fmt;
 
-use booktext::{Record, Rule, Text, TextError};
+use booktext::{Record, Rule, Text};
 use vanecitron::{rule_record, Cut, HeldBook, Reason, Refusal};
 
 use crate::book::{drawn_cut, longest_tail, side_name, Book, Rules, Side};
@@ -82,16 +82,12 @@ fn read(argument: &OsStr, index: usize) -> Result<Change, Failure> {
     let argument = argument.to_string_lossy();
     let name = || format!("change {index}");
     let word = argument.split_whitespace().next().unwrap_or_default();
-    let from = argument.find(word).unwrap_or(0) + word.len();
-    let before = argument[..from].chars().count();
-    let rest = &argument[from..];
+    let (before, rest) = argument.split_at(argument.find(word).unwrap_or(0) + word.len());
     match word {
         "add" => {
-            // columns are those of the whole argument
-            let moved = |error: TextError| TextError { column: before + error.column, ..error };
-            let mut rule = Rule::parse(rest).map_err(|error| Failure::Argument { name: name(), error: moved(error) })?;
-            rule.sides.iter_mut().for_each(|side| side.column += before);
-            Ok(Change::Add(rule))
+            // blanks stand for what is before the rule, so that columns are those of the whole argument
+            let rule = " ".repeat(before.chars().count()) + rest;
+            Rule::parse(&rule).map(Change::Add).map_err(|error| Failure::Argument { name: name(), error })
         }
         "drop" => match call::number(OsStr::new(rest.trim()), u32::MAX) {
             Some(rule @ 1..) => Ok(Change::Drop(rule as usize - 1)),
@@ -210,7 +206,8 @@ fn report(changing: &Changing, before: &[Cut], moved: &[Moved], change: &str) ->
             Some(_) => {}
         }
     }
-    if !moved.iter().any(|side| side.before.is_some_and(|old| before[old] != changing.cuts[side.after])) {
+    let mut kept = moved.iter().filter_map(|side| Some((&before[side.before?], &changing.cuts[side.after]))).peekable();
+    if kept.peek().is_some() && kept.all(|(was, is)| was == is) {
         lines.push("#   no side that was there moved".to_string());
     }
     let (was, is) = (longest_tail(before), longest_tail(&changing.cuts));

@@ -2,11 +2,11 @@
 
 use vanecitron::{Cut, PieceCount, RUN};
 
-use crate::book::{drawn_cut, left_or_right, longest_tail, Book, Rules};
+use crate::book::{drawn_cut, left_or_right, longest_tail, Book, Rules, Side};
 use crate::json::Object;
 use crate::pieces::Pieces;
 use crate::refusal::located;
-use crate::show::{count, grouped, table};
+use crate::show::{count, grouped, parts_text, table};
 use crate::words::{told, Answered};
 use crate::Desk;
 
@@ -77,14 +77,12 @@ pub fn sheet_lines(rules: &Rules, cuts: &[Cut]) -> Vec<String> {
 
 /// What each side is made of: its pieces, or the first step that stands nowhere else.
 fn made_of(rules: &Rules, cuts: &[Cut]) -> Vec<String> {
-    found(rules, cuts)
-        .into_iter()
-        .map(|found| match found {
-            Found::Pieces(pieces) => pieces.iter().map(|piece| booktext::run_text(piece)).collect::<Vec<_>>().join(", "),
-            Found::Alone(code) => format!("{} stands nowhere else", booktext::run_text(&[code])),
-            Found::Nothing => String::new(),
-        })
-        .collect()
+    let told = |(side, found): (&Side, Found)| match found {
+        Found::Pieces(pieces) => parts_text(&pieces).join(", "),
+        Found::Alone(code) => format!("{} stands nowhere else", parts_text(&[&[code], &side.run.steps])[0]),
+        Found::Nothing => String::new(),
+    };
+    rules.sides.iter().zip(found(rules, cuts)).map(told).collect()
 }
 
 /// What this command finds of a side, where it agrees with the library.

@@ -39,7 +39,7 @@ pub fn explain(desk: &mut Desk) -> Answered {
         None => desk.read_text(OsStr::new(STANDARD))?,
     };
     let mut reading = Reading { book: &book, begun: false, next: 0 };
-    for line in output.lines() {
+    for line in output.lines().filter(|line| !line.is_empty()) {
         let (line, meaning) = match read(line) {
             Some(read) => (line.to_string(), reading.meaning(read)),
             None => (shown(line), "this is no line of the program's output".to_string()),
