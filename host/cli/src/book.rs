@@ -60,8 +60,8 @@ impl Rules {
     /// Where a step of a side stands.
     pub fn at(&self, side: usize, position: usize) -> At {
         let Side { run, change } = &self.sides[side];
-        // an empty side has no steps, and stands where its - does
-        let column = if run.steps.is_empty() { run.column } else { run.column_of(position) };
+        // an empty side has no first step, and stands where its - does
+        let column = if position == 0 { run.column } else { run.column_of(position) };
         match change {
             None => At::File { file: self.file.clone(), line: run.line, column },
             Some(change) => At::Argument { name: format!("change {change}"), column },

@@ -1,6 +1,7 @@
 //! The call of the command: its word, its arguments and its options.
 
 use std::ffi::{OsStr, OsString};
+use std::os::unix::ffi::OsStrExt;
 
 use booktext::shown;
 
@@ -27,7 +28,7 @@ pub struct Call {
     pub output: Option<OsString>,
 }
 
-/// Whether objects are asked for, also in a call that is wrong.
+/// Whether objects are asked for in a call that is wrong, as far as it can be told.
 pub fn wants_json(arguments: &[OsString]) -> bool {
     arguments.iter().take_while(|argument| *argument != "--").any(|argument| argument == "--json")
 }
@@ -42,7 +43,7 @@ pub fn read(arguments: &[OsString]) -> Result<Call, Failure> {
         let wrong = |message| Failure::Call { message, word: word.map(|word: &Word| word.name) };
         match word {
             _ if may_be_option && text == "--" => may_be_option = false,
-            _ if may_be_option && text.starts_with('-') && text != "-" => used.push(call.option(&text, &mut rest).map_err(wrong)?),
+            _ if may_be_option && text.starts_with('-') && text != "-" => used.push(call.option(argument, &mut rest).map_err(wrong)?),
             None => word = Some(WORDS.iter().find(|word| word.name == text).ok_or_else(|| wrong(format!("there is no word {}", shown(&text))))?),
             Some(_) => call.arguments.push(argument.clone()),
         }
@@ -59,14 +60,13 @@ pub fn read(arguments: &[OsString]) -> Result<Call, Failure> {
 
 impl Call {
     /// Takes an option and its value, which stands behind a `=` or is the next argument; gives the option's name.
-    fn option<'a>(&mut self, text: &str, rest: &mut impl Iterator<Item = &'a OsString>) -> Result<&'static str, String> {
-        let (name, inline) = match text.split_once('=') {
-            Some((name, value)) => (name, Some(OsString::from(value))),
-            None => (text, None),
-        };
+    fn option<'a>(&mut self, argument: &OsStr, rest: &mut impl Iterator<Item = &'a OsString>) -> Result<&'static str, String> {
+        let mut parts = argument.as_bytes().splitn(2, |&byte| byte == b'=');
+        let name = String::from_utf8_lossy(parts.next().unwrap_or_default());
+        let inline = parts.next().map(|value| OsStr::from_bytes(value).to_os_string());
         let plain = |name| inline.as_ref().map_or(Ok(name), |_| Err(format!("--{name} takes no value")));
         let mut value = |name| inline.clone().or_else(|| rest.next().cloned()).ok_or_else(|| format!("--{name} wants a value"));
-        match name {
+        match &name[..] {
             "--help" | "-h" => plain("help"),
             "--version" => plain("version"),
             "--json" => {
@@ -87,7 +87,7 @@ impl Call {
                 self.output = Some(value("output")?);
                 Ok("output")
             }
-            _ => Err(format!("there is no option {}", shown(name))),
+            _ => Err(format!("there is no option {}", shown(&name))),
         }
     }
 

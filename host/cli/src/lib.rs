@@ -47,8 +47,9 @@ struct Desk<'a> {
 
 /// Runs the command and gives its status: 0, 1 or 2. It never panics, whatever it is given.
 pub fn run(arguments: &[OsString], input: &mut dyn Read, output: &mut dyn Write, errors: &mut dyn Write) -> u8 {
-    let json = call::wants_json(arguments);
-    let done = call::read(arguments).and_then(|call| words::answer(&mut Desk { call: &call, input: Some(input), output })).and_then(|status| {
+    let call = call::read(arguments);
+    let json = call.as_ref().map_or_else(|_| call::wants_json(arguments), |call| call.json);
+    let done = call.and_then(|call| words::answer(&mut Desk { call: &call, input: Some(input), output })).and_then(|status| {
         output.flush()?;
         Ok(status)
     });
@@ -60,13 +61,14 @@ pub fn run(arguments: &[OsString], input: &mut dyn Read, output: &mut dyn Write,
     status as u8
 }
 
-/// Tells a failure: a sentence among the errors, or, where objects are asked for, an object among the answers.
+/// Tells a failure: a sentence among the errors, or, where objects are asked for and can be written, an object among the answers.
 fn tell(failure: &Failure, json: bool, output: &mut dyn Write, errors: &mut dyn Write) -> std::io::Result<()> {
     match failure {
         Failure::Output(error) if error.kind() == ErrorKind::BrokenPipe => Ok(()), // nobody reads any more
+        Failure::Output(_) => writeln!(errors, "{failure}"),
         _ if json => {
-            writeln!(output, "{}", failure.object(Object::new("error")))?;
-            output.flush()
+            let told = writeln!(output, "{}", failure.object(Object::new("error"))).and_then(|()| output.flush());
+            told.or_else(|error| tell(&Failure::Output(error), json, output, errors))
         }
         _ => writeln!(errors, "{failure}"),
     }

@@ -98,7 +98,9 @@ impl About<'_> {
         let steps = runs[side];
         told.at = Some(self.rules.at(side, 0));
         told.side = Some(side);
-        let parts = Pieces::new(&runs).fewest(&runs, side).unwrap_or_default();
+        // no book over the limits is loose by the library's answer, and a text can say one that is far over them
+        let within = runs.len() <= 2 * vanecitron::RULES && runs.iter().all(|run| run.len() <= vanecitron::SIDE);
+        let parts = if within { Pieces::new(&runs).fewest(&runs, side).unwrap_or_default() } else { Vec::new() };
         let runs_of_parts: Vec<&[u8]> = parts.iter().map(|part| &steps[part.position..part.position + part.length]).collect();
         let cut = drawn(&runs_of_parts);
         let shown = short(steps, SHOWN);

@@ -60,11 +60,10 @@ pub fn change(desk: &mut Desk) -> Answered {
         Ok(changing) => changing,
     };
     for (index, change) in changes.iter().enumerate() {
-        let before = changing.cuts.clone();
+        let (name, before) = (format!("change {}, {change}", index + 1), changing.cuts.clone());
         match changing.make(change, index + 1) {
             Err(told) => return desk.refuse(&told),
-            Ok(moved) => desk
-                .say(report(&changing, &before, &moved, &format!("change {}, {change}", index + 1)), || posted(&changing, &before, &moved, change))?,
+            Ok(moved) => desk.say(report(&changing, &before, &moved, &name), || posted(&changing, &before, &moved, change))?,
         };
     }
     print(desk, &changing)
@@ -79,7 +78,8 @@ fn begin(book: &Book) -> Result<Changing, Refusal> {
 
 /// Reads a change: `add RUN = RUN` or `drop NUMBER`, rules counted from 1.
 fn read(argument: &OsStr, index: usize) -> Result<Change, Failure> {
-    let argument = argument.to_string_lossy();
+    // a change is one line, so that its steps have columns: an end of a line in it is a blank
+    let argument = argument.to_string_lossy().replace('\n', " ");
     let name = || format!("change {index}");
     let word = argument.split_whitespace().next().unwrap_or_default();
     let (before, rest) = argument.split_at(argument.find(word).unwrap_or(0) + word.len());
