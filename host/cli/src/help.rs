@@ -30,9 +30,10 @@ pub static WORDS: [Word; 10] = [
         arguments: 1..=1,
         options: &[],
         brief: "whether a book is accepted, the cut of each side, k, and an allowance that suffices",
-        about: "Says whether the book is accepted. Of one that is: the cut of each side, drawn into it, and of how many pieces the side is made; k, the length of the
-longest Z; and an allowance that no comparison uses up. Of one that is refused: what is wrong, with line and column, and of a loose side which pieces
-it is made of and where else each of them stands. The status is 0 or 2.",
+        about: "Says whether the book is accepted. Of one that is: the cut of each side, drawn into it, and of how
+many pieces the side is made; k, the length of the longest Z; and an allowance that no comparison
+uses up. Of one that is refused: what is wrong, with line and column, and of a loose side which
+pieces it is made of and where else each of them stands. The status is 0 or 2.",
         example: "    $ vanecitron check examples/q.txt
     examples/q.txt: accepted: 1 rule over 4 letters, which meets C(4)
 
@@ -51,7 +52,8 @@ it is made of and where else each of them stands. The status is 0 or 2.",
         arguments: 1..=1,
         options: &[],
         brief: "the cut sheet alone",
-        about: "The table of `check` and nothing else. `none` under pieces says that a side is no product of pieces, so that it cannot be loose.",
+        about: "The table of `check` and nothing else. `none` under pieces says that a side is no product of
+pieces, so that it cannot be loose.",
         example: "    $ vanecitron sheet examples/rinse.txt
     rule  side   at   cut    pieces  made of
        1  left   3:1  a|d|a  none    d stands nowhere else
@@ -66,8 +68,10 @@ it is made of and where else each of them stands. The status is 0 or 2.",
         arguments: 1..=3,
         options: &["allowance", "width"],
         brief: "whether a chain of exchanges joins two runs",
-        about: "Compares two runs. Without runs it answers the comparisons in the book's text, a line each, with their own allowances. The status is 0 where a chain of
-exchanges joins the runs, 1 where none does, however long, and 2 where there is no answer: refused, or spent. Of several it is the highest.",
+        about: "Compares two runs. Without runs it answers the comparisons in the book's text, a line each, with
+their own allowances. The status is 0 where a chain of exchanges joins the runs, 1 where none
+does, however long, and 2 where there is no answer: refused, or spent. Of several it is the
+highest.",
         example: "    $ vanecitron compare examples/q.txt cadbadb abdabdc
     same: a chain of exchanges joins cadbadb and abdabdc; 3 rounds",
         answer: compare::compare,
@@ -78,8 +82,9 @@ exchanges joins the runs, 1 where none does, however long, and 2 where there is 
         arguments: 2..=3,
         options: &["width"],
         brief: "every round of a comparison, a line each",
-        about: "Compares two runs round by round, so that it can be followed with a pencil: the row of the procedure that applies (docs/SPECIFICATION.md, \"The rows\"), u, v
-and the mark before it, what is exchanged, what goes and what stays. The status is that of compare.",
+        about: "Compares two runs round by round, so that it can be followed with a pencil: the row of the
+procedure that applies (docs/SPECIFICATION.md, \"The rows\"), u, v and the mark before it, what is
+exchanged, what goes and what stays. The status is that of compare.",
         example: "    $ vanecitron trace examples/q.txt abdcad cadbac
     round  row  u       v       mark  what is done
         1    4  abdcad  cadbac  -     in v cadb becomes abdc; abd goes from both; cad and cac stay
@@ -95,8 +100,10 @@ and the mark before it, what is exchanged, what goes and what stays. The status 
         arguments: 1..=MANY,
         options: &[],
         brief: "the least run of each run, for filing",
-        about: "The least run of each run, a line each: of all that exchanges make of it the first in dictionary order, where the codes 32 to 63 come first in rising order and
-then 0 to 31. Exchanges join two runs exactly when their least runs are equal. Without runs they are read from standard input, one a line.",
+        about: "The least run of each run, a line each: of all that exchanges make of it the first in dictionary
+order, where the codes 32 to 63 come first in rising order and then 0 to 31. Exchanges join two
+runs exactly when their least runs are equal. Without runs they are read from standard input, one
+a line.",
         example: "    $ vanecitron least examples/q.txt cadb cadbadb
     abdc
     abdabdc",
@@ -108,8 +115,8 @@ then 0 to 31. Exchanges join two runs exactly when their least runs are equal. W
         arguments: 2..=3,
         options: &[],
         brief: "what is left of a run once a front is taken off",
-        about: "The run w, the first in the order of least, such that exchanges turn PIECE followed by w into RUN. PIECE is a piece of the book, or - for the empty run. Where
-no such w exists, refusal 19 says so.",
+        about: "The run w, the first in the order of least, such that exchanges turn PIECE followed by w into RUN.
+PIECE is a piece of the book, or - for the empty run. Where no such w exists, refusal 19 says so.",
         example: "    $ vanecitron front examples/q.txt abdc c
     adb",
         answer: least::front,
@@ -120,10 +127,12 @@ no such w exists, refusal 19 says so.",
         arguments: 2..=MANY,
         options: &["output"],
         brief: "changes of a held book, each proposed, shown and posted; and the new book",
-        about: "Holds the book and makes each change in turn: 'add RUN = RUN' puts a rule behind the others, 'drop NUMBER' withdraws the rule of that number, the first
-being 1; later ones then move down one. Each is proposed, what it does to the cuts is shown, and it is posted. Then the new book is printed, with the text's
-own comments and comparisons. What is shown are comments of it, so that the whole output is a text again. The first change that is refused ends it: no book is printed, and
-the status is 2.",
+        about: "Holds the book and makes each change in turn: 'add RUN = RUN' puts a rule behind the others, 'drop
+NUMBER' withdraws the rule of that number, the first being 1; later ones then move down one. Each
+is proposed, what it does to the cuts is shown, and it is posted. Then the new book is printed,
+with the text's own comments and comparisons. What is shown are comments of it, so that the whole
+output is a text again. The first change that is refused ends it: no book is printed, and the
+status is 2.",
         example: "    $ vanecitron change examples/rinse.txt 'drop 1' 'add ca = db'
     # change 1, drop 1: posted; the book has 1 rule
     #   rule 1, left side was |c|a, no product of pieces; it is |ca|, no product of pieces
@@ -173,8 +182,8 @@ the status is 2.",
         arguments: 1..=2,
         options: &[],
         brief: "what the lines mean that the program printed",
-        about: "What the program printed for this text, in the text's terms. OUTPUT is a file, or one line such as 'refused 8 0'; without it standard input is read. Nothing is
-asked of the library here.",
+        about: "What the program printed for this text, in the text's terms. OUTPUT is a file, or one line such as
+'refused 8 0'; without it standard input is read. Nothing is asked of the library here.",
         example: "    $ vanecitron explain examples/loose.txt 'refused 8 0'
     refused 8 0: loose: rule 1, left side, abdc, is made of 3 pieces, a|bd|c; C(4) asks that no side be made of fewer than 4 (examples/loose.txt:3:1)",
         answer: explain::explain,
@@ -187,8 +196,9 @@ const TEXT_FORM: &str = "A text has one item a line; # begins a comment.
     abdc = cadb             # a rule: its left side and its right side
     compare abdc cadb 100   # two runs to compare and the allowance of rounds; behind all rules
 
-A run is written with the letters a to z, which are the codes 0 to 25, or as numbers with dots between them: 0.1.27. The empty run is -.
-@FILE stands for the runs in a file, one a line, and @- for those on standard input; - as BOOK.txt is standard input.";
+A run is written with the letters a to z, which are the codes 0 to 25, or as numbers with dots
+between them: 0.1.27. The empty run is -. @FILE stands for the runs in a file, one a line, and @-
+for those on standard input; - as BOOK.txt is standard input.";
 
 const OPTIONS: [(&str, &str, &str); 3] = [
     ("allowance", "--allowance N", "how many rounds may be taken; without it as many as it takes"),
@@ -196,9 +206,9 @@ const OPTIONS: [(&str, &str, &str); 3] = [
     ("output", "-o, --output FILE", "where the result goes; standard output without it"),
 ];
 
-const STATUS: &str =
-    "The status is 0 same, accepted or done; 1 different; 2 refused or spent, or an error in the call, a text or a file, which is told in a sentence.
-Every answer is the proved library's. What is said beyond it, such as which pieces make a side up, is found by this command and says so.";
+const STATUS: &str = "The status is 0 same, accepted or done; 1 different; 2 refused or spent, or an error in the call, a
+text or a file, which is told in a sentence. Every answer is the proved library's. What is said
+beyond it, such as which pieces make a side up, is found by this command and says so.";
 
 /// The help of a word, or of the command.
 pub fn text(word: Option<&Word>) -> String {
@@ -211,8 +221,8 @@ pub fn text(word: Option<&Word>) -> String {
 fn whole() -> String {
     let words: Vec<String> = WORDS.iter().map(|word| format!("    {:<8} {:<19} {}", word.name, word.form, word.brief)).collect();
     let words = words.join("\n");
-    let json = "--json gives every answer as one object a line (docs/COMMAND.md). vanecitron WORD --help says more, with an example.";
-    format!("vanecitron WORD ARGUMENTS: books of exchange rules and runs, as text\n\n{words}\n\n{json}\n\n{TEXT_FORM}\n\n{STATUS}")
+    let more = "vanecitron WORD --help says more, with an example. --json gives every answer as one object a line\n(docs/COMMAND.md).";
+    format!("vanecitron WORD ARGUMENTS: books of exchange rules and runs, as text\n\n{words}\n\n{more}\n\n{TEXT_FORM}\n\n{STATUS}")
 }
 
 fn of(word: &Word) -> String {
