@@ -1,5 +1,5 @@
-// The theorems on the definitions, each the contract of a function that does nothing, so that they are found in one place and the check holds them fast. What a theorem says stands in the
-// specs of the crate that its heading names, and its proof in the proofs there.
+// What is shown of the definitions, each theorem the contract of a function that does nothing, so that it is found here and the check holds it fast. What a theorem says stands in the
+// specs of the crate that its heading names, and its proof in the proofs there. Crates `output`, `lines` and `worked` have theorems of their own.
 ghost use Rattle.words.specs.Families.{DistinctWordsRight, FamiliesRight};
 ghost use Rattle.overlap.specs.Theorems.{TestsPieces, WordsTested, VerdictsRight, AcceptsC4, CountsFewest, NumbersDecide, NumbersSmall, LoneLetters, CutsMaximal, CutsGood, PiecesClosed, FewerKeepC4};
 ghost use Rattle.overlap.specs.Examples.{NumbersHold};

@@ -83,11 +83,6 @@ impl Text {
         let head = head.ok_or_else(|| TextError::new(text.split('\n').count(), 1, format!("the text is empty; {FIRST}")))?;
         Ok(Text { head, rules, comparisons })
     }
-
-    /// The side of a number, as refusal 8 counts them: rule i, from 0, has the sides 2 i, its left one, and 2 i + 1.
-    pub fn side(&self, number: usize) -> Option<&Run> {
-        self.rules.get(number / 2).map(|rule| &rule.sides[number % 2])
-    }
 }
 
 impl Rule {

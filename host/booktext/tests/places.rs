@@ -1,4 +1,4 @@
-//! Places: the record that a byte lies in, the side of a number, and the column of a step.
+//! Places: the record that a byte lies in, and the column of a step.
 
 use booktext::{decode, Record, Run, Text};
 use gen::{books, inputs, Chance};
@@ -49,20 +49,6 @@ fn the_record_of_every_byte() {
         let in_book = records.iter().filter(|record| !matches!(record, Record::Comparison(_))).count();
         assert_eq!(text.book(), bytes[..in_book], "seed {seed}");
     }
-}
-
-#[test]
-fn the_side_of_a_number() {
-    let text = Text::parse("letters 4\nabdc = cadb\n\n bb =bbb\n- = d\ncompare a b 1\n").unwrap();
-    let expected = [("abdc", 2, 1), ("cadb", 2, 8), ("bb", 4, 2), ("bbb", 4, 6), ("-", 5, 1), ("d", 5, 5)];
-    for (number, (side, line, column)) in expected.into_iter().enumerate() {
-        let found = text.side(number).expect("a side");
-        assert_eq!((found.to_string(), found.line, found.column), (side.to_string(), line, column), "{number}");
-    }
-    for number in [6, 7, 100, usize::MAX] {
-        assert_eq!(text.side(number), None);
-    }
-    assert_eq!(Text::parse("letters 4\n").unwrap().side(0), None);
 }
 
 #[test]
