@@ -34,7 +34,7 @@ use Rattle.rounds.specs.Writing.{writtenBy, Lent}
 use Rattle.presentation.specs.Loading.{Holding, Memory, BookLoaded}
 use Rattle.presentation.proofs.Laws.{load-refused}
 use Rattle.given.specs.declared.Given.{Given}
-use Rattle.given.specs.declared.Given.the-variants as Words
+use Rattle.given.specs.declared.Given.the-variants as Givens
 use Rattle.given.specs.Given.{givenOf, onGiven, tripleOf}
 use Rattle.given.proofs.Laws.{fine-short, fine-both}
 use Rattle.rounds.specs.declared.RoundLengths.{RoundLengths}
@@ -48,13 +48,13 @@ use Rattle.sheet.proofs.Laws.{side-in, sheet-cut}
 use Rattle.answers.specs.declared.Verdict.the-variants as Verdicts
 use Rattle.answers.specs.declared.Round.{Round}
 use Rattle.answers.specs.declared.Printed.the-variants as Prints
-use Rattle.answers.specs.declared.Least.the-variants as Leasts
+use Rattle.answers.specs.declared.WrittenWord.the-variants as WrittenWords
 use Rattle.lines.specs.Lines.{WrittenTo}
 use Rattle.output.specs.Program.{programOf}
 use Rattle.output.specs.Size.{outputMost}
 use Rattle.answers.specs.declared.Round.the-variants as Rounds
-use Rattle.answers.specs.Answers.{accepted, refusal, ofVerdict, ofRound, ofComparison, ofPrinted, ofLeast}
-use Rattle.answers.specs.Entries.{checkOf, SheetOutcome, sheetOf, RoundOutcome, OutputOutcome, outputOf, roomOf, askedOf, writing, loadedRound, roundOf, compareOf, LeastOutcome, loadedLeast, leastOf}
+use Rattle.answers.specs.Answers.{accepted, refusal, ofVerdict, ofRound, ofComparison, ofPrinted, ofWrittenWord}
+use Rattle.answers.specs.Entries.{checkOf, SheetOutcome, sheetOf, RoundOutcome, OutputOutcome, outputOf, roomOf, askedOf, writing, loadedRound, roundOf, compareOf, WordOutcome, loadedLeast, leastOf}
 use Rattle.answers.specs.Parts.{SheetReady, acceptedSheet, answeredRound, LeastLoaded}
 use Rattle.answers.specs.Demands.{Compared, LeastAnswered}
 use Rattle.answers.proofs.Theorems.{compared}
@@ -91,10 +91,10 @@ module _ (book : List ℕ) (reading : Reading) (text table : List ℕ) (d : Book
 
   -- the least word
   pub least-unread : (u buffer : List ℕ) (offset : ℕ) (r : Refusal) → reading ≡ Refused r
-      → LeastAnswered book u buffer offset (LeastOutcome.after (ofLeast (Leasts.Refused r)) buffer)
+      → LeastAnswered book u buffer offset (WordOutcome.after (ofWrittenWord (WrittenWords.Refused r)) buffer)
   unfolding leastOf
   least-unread u buffer offset r f =
-      least-answered book u buffer offset (LeastOutcome.after (ofLeast (Leasts.Refused r)) buffer) (sym (rw (load-refused book reading text table d r f)))
+      least-answered book u buffer offset (WordOutcome.after (ofWrittenWord (WrittenWords.Refused r)) buffer) (sym (rw (load-refused book reading text table d r f)))
 
   module _ (letters count : ℕ) (e : reading ≡ Read letters count) where
     held : Holding book letters count text table
@@ -160,7 +160,7 @@ module _ (book : List ℕ) (reading : Reading) (text table : List ℕ) (d : Book
     pub loaded-letters : (n : ℕ) → n ≡ countOf table → LeastLoaded text table n letters
     loaded-letters n c = let h = held in record { ready = loaded-ready n c; few = omega (arith, h .within .few, h .lettered) }
 
-    pub least-loaded : (n : ℕ) → n ≡ countOf table → (u buffer : List ℕ) (offset : ℕ) (x : LeastOutcome)
+    pub least-loaded : (n : ℕ) → n ≡ countOf table → (u buffer : List ℕ) (offset : ℕ) (x : WordOutcome)
         → x ≡ loadedLeast letters (wordsIn text table n) (familyBy table n) u buffer offset → LeastAnswered book u buffer offset x
     unfolding leastOf
     least-loaded n c u buffer offset x f =
@@ -208,11 +208,11 @@ pub ruleset tableSheets = (sheet-fits, words-fit, sheet-narrow, sheet-roomy, she
 
 -- what is given to a round
 module _ (letters : ℕ) (u v p : Word) (roomU roomV roomP : ℕ) (g : Given) (e : g ≡ tripleOf letters u v p) where
-  pub asked-words : (r : Refusal) → g ≡ Words.Refused r → g ≡ askedOf letters u v p roomU roomV roomP
+  pub asked-words : (r : Refusal) → g ≡ Givens.Refused r → g ≡ askedOf letters u v p roomU roomV roomP
   unfolding askedOf
   asked-words r f = rw (← e, f)
 
-  pub asked-room : (x : Given) → g ≡ Words.Fine → x ≡ roomOf roomU roomV roomP → x ≡ askedOf letters u v p roomU roomV roomP
+  pub asked-room : (x : Given) → g ≡ Givens.Fine → x ≡ roomOf roomU roomV roomP → x ≡ askedOf letters u v p roomU roomV roomP
   unfolding askedOf
   asked-room x f h = rw (← e, f) h
 
@@ -228,35 +228,35 @@ answered-next s a b c e = rw e
 pub ruleset answereds = (answered-end, answered-next, needs)
 
 -- what is fine is within its limits
-fine-room : (roomU roomV roomP : ℕ) → roomOf roomU roomV roomP ≡ Words.Fine → (nextRoom ≤ roomU) × (nextRoom ≤ roomV) × (markMost ≤ roomP)
+fine-room : (roomU roomV roomP : ℕ) → roomOf roomU roomV roomP ≡ Givens.Fine → (nextRoom ≤ roomU) × (nextRoom ≤ roomV) × (markMost ≤ roomP)
 unfolding roomOf
 fine-room roomU roomV roomP e = go (ltb roomU nextRoom) refl (ltb roomV nextRoom) refl (ltb roomP markMost) refl
   where
     go : (x : Bool) → ltb roomU nextRoom ≡ x → (y : Bool) → ltb roomV nextRoom ≡ y → (z : Bool) → ltb roomP markMost ≡ z
         → (nextRoom ≤ roomU) × (nextRoom ≤ roomV) × (markMost ≤ roomP)
-    go true p y q z r = let f : Words.Refused (Narrow 0) ≡ Words.Fine = rw p at e in let o : _≡_ {A = ℕ} 0 1 = cc in absurd (omega arith)
-    go false p true q z r = let f : Words.Refused (Narrow 1) ≡ Words.Fine = rw (p, q) at e in let o : _≡_ {A = ℕ} 0 1 = cc in absurd (omega arith)
-    go false p false q true r = let f : Words.Refused (Narrow 2) ≡ Words.Fine = rw (p, q, r) at e in let o : _≡_ {A = ℕ} 0 1 = cc in absurd (omega arith)
+    go true p y q z r = let f : Givens.Refused (Narrow 0) ≡ Givens.Fine = rw p at e in let o : _≡_ {A = ℕ} 0 1 = cc in absurd (omega arith)
+    go false p true q z r = let f : Givens.Refused (Narrow 1) ≡ Givens.Fine = rw (p, q) at e in let o : _≡_ {A = ℕ} 0 1 = cc in absurd (omega arith)
+    go false p false q true r = let f : Givens.Refused (Narrow 2) ≡ Givens.Fine = rw (p, q, r) at e in let o : _≡_ {A = ℕ} 0 1 = cc in absurd (omega arith)
     go false p false q false r = (ltb-false roomU nextRoom p, ltb-false roomV nextRoom q, ltb-false roomP markMost r)
 
-fine-asked : (letters : ℕ) (u v p : Word) (roomU roomV roomP : ℕ) → askedOf letters u v p roomU roomV roomP ≡ Words.Fine
+fine-asked : (letters : ℕ) (u v p : Word) (roomU roomV roomP : ℕ) → askedOf letters u v p roomU roomV roomP ≡ Givens.Fine
     → (length u ≤ 4160) × (length v ≤ 4160) × (length p ≤ 64) × (4224 ≤ roomU) × (4224 ≤ roomV) × (64 ≤ roomP)
 unfolding askedOf tripleOf
 fine-asked letters u v p roomU roomV roomP e =
     let t = fine-both (tripleOf letters u v p) (roomOf roomU roomV roomP) e in
-    let x = fine-both (givenOf 0 roundMost letters u) (onGiven (givenOf 1 roundMost letters v) Words.Refused (givenOf 2 markMost letters p)) (t .0) in
+    let x = fine-both (givenOf 0 roundMost letters u) (onGiven (givenOf 1 roundMost letters v) Givens.Refused (givenOf 2 markMost letters p)) (t .0) in
     let y = fine-both (givenOf 1 roundMost letters v) (givenOf 2 markMost letters p) (x .1) in
     let r = fine-room roomU roomV roomP (t .1) in
     (fine-short 0 roundMost letters u (x .0), fine-short 1 roundMost letters v (y .0), fine-short 2 markMost letters p (y .1), r .0, r .1, r .2)
 
 -- a round under a loaded book
 module _ (text table : List ℕ) (n letters : ℕ) (u v p nextU nextV nextP : List ℕ) (g : Given) (e : g ≡ askedOf letters u v p (length nextU) (length nextV) (length nextP)) where
-  pub loaded-refused : (r : Refusal) → g ≡ Words.Refused r
+  pub loaded-refused : (r : Refusal) → g ≡ Givens.Refused r
       → RoundOutcome.after (ofRound (Rounds.Refused r)) nextU nextV nextP ≡ loadedRound letters (wordsIn text table n) (familyBy table n) u v p nextU nextV nextP
   unfolding loadedRound
   loaded-refused r f = rw (← e, f)
 
-  pub loaded-lent : Ready text table n → g ≡ Words.Fine → Lent text table n u v p nextU nextV nextP
+  pub loaded-lent : Ready text table n → g ≡ Givens.Fine → Lent text table n u v p nextU nextV nextP
   loaded-lent r f =
       let k = fine-asked letters u v p (length nextU) (length nextV) (length nextP) (sym e ∙ f) in
       record { given = record { grouped = r .grouped; shortU = k .0; shortV = k .1; shortP = k .2 }; roomU = k .3; roomV = k .4; roomP = k .5 }
@@ -278,7 +278,7 @@ module _ (text table : List ℕ) (n letters : ℕ) (u v p nextU nextV nextP : Li
       let ed : nextP′ ≡ over z nextP = cc in
       rw (es, ea, ec, ed)
 
-  pub loaded-made : g ≡ Words.Fine → (s : RoundLengths) (nextU′ nextV′ nextP′ : List ℕ)
+  pub loaded-made : g ≡ Givens.Fine → (s : RoundLengths) (nextU′ nextV′ nextP′ : List ℕ)
       → Writing.after s nextU′ nextV′ nextP′ ≡ writtenBy (round (wordsIn text table n) (familyBy table n) u v p) nextU nextV nextP
       → (r : Round) → r ≡ answeredRound s → RoundOutcome.after (ofRound r) nextU′ nextV′ nextP′ ≡ loadedRound letters (wordsIn text table n) (familyBy table n) u v p nextU nextV nextP
   unfolding loadedRound

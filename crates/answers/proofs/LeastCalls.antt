@@ -17,7 +17,7 @@ use Rattle.limits.specs.Limits.{comparedMost}
 use Rattle.refusals.specs.declared.Refusal.{Refusal}
 use Rattle.refusals.specs.declared.Refusal.the-variants.{NoSpace, NoPrefix}
 use Rattle.given.specs.declared.Given.{Given}
-use Rattle.given.specs.declared.Given.the-variants as Words
+use Rattle.given.specs.declared.Given.the-variants as Givens
 use Rattle.given.specs.Given.{oneOf, Widened}
 use Rattle.given.proofs.Laws.{fine-short, fine-known}
 use Rattle.overlap.specs.Pieces.{IsPiece, empty}
@@ -28,9 +28,9 @@ use Rattle.leastword.specs.declared.Counted.{Counted}
 use Rattle.leastword.specs.declared.Counted.the-variants as Counts
 use Rattle.leastword.specs.Writing.{leastFrom, Asked, countedOf, PutFound}
 use Rattle.leastword.proofs.Rounds.{least-found}
-use Rattle.answers.specs.declared.Least.the-variants as Leasts
-use Rattle.answers.specs.Answers.{wrote, ofLeast}
-use Rattle.answers.specs.Entries.{LeastOutcome, lacksSpace, placedAt, foundAt, loadedLeast}
+use Rattle.answers.specs.declared.WrittenWord.the-variants as WrittenWords
+use Rattle.answers.specs.Answers.{wrote, ofWrittenWord}
+use Rattle.answers.specs.Entries.{WordOutcome, lacksSpace, placedAt, foundAt, loadedLeast}
 use Rattle.answers.specs.Parts.{LeastLoaded, LeastCounted, LeastWidenable}
 
 -- the space behind an offset
@@ -67,7 +67,7 @@ counted-absent absent e = refl
 module _ (text table : List ℕ) (n : ℕ) (u : Word) (piece : Mark) (a : Asked text table n u piece) (c : Counted)
     (k : c ≡ countedOf (leastFrom (wordsIn text table n) (familyBy table n) (placedMark text piece) u)) where
   pub place-absent : (offset : ℕ) (buffer : List ℕ) → c ≡ Counts.Absent
-      → LeastOutcome.after (ofLeast (Leasts.Refused NoPrefix)) buffer ≡ foundAt offset (leastFrom (wordsIn text table n) (familyBy table n) (placedMark text piece) u) buffer
+      → WordOutcome.after (ofWrittenWord (WrittenWords.Refused NoPrefix)) buffer ≡ foundAt offset (leastFrom (wordsIn text table n) (familyBy table n) (placedMark text piece) u) buffer
   place-absent offset buffer e =
       ap (λ (x : Found). foundAt offset x buffer) (sym (counted-absent (leastFrom (wordsIn text table n) (familyBy table n) (placedMark text piece) u) (sym e ∙ k)))
 
@@ -87,7 +87,7 @@ module _ (offset : ℕ) (f : Found) (buffer : List ℕ) (long : ℕ) (k : Counts
   lacks : (b : Bool) → t ≡ b → lacksSpace (length buffer) offset (length (that .0)) ≡ b
   lacks b g = ap (lacksSpace (length buffer) offset) (sym (that .2)) ∙ sym e ∙ g
 
-  pub place-refused : t ≡ true → LeastOutcome.after (ofLeast (Leasts.Refused NoSpace)) buffer ≡ foundAt offset f buffer
+  pub place-refused : t ≡ true → WordOutcome.after (ofWrittenWord (WrittenWords.Refused NoSpace)) buffer ≡ foundAt offset f buffer
   unfolding placedAt
   place-refused g = sym (placed ∙ rw (lacks true g))
 
@@ -102,7 +102,7 @@ module _ (offset : ℕ) (f : Found) (buffer : List ℕ) (long : ℕ) (k : Counts
     whole-rest = take-all (length buffer - offset) (drop offset buffer) (omega (arith, length-drop offset buffer))
 
     pub place-written : (part : List ℕ) (r : Counted) → PutFound f (take (length buffer - offset) (drop offset buffer)) part r
-        → LeastOutcome.after (ofLeast (Leasts.Wrote long)) (take offset buffer ++ (part ++ drop (length buffer - offset) (drop offset buffer))) ≡ foundAt offset f buffer
+        → WordOutcome.after (ofWrittenWord (WrittenWords.Wrote long)) (take offset buffer ++ (part ++ drop (length buffer - offset) (drop offset buffer))) ≡ foundAt offset f buffer
     unfolding placedAt
     place-written part r p =
         let d = length-drop offset buffer in
@@ -110,7 +110,7 @@ module _ (offset : ℕ) (f : Found) (buffer : List ℕ) (long : ℕ) (k : Counts
         let s : part ≡ over (that .0) (drop offset buffer) = q .same (that .0) (that .1) (omega (arith, space .1, that .2)) in
         let n : drop (length buffer - offset) (drop offset buffer) ≡ [] = drop-of-length-le (drop offset buffer) {i = length buffer - offset} (omega arith) in
         let whole : take offset buffer ++ (part ++ drop (length buffer - offset) (drop offset buffer)) ≡ take offset buffer ++ over (that .0) (drop offset buffer) = rw (n, append-nil part, s) in
-        let there : placedAt offset (that .0) buffer ≡ LeastOutcome.after (wrote (length (that .0))) (take offset buffer ++ over (that .0) (drop offset buffer)) = rw (lacks false g) in
+        let there : placedAt offset (that .0) buffer ≡ WordOutcome.after (wrote (length (that .0))) (take offset buffer ++ over (that .0) (drop offset buffer)) = rw (lacks false g) in
         cc (whole, there, placed, that .2)
 
 pub ruleset placings = (place-refused, place-inside, place-written, needs)
@@ -120,7 +120,7 @@ module _ (text table : List ℕ) (n : ℕ) (u : Word) (piece : Mark) (wide wide�
   pub wide-asked : Asked text table n (take (length u) wide′) piece
   wide-asked = rw (x .same) (m .asked)
 
-  pub wide-placed : (offset : ℕ) (buffer : List ℕ) (o : LeastOutcome)
+  pub wide-placed : (offset : ℕ) (buffer : List ℕ) (o : WordOutcome)
       → o ≡ foundAt offset (leastFrom (wordsIn text table n) (familyBy table n) (placedMark text piece) (take (length u) wide′)) buffer
       → o ≡ foundAt offset (leastFrom (wordsIn text table n) (familyBy table n) (placedMark text piece) u) buffer
   wide-placed offset buffer o e = rw (x .same) at e
@@ -138,7 +138,7 @@ module _ (text table : List ℕ) (n : ℕ) (u : Word) (piece : Mark) (a : Asked 
 pub ruleset arrays = (long-widenable, short-widenable, needs)
 
 -- where the book has so many letters, a word that is fine can be asked for, with any piece that lies in the text
-pub fine-asked : (text table : List ℕ) (n letters : ℕ) → LeastLoaded text table n letters → (u : Word) → oneOf letters u ≡ Words.Fine
+pub fine-asked : (text table : List ℕ) (n letters : ℕ) → LeastLoaded text table n letters → (u : Word) → oneOf letters u ≡ Givens.Fine
     → (piece : Mark) → MarkFits text piece → IsPiece (wordsIn text table n) (placedMark text piece) → Asked text table n u piece
 fine-asked text table n letters k u f piece m p =
     record {
@@ -151,18 +151,18 @@ fine-asked text table n letters k u f piece m p =
 
 -- a given word
 module _ (text table : List ℕ) (n letters : ℕ) (k : LeastLoaded text table n letters) (u : Word) (g : Given) (e : g ≡ oneOf letters u) where
-  pub least-refused : (buffer : List ℕ) (offset : ℕ) (r : Refusal) → g ≡ Words.Refused r
-      → LeastOutcome.after (ofLeast (Leasts.Refused r)) buffer ≡ loadedLeast letters (wordsIn text table n) (familyBy table n) u buffer offset
+  pub least-refused : (buffer : List ℕ) (offset : ℕ) (r : Refusal) → g ≡ Givens.Refused r
+      → WordOutcome.after (ofWrittenWord (WrittenWords.Refused r)) buffer ≡ loadedLeast letters (wordsIn text table n) (familyBy table n) u buffer offset
   unfolding loadedLeast
   least-refused buffer offset r f = sym (rw (sym e ∙ f))
 
-  module _ (f : g ≡ Words.Fine) where
+  module _ (f : g ≡ Givens.Fine) where
     -- behind the empty piece
     pub least-asked : Asked text table n u (record { at = 0; to = 0 })
     least-asked =
         fine-asked text table n letters k u (sym e ∙ f) (record { at = 0; to = 0 }) (record { up = omega arith; inside = omega arith; short = omega arith }) (empty refl)
 
-    pub least-placed : (buffer : List ℕ) (offset : ℕ) (o : LeastOutcome) → o ≡ foundAt offset (leastFrom (wordsIn text table n) (familyBy table n) [] u) buffer
+    pub least-placed : (buffer : List ℕ) (offset : ℕ) (o : WordOutcome) → o ≡ foundAt offset (leastFrom (wordsIn text table n) (familyBy table n) [] u) buffer
         → o ≡ loadedLeast letters (wordsIn text table n) (familyBy table n) u buffer offset
     unfolding loadedLeast
     least-placed buffer offset o h =

@@ -26,7 +26,7 @@ use Rattle.limits.specs.Limits.{comparedMost, sideMost}
 use Rattle.refusals.specs.declared.Refusal.the-variants.{NoSpace}
 use Rattle.format.specs.Book.{Presentation, BookReading}
 use Rattle.presentation.specs.Loading.{loadBook}
-use Rattle.given.specs.declared.Given.the-variants as Words
+use Rattle.given.specs.declared.Given.the-variants as Givens
 use Rattle.given.specs.Given.{givenOf, oneOf, pairOf}
 use Rattle.given.proofs.Laws.{fine-short, fine-both, fine-again}
 use Rattle.writing.specs.Writing.{over}
@@ -34,7 +34,7 @@ use Rattle.writing.proofs.Writing.{over-prefix, over-behind, over-kept}
 use Rattle.leastword.specs.Writing.{leastFor}
 use Rattle.leastword.proofs.Rounds.{longest-bound}
 use Rattle.answers.specs.Answers.{Answer, same, different, wrote, refused, refusal}
-use Rattle.answers.specs.Entries.{LeastOutcome, compareOf, lacksSpace, placedAt, loadedLeast, leastOf}
+use Rattle.answers.specs.Entries.{WordOutcome, compareOf, lacksSpace, placedAt, loadedLeast, leastOf}
 use Rattle.answers.specs.Demands.{Decides, Placed, WritesLeast, LeastAnswered, LeastWritten, writtenBytes, LeastDecides}
 use Rattle.answers.proofs.Loaded.{loaded-c4, loaded-short}
 use Rattle.answers.proofs.Theorems.{compared}
@@ -47,7 +47,7 @@ module _ (w old : List ℕ) (offset : ℕ) (h : offset + length w ≤ length old
   behind-long : length (drop offset old) ≡ length old - offset
   behind-long = length-drop offset old
 
-  placed-at : placedAt offset w old ≡ LeastOutcome.after (wrote (length w)) (take offset old ++ over w (drop offset old))
+  placed-at : placedAt offset w old ≡ WordOutcome.after (wrote (length w)) (take offset old ++ over w (drop offset old))
   unfolding placedAt lacksSpace
   placed-at = rw (le-ltb (length old) offset (omega arith), le-ltb (length old - offset) (length w) (omega arith))
 
@@ -75,30 +75,30 @@ module _ (w old : List ℕ) (offset : ℕ) (h : offset + length w ≤ length old
       }
 
 -- where there is none, the outcome is 14
-pub placed-nowhere : (w old : List ℕ) (offset : ℕ) → length old < offset + length w → placedAt offset w old ≡ LeastOutcome.after (refused 14 0) old
+pub placed-nowhere : (w old : List ℕ) (offset : ℕ) → length old < offset + length w → placedAt offset w old ≡ WordOutcome.after (refused 14 0) old
 unfolding placedAt lacksSpace
 placed-nowhere w old offset h = go (ltb (length old) offset) refl
   where
-    go : (t : Bool) → ltb (length old) offset ≡ t → placedAt offset w old ≡ LeastOutcome.after (refused 14 0) old
+    go : (t : Bool) → ltb (length old) offset ≡ t → placedAt offset w old ≡ WordOutcome.after (refused 14 0) old
     go true q = rw q
     go false q = rw (q, lt-ltb (length old - offset) (length w) (omega (arith, ltb-false (length old) offset q)))
 
 -- what is told to be written can be read again
-written-back : (w old : List ℕ) (offset m : ℕ) (buffer : List ℕ) → placedAt offset w old ≡ LeastOutcome.after (wrote m) buffer → writtenBytes m offset buffer ≡ w
+written-back : (w old : List ℕ) (offset m : ℕ) (buffer : List ℕ) → placedAt offset w old ≡ WordOutcome.after (wrote m) buffer → writtenBytes m offset buffer ≡ w
 unfolding placedAt lacksSpace
 written-back w old offset m buffer e = go (ltb (length old) offset) refl (ltb (length old - offset) (length w)) refl
   where
     go : (t : Bool) → ltb (length old) offset ≡ t → (r : Bool) → ltb (length old - offset) (length w) ≡ r → writtenBytes m offset buffer ≡ w
     go true q r f =
-        let d : LeastOutcome.after (refusal NoSpace) old ≡ LeastOutcome.after (wrote m) buffer = rw q at e in
+        let d : WordOutcome.after (refusal NoSpace) old ≡ WordOutcome.after (wrote m) buffer = rw q at e in
         let z : _≡_ {A = ℕ} 0 1 = cc in
         absurd (omega arith)
     go false q true f =
-        let d : LeastOutcome.after (refusal NoSpace) old ≡ LeastOutcome.after (wrote m) buffer = rw (q, f) at e in
+        let d : WordOutcome.after (refusal NoSpace) old ≡ WordOutcome.after (wrote m) buffer = rw (q, f) at e in
         let z : _≡_ {A = ℕ} 0 1 = cc in
         absurd (omega arith)
     go false q false f =
-        let d : LeastOutcome.after (wrote (length w)) (take offset old ++ over w (drop offset old)) ≡ LeastOutcome.after (wrote m) buffer = rw (q, f) at e in
+        let d : WordOutcome.after (wrote (length w)) (take offset old ++ over w (drop offset old)) ≡ WordOutcome.after (wrote m) buffer = rw (q, f) at e in
         let n : length w ≡ m = cc in
         let b : take offset old ++ over w (drop offset old) ≡ buffer = cc in
         let a = before-long w old offset (omega (arith, ltb-false (length old) offset q, ltb-false (length old - offset) (length w) f)) in
@@ -118,14 +118,14 @@ module _ (relations : List Relation) (l : LeastWords relations houseRank) where
       let f : wordOf (leastBehind (wordsOf relations) (familyOf relations) houseRank [] u) ≡ w .0 = rw e in
       subst (λ (x : Word). LeastWord (relationWords relations) houseRank u x) (sym f) (w .1)
 
-  writes-least : (u : Word) → longestWord (wordsOf relations) ≤ sideMost → length u ≤ comparedMost → (old : List ℕ) (offset : ℕ) (outcome : LeastOutcome)
+  writes-least : (u : Word) → longestWord (wordsOf relations) ≤ sideMost → length u ≤ comparedMost → (old : List ℕ) (offset : ℕ) (outcome : WordOutcome)
       → outcome ≡ placedAt offset (leastUnder u) old → WritesLeast (relationWords relations) u old offset outcome
   writes-least u short few old offset outcome e =
       record {
         word = leastUnder u;
         least = least-for u;
         only = λ w m. l .unique u w (leastUnder u) m (least-for u);
-        roomy = λ h. subst (λ (o : LeastOutcome). Placed (leastUnder u) old offset o) (sym e) (placed-word (leastUnder u) old offset h);
+        roomy = λ h. subst (λ (o : WordOutcome). Placed (leastUnder u) old offset o) (sym e) (placed-word (leastUnder u) old offset h);
         narrow = λ h. e ∙ placed-nowhere (leastUnder u) old offset h;
         short = omega (arith, l .short u (leastUnder u) (least-for u), mul-le-mul short few);
       }
@@ -144,7 +144,7 @@ module _ (relations : List Relation) (l : LeastWords relations houseRank) where
       congruent n e (inr (inr f)) = let z : _≡_ {A = ℕ} 0 1 = cc in absurd (omega arith)
 
 -- an accepted book and a word that is fine
-placed-least : (book : List ℕ) (u : Word) (old : List ℕ) (offset : ℕ) (p : Presentation) → loadBook book ≡ BookReading.read p → oneOf (p .letters) u ≡ Words.Fine
+placed-least : (book : List ℕ) (u : Word) (old : List ℕ) (offset : ℕ) (p : Presentation) → loadBook book ≡ BookReading.read p → oneOf (p .letters) u ≡ Givens.Fine
     → leastOf book u old offset ≡ placedAt offset (leastFor (wordsOf (p .relations)) (familyOf (p .relations)) u) old
 unfolding leastOf loadedLeast
 placed-least book u old offset p e f = rw (e, f)
@@ -159,7 +159,7 @@ least-written book u old offset p e f =
     writes-least (p .relations) (loaded-least book p e) u (omega arith) (fine-short 0 comparedMost (p .letters) u f) old offset (leastOf book u old offset) (placed-least book u old offset p e f)
 
 -- what is the definition's outcome is all that the least word promises
-pub least-answered : (book : List ℕ) (u : Word) (old : List ℕ) (offset : ℕ) (outcome : LeastOutcome) → outcome ≡ leastOf book u old offset → LeastAnswered book u old offset outcome
+pub least-answered : (book : List ℕ) (u : Word) (old : List ℕ) (offset : ℕ) (outcome : WordOutcome) → outcome ≡ leastOf book u old offset → LeastAnswered book u old offset outcome
 least-answered book u old offset outcome e =
     record { is = e; writes = λ p l f. subst (WritesLeast (relationWords (p .relations)) u old offset) (sym e) (least-written book u old offset p l f) }
 

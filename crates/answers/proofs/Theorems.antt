@@ -19,7 +19,7 @@ use Rattle.congruence.specs.Theorem.{Decision}
 use Rattle.congruence.proofs.Theorem.{rows-decide}
 use Rattle.format.specs.Book.{Presentation, BookReading, readBook}
 use Rattle.presentation.specs.Loading.{loadBook}
-use Rattle.given.specs.declared.Given.the-variants as Words
+use Rattle.given.specs.declared.Given.the-variants as Givens
 use Rattle.given.specs.Given.{pairOf}
 use Rattle.comparison.specs.Comparing.{answerOf, comparisonOf}
 use Rattle.answers.specs.Answers.{Answer, accepted, same, different, refused}
@@ -102,7 +102,7 @@ spent-back n (Rows.CompareAnswer.spent m) e = let f : m ≡ n = cc in rw f
 
 -- an accepted book and two words that are fine
 compare-words : (book : List ℕ) (u v : Word) (allowance : ℕ) (p : Presentation) → loadBook book ≡ BookReading.read p
-    → pairOf (p .letters) u v ≡ Words.Fine → compareOf book u v allowance ≡ inWords (compareUnder (wordsOf (p .relations)) (familyOf (p .relations)) allowance u v)
+    → pairOf (p .letters) u v ≡ Givens.Fine → compareOf book u v allowance ≡ inWords (compareUnder (wordsOf (p .relations)) (familyOf (p .relations)) allowance u v)
 unfolding compareOf comparisonOf answerOf inWords
 compare-words book u v allowance p e f = go (compareUnder (wordsOf (p .relations)) (familyOf (p .relations)) allowance u v) refl
   where

@@ -11,8 +11,8 @@ use Rattle.answers.specs.declared.Round.{Round}
 use Rattle.answers.specs.declared.Round.the-variants as Rounds
 use Rattle.answers.specs.declared.Printed.{Printed}
 use Rattle.answers.specs.declared.Printed.the-variants as Prints
-use Rattle.answers.specs.declared.Least.{Least}
-use Rattle.answers.specs.declared.Least.the-variants as Leasts
+use Rattle.answers.specs.declared.WrittenWord.{WrittenWord}
+use Rattle.answers.specs.declared.WrittenWord.the-variants as WrittenWords
 
 pub data Answer : Type 0 where
   -- a book is accepted, with its number of relations (document 01: rules)
@@ -51,6 +51,6 @@ abbrev pub ofPrinted : Printed → Answer
 ofPrinted (Prints.Wrote n) = wrote n
 ofPrinted (Prints.Refused r) = refusal r
 
-abbrev pub ofLeast : Least → Answer
-ofLeast (Leasts.Wrote n) = wrote n
-ofLeast (Leasts.Refused r) = refusal r
+abbrev pub ofWrittenWord : WrittenWord → Answer
+ofWrittenWord (WrittenWords.Wrote n) = wrote n
+ofWrittenWord (WrittenWords.Refused r) = refusal r

@@ -22,10 +22,10 @@ use Rattle.least.specs.Least.{LeastWord}
 use Rattle.limits.specs.Limits.{sideMost, leastMost, sheetX, sheetY, sheetZ, sheetPieces, sheetColumns}
 use Rattle.format.specs.Book.{Presentation, BookReading, readBook}
 use Rattle.presentation.specs.Loading.{loadBook}
-use Rattle.given.specs.declared.Given.the-variants as Words
+use Rattle.given.specs.declared.Given.the-variants as Givens
 use Rattle.given.specs.Given.{oneOf, pairOf}
 use Rattle.answers.specs.Answers.{Answer, accepted, same, different, wrote, refused}
-use Rattle.answers.specs.Entries.{checkOf, SheetOutcome, sheetOf, compareOf, LeastOutcome, leastOf}
+use Rattle.answers.specs.Entries.{checkOf, SheetOutcome, sheetOf, compareOf, WordOutcome, leastOf}
 
 -- demand 2, of a book that is well formed and within the limits: it is accepted exactly when its distinct words meet C(4); else it is refused by 8 at the lowest
 -- side whose word is a product of three or fewer pieces
@@ -94,14 +94,14 @@ pub record Decides (relations : List Relation) (u v : Word) (allowance : ℕ) (a
 -- what the comparison promises of its answer: it is the definition's; and of an accepted book and two words that are fine, it decides
 pub record Compared (book : List ℕ) (u v : Word) (allowance : ℕ) (answer : Answer) : Type 0 where
   pub is : answer ≡ compareOf book u v allowance
-  pub decides : (presentation : Presentation) → loadBook book ≡ BookReading.read presentation → pairOf (presentation .letters) u v ≡ Words.Fine
+  pub decides : (presentation : Presentation) → loadBook book ≡ BookReading.read presentation → pairOf (presentation .letters) u v ≡ Givens.Fine
       → Decides (presentation .relations) u v allowance answer
 
 -- of a word w that is written into a lent buffer from an offset on: the answer is its length, the bytes from the offset on are w, and the buffer's length and
 -- all other bytes are the old ones
-pub record Placed (w : Word) (old : List ℕ) (offset : ℕ) (outcome : LeastOutcome) : Type 0 where
+pub record Placed (w : Word) (old : List ℕ) (offset : ℕ) (outcome : WordOutcome) : Type 0 where
   pub buffer : List ℕ
-  pub is : outcome ≡ LeastOutcome.after (wrote (length w)) buffer
+  pub is : outcome ≡ WordOutcome.after (wrote (length w)) buffer
   pub there : (j : ℕ) → j < length w → getD buffer (offset + j) 0 ≡ getD w j 0
   pub kept : length buffer ≡ length old
   pub before : (j : ℕ) → j < offset → getD buffer j 0 ≡ getD old j 0
@@ -109,24 +109,24 @@ pub record Placed (w : Word) (old : List ℕ) (offset : ℕ) (outcome : LeastOut
 
 -- the least equal run, of a word u under relation words B: the least word that is congruent to u, of which there is one and only one, is in the buffer from the offset on, exactly when
 -- there is room for it; else 14 and the old buffer
-pub record WritesLeast (B : List Word) (u : Word) (old : List ℕ) (offset : ℕ) (outcome : LeastOutcome) : Type 0 where
+pub record WritesLeast (B : List Word) (u : Word) (old : List ℕ) (offset : ℕ) (outcome : WordOutcome) : Type 0 where
   pub word : Word
   pub least : LeastWord B houseRank u word
   pub only : (w : Word) → LeastWord B houseRank u w → w ≡ word
   pub roomy : offset + length word ≤ length old → Placed word old offset outcome
-  pub narrow : length old < offset + length word → outcome ≡ LeastOutcome.after (refused 14 0) old
+  pub narrow : length old < offset + length word → outcome ≡ WordOutcome.after (refused 14 0) old
   pub short : length word ≤ leastMost
 
 -- what the least word promises of its outcome: it is the definition's; and of an accepted book and a word that is fine, the least word is written
-pub record LeastAnswered (book : List ℕ) (u : Word) (old : List ℕ) (offset : ℕ) (outcome : LeastOutcome) : Type 0 where
+pub record LeastAnswered (book : List ℕ) (u : Word) (old : List ℕ) (offset : ℕ) (outcome : WordOutcome) : Type 0 where
   pub is : outcome ≡ leastOf book u old offset
-  pub writes : (presentation : Presentation) → loadBook book ≡ BookReading.read presentation → oneOf (presentation .letters) u ≡ Words.Fine
+  pub writes : (presentation : Presentation) → loadBook book ≡ BookReading.read presentation → oneOf (presentation .letters) u ≡ Givens.Fine
       → WritesLeast (relationWords (presentation .relations)) u old offset outcome
 
 -- of every accepted book and every word that is fine
 abbrev pub LeastWritten : Type 0
 LeastWritten = (book : List ℕ) (u : Word) (old : List ℕ) (offset : ℕ) (presentation : Presentation) → loadBook book ≡ BookReading.read presentation
-    → oneOf (presentation .letters) u ≡ Words.Fine → WritesLeast (relationWords (presentation .relations)) u old offset (leastOf book u old offset)
+    → oneOf (presentation .letters) u ≡ Givens.Fine → WritesLeast (relationWords (presentation .relations)) u old offset (leastOf book u old offset)
 
 -- the bytes that a call which answers with a length has written: so many, from its offset on
 abbrev pub writtenBytes : ℕ → ℕ → List ℕ → Word
@@ -135,8 +135,8 @@ writtenBytes n offset buffer = take n (drop offset buffer)
 -- of an accepted book and two words that are fine, of which each least word found room: a comparison that is allowed the rounds that it can need says 'same'
 -- exactly when what was written for the one word is what was written for the other
 abbrev pub LeastDecides : Type 0
-LeastDecides = (book : List ℕ) (u v : Word) (presentation : Presentation) → loadBook book ≡ BookReading.read presentation → pairOf (presentation .letters) u v ≡ Words.Fine
-    → (old : List ℕ) (offset m : ℕ) (buffer : List ℕ) → leastOf book u old offset ≡ LeastOutcome.after (wrote m) buffer
-    → (old′ : List ℕ) (offset′ m′ : ℕ) (buffer′ : List ℕ) → leastOf book v old′ offset′ ≡ LeastOutcome.after (wrote m′) buffer′
+LeastDecides = (book : List ℕ) (u v : Word) (presentation : Presentation) → loadBook book ≡ BookReading.read presentation → pairOf (presentation .letters) u v ≡ Givens.Fine
+    → (old : List ℕ) (offset m : ℕ) (buffer : List ℕ) → leastOf book u old offset ≡ WordOutcome.after (wrote m) buffer
+    → (old′ : List ℕ) (offset′ m′ : ℕ) (buffer′ : List ℕ) → leastOf book v old′ offset′ ≡ WordOutcome.after (wrote m′) buffer′
     → (allowance : ℕ) → (longestSuffixPiece (wordsOf (presentation .relations)) + 1) * length u ≤ allowance
     → ((rounds : ℕ) × (compareOf book u v allowance ≡ same rounds)) ↔ (writtenBytes m offset buffer ≡ writtenBytes m′ offset′ buffer′)

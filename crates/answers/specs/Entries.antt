@@ -16,7 +16,7 @@ use Rattle.limits.specs.Limits.{nextRoom, markMost, sheetColumns}
 use Rattle.format.specs.Book.{Presentation, BookReading}
 use Rattle.presentation.specs.Loading.{loadBook}
 use Rattle.given.specs.declared.Given.{Given}
-use Rattle.given.specs.declared.Given.the-variants as Words
+use Rattle.given.specs.declared.Given.the-variants as Givens
 use Rattle.given.specs.Given.{onGiven, oneOf, tripleOf}
 use Rattle.sheet.specs.Sheet.{cutSheet}
 use Rattle.comparison.specs.Comparing.{comparisonOf}
@@ -53,13 +53,13 @@ pub data RoundOutcome : Type 0 where
 -- 12 of the three buffers, by their lengths, lowest first
 unfoldable pub roomOf : ℕ → ℕ → ℕ → Given
 roomOf roomU roomV roomP =
-    cond (ltb roomU nextRoom) (Words.Refused (Narrow 0))
-    (cond (ltb roomV nextRoom) (Words.Refused (Narrow 1))
-    (cond (ltb roomP markMost) (Words.Refused (Narrow 2)) Words.Fine))
+    cond (ltb roomU nextRoom) (Givens.Refused (Narrow 0))
+    (cond (ltb roomV nextRoom) (Givens.Refused (Narrow 1))
+    (cond (ltb roomP markMost) (Givens.Refused (Narrow 2)) Givens.Fine))
 
 -- what is given to a round: 9 and 10 of u, v and p in turn, then 12
 unfoldable pub askedOf : ℕ → Word → Word → Word → ℕ → ℕ → ℕ → Given
-askedOf letters u v p roomU roomV roomP = onGiven (tripleOf letters u v p) Words.Refused (roomOf roomU roomV roomP)
+askedOf letters u v p roomU roomV roomP = onGiven (tripleOf letters u v p) Givens.Refused (roomOf roomU roomV roomP)
 
 -- an end writes nothing; else the next u, v and p stand at the starts of the buffers
 abbrev pub writing : Next → List ℕ → List ℕ → List ℕ → RoundOutcome
@@ -84,32 +84,32 @@ compareOf book u v allowance =
     onLoaded (loadBook book) refusal (λ presentation. ofComparison (comparisonOf (presentation .letters) (wordsOf (presentation .relations)) (familyOf (presentation .relations)) u v allowance))
 
 -- the outcome of a least word: an answer, and the lent buffer after it
-pub data LeastOutcome : Type 0 where
-  after : Answer → List ℕ → LeastOutcome
+pub data WordOutcome : Type 0 where
+  after : Answer → List ℕ → WordOutcome
 
 -- 14: the offset lies past the end of a buffer, or a word is longer than what follows the offset; by the lengths of the buffer and of the word
 unfoldable pub lacksSpace : ℕ → ℕ → ℕ → Bool
 lacksSpace room offset long = ltb room offset || ltb (room - offset) long
 
 -- a word in a buffer from an offset on; the bytes before it and behind it are kept
-unfoldable pub placedAt : ℕ → Word → List ℕ → LeastOutcome
+unfoldable pub placedAt : ℕ → Word → List ℕ → WordOutcome
 placedAt offset w buffer =
-    cond (lacksSpace (length buffer) offset (length w)) (LeastOutcome.after (refusal NoSpace) buffer)
-    (LeastOutcome.after (wrote (length w)) (take offset buffer ++ over w (drop offset buffer)))
+    cond (lacksSpace (length buffer) offset (length w)) (WordOutcome.after (refusal NoSpace) buffer)
+    (WordOutcome.after (wrote (length w)) (take offset buffer ++ over w (drop offset buffer)))
 
 -- the same of what the rounds find; 19 where there is no such word
-abbrev pub foundAt : ℕ → Found → List ℕ → LeastOutcome
+abbrev pub foundAt : ℕ → Found → List ℕ → WordOutcome
 foundAt offset (found w) buffer = placedAt offset w buffer
-foundAt offset absent buffer = LeastOutcome.after (refusal NoPrefix) buffer
+foundAt offset absent buffer = WordOutcome.after (refusal NoPrefix) buffer
 
 -- the least word under relation words B in families, of so many letters
-unfoldable pub loadedLeast : ℕ → List Word → (ℕ → ℕ) → Word → List ℕ → ℕ → LeastOutcome
-loadedLeast letters B family u buffer offset = onGiven (oneOf letters u) (λ r. LeastOutcome.after (refusal r) buffer) (placedAt offset (leastFor B family u) buffer)
+unfoldable pub loadedLeast : ℕ → List Word → (ℕ → ℕ) → Word → List ℕ → ℕ → WordOutcome
+loadedLeast letters B family u buffer offset = onGiven (oneOf letters u) (λ r. WordOutcome.after (refusal r) buffer) (placedAt offset (leastFor B family u) buffer)
 
 -- the least word
-unfoldable pub leastOf : List ℕ → Word → List ℕ → ℕ → LeastOutcome
+unfoldable pub leastOf : List ℕ → Word → List ℕ → ℕ → WordOutcome
 leastOf book u buffer offset =
-    onLoaded (loadBook book) (λ r. LeastOutcome.after (refusal r) buffer) (λ presentation.
+    onLoaded (loadBook book) (λ r. WordOutcome.after (refusal r) buffer) (λ presentation.
     loadedLeast (presentation .letters) (wordsOf (presentation .relations)) (familyOf (presentation .relations)) u buffer offset)
 
 -- the outcome of the program: an answer, and the lent buffer after it

@@ -22,7 +22,7 @@ pub enum Printed {
 }
 
 // The least congruent word, or the least word behind a prefix, is written, with its length, or its call is refused.
-pub enum Least {
+pub enum WrittenWord {
     Wrote(usize),
     Refused(Refusal),
 }

@@ -3,9 +3,9 @@
 ghost use Rattle.fields.specs.Places.{Filled};
 ghost use Rattle.calls.specs.Places.{Lent};
 use comparison::Comparison;
-use entries::Least;
 use entries::Round;
 use entries::Verdict;
+use entries::WrittenWord;
 use format::Reading;
 use layout::Table;
 use layout::Text;
@@ -97,7 +97,7 @@ fn place_least(line: &[u8], book: &[u8], u: &[u8]) {
 }
 
 // The least word in the first bytes of a buffer.
-fn lend_least(book: &[u8], u: &[u8], buffer: &mut [u8], n: usize, offset: usize) -> Least
+fn lend_least(book: &[u8], u: &[u8], buffer: &mut [u8], n: usize, offset: usize) -> WrittenWord
     requires { ⌜ Filled n (now buffer) ⌝ }
 {
     entries::least_word(book, u, &mut buffer[..n], offset)
@@ -122,17 +122,24 @@ fn place_behind(line: &[u8], book: &[u8], u: &[u8], p: &[u8]) {
 }
 
 // The least word behind a prefix in the first bytes of a buffer.
-fn lend_behind(book: &[u8], u: &[u8], p: &[u8], buffer: &mut [u8], n: usize, offset: usize) -> Least
+fn lend_behind(
+    book: &[u8],
+    u: &[u8],
+    p: &[u8],
+    buffer: &mut [u8],
+    n: usize,
+    offset: usize,
+) -> WrittenWord
     requires { ⌜ Filled n (now buffer) ⌝ }
 {
     removing::remove_prefix(book, u, p, &mut buffer[..n], offset)
 }
 
 // A word that was to be placed by a call of this name, with the buffer after it.
-fn print_placed(name: &[u8], least: Least, buffer: &[u8], offset: usize) {
+fn print_placed(name: &[u8], least: WrittenWord, buffer: &[u8], offset: usize) {
     match least {
-        Least::Wrote(letters) => printing::print_placed(name, buffer, offset, letters),
-        Least::Refused(refusal) => {
+        WrittenWord::Wrote(letters) => printing::print_placed(name, buffer, offset, letters),
+        WrittenWord::Refused(refusal) => {
             printing::print_touched(buffer, 0);
             printing::print_refusal(refusal);
         }

@@ -17,7 +17,7 @@ use Rattle.layout.specs.Families.{familyBy}
 use Rattle.refusals.specs.declared.Refusal.{Refusal}
 use Rattle.refusals.specs.declared.Refusal.the-variants.{Spent}
 use Rattle.given.specs.declared.Given.{Given}
-use Rattle.given.specs.declared.Given.the-variants as Words
+use Rattle.given.specs.declared.Given.the-variants as Givens
 use Rattle.given.specs.Given.{givenOf, pairOf, Widened}
 use Rattle.given.proofs.Laws.{fine-short, fine-both}
 use Rattle.limits.specs.Limits.{comparedMost}
@@ -151,15 +151,15 @@ pub ruleset widenings = (widened-fitting, widened-answer, needs)
 
 -- given words
 module _ (text table : List ℕ) (n letters : ℕ) (u v : Word) (allowance : ℕ) (g : Given) (e : g ≡ pairOf letters u v) where
-  pub given-refused : (r : Refusal) → g ≡ Words.Refused r → Refused r ≡ comparisonOf letters (wordsIn text table n) (familyBy table n) u v allowance
+  pub given-refused : (r : Refusal) → g ≡ Givens.Refused r → Refused r ≡ comparisonOf letters (wordsIn text table n) (familyBy table n) u v allowance
   unfolding comparisonOf
   given-refused r f = rw (← e, f)
 
-  pub given-compared : (x : Comparison) → g ≡ Words.Fine → x ≡ answerOf (wordsIn text table n) (familyBy table n) u v allowance → x ≡ comparisonOf letters (wordsIn text table n) (familyBy table n) u v allowance
+  pub given-compared : (x : Comparison) → g ≡ Givens.Fine → x ≡ answerOf (wordsIn text table n) (familyBy table n) u v allowance → x ≡ comparisonOf letters (wordsIn text table n) (familyBy table n) u v allowance
   unfolding comparisonOf
   given-compared x f h = rw (← e, f) h
 
-pub given-widenable : (text table : List ℕ) (n letters : ℕ) (u v : Word) (a c : List ℕ) (g : Given) → ReadyToWiden text table n u v a c → g ≡ pairOf letters u v → g ≡ Words.Fine
+pub given-widenable : (text table : List ℕ) (n letters : ℕ) (u v : Word) (a c : List ℕ) (g : Given) → ReadyToWiden text table n u v a c → g ≡ pairOf letters u v → g ≡ Givens.Fine
     → Widenable text table n u v a c
 unfolding pairOf
 given-widenable text table n letters u v a c g r e f =

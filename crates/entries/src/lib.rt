@@ -2,13 +2,13 @@
 // refusals in document 01's order and lent buffers included: as an equality, or, of `compare` and `least_word`, as the field `is` of a record that holds beside it
 // what is owed in words (`Compared`, `LeastAnswered`). The demands are spelled out in crate answers, specs/Demands.antt.
 ghost use mathlib.Core.Path.{_≡_};
-ghost use Rattle.answers.specs.Answers.{ofVerdict, ofRound, ofComparison, ofPrinted, ofLeast};
-ghost use Rattle.answers.specs.Entries.{checkOf, SheetOutcome as Sheets, sheetOf, RoundOutcome as Rounds, roundOf, LeastOutcome as Leasts, OutputOutcome as Outputs, outputOf};
+ghost use Rattle.answers.specs.Answers.{ofVerdict, ofRound, ofComparison, ofPrinted, ofWrittenWord};
+ghost use Rattle.answers.specs.Entries.{checkOf, SheetOutcome, sheetOf, RoundOutcome, roundOf, WordOutcome, OutputOutcome, outputOf};
 ghost use Rattle.answers.specs.Demands.{Compared, LeastAnswered};
-pub use answers::Least;
 pub use answers::Printed;
 pub use answers::Round;
 pub use answers::Verdict;
+pub use answers::WrittenWord;
 use comparison::Comparison;
 use format::Reading;
 use layout::Table;
@@ -34,7 +34,7 @@ pub fn check_book(book: &[u8]) -> Verdict
 
 // Writes the cut sheet of a book at the start of a lent buffer.
 pub fn cut_sheet(book: &[u8], sheet: &mut [u8]) -> Verdict
-    ensures { λ r. ⌜ Sheets.after (ofVerdict r) (now (sheet .exit)) ≡ sheetOf (now (book .entry)) (now (sheet .entry)) ⌝ }
+    ensures { λ r. ⌜ SheetOutcome.after (ofVerdict r) (now (sheet .exit)) ≡ sheetOf (now (book .entry)) (now (sheet .entry)) ⌝ }
 {
     let mut text = [0u16; Text::ROOM];
     let mut table = [0u16; Table::ROOM];
@@ -76,7 +76,7 @@ pub fn single_round(
     nv: &mut [u8],
     np: &mut [u8],
 ) -> Round
-    ensures { λ r. ⌜ Rounds.after (ofRound r) (now (nu .exit)) (now (nv .exit)) (now (np .exit)) ≡ roundOf (now (book .entry)) (now (u .entry)) (now (v .entry)) (now (p .entry)) (now (nu .entry)) (now (nv .entry)) (now (np .entry)) ⌝ }
+    ensures { λ r. ⌜ RoundOutcome.after (ofRound r) (now (nu .exit)) (now (nv .exit)) (now (np .exit)) ≡ roundOf (now (book .entry)) (now (u .entry)) (now (v .entry)) (now (p .entry)) (now (nu .entry)) (now (nv .entry)) (now (np .entry)) ⌝ }
 {
     let mut text = [0u16; Text::ROOM];
     let mut table = [0u16; Table::ROOM];
@@ -99,8 +99,8 @@ pub fn single_round(
 }
 
 // Writes the least word that is congruent to u into the part of a lent buffer from an offset on.
-pub fn least_word(book: &[u8], u: &[u8], buffer: &mut [u8], offset: usize) -> Least
-    ensures { λ r. ⌜ LeastAnswered (now (book .entry)) (now (u .entry)) (now (buffer .entry)) offset (Leasts.after (ofLeast r) (now (buffer .exit))) ⌝ }
+pub fn least_word(book: &[u8], u: &[u8], buffer: &mut [u8], offset: usize) -> WrittenWord
+    ensures { λ r. ⌜ LeastAnswered (now (book .entry)) (now (u .entry)) (now (buffer .entry)) offset (WordOutcome.after (ofWrittenWord r) (now (buffer .exit))) ⌝ }
 {
     let mut text = [0u16; Text::ROOM];
     let mut table = [0u16; Table::ROOM];
@@ -115,13 +115,13 @@ pub fn least_word(book: &[u8], u: &[u8], buffer: &mut [u8], offset: usize) -> Le
             buffer,
             offset,
         ),
-        Reading::Refused(refusal) => Least::Refused(refusal),
+        Reading::Refused(refusal) => WrittenWord::Refused(refusal),
     }
 }
 
 // Writes what the program of document 01 prints for an input at the start of a lent buffer, which must have room for the longest output of all.
 pub fn print_program(input: &[u8], out: &mut [u8]) -> Printed
-    ensures { λ r. ⌜ Outputs.after (ofPrinted r) (now (out .exit)) ≡ outputOf (now (input .entry)) (now (out .entry)) ⌝ }
+    ensures { λ r. ⌜ OutputOutcome.after (ofPrinted r) (now (out .exit)) ≡ outputOf (now (input .entry)) (now (out .entry)) ⌝ }
 {
     if out.len() < Output::MOST {
         return Printed::Refused(Refusal::Narrow(0));

@@ -4,8 +4,8 @@
 ghost use mathlib.Core.Path.{_≡_};
 ghost use Rattle.answers.specs.Answers.{ofVerdict};
 ghost use Rattle.held.specs.Held.{bookIn, bookStart, changesTold};
-ghost use Rattle.held.specs.Changes.{LoadOutcome as Loads, loadOf, addition, withdrawal, ChangeOutcome as Changes, changeOf};
-ghost use Rattle.held.specs.Tickets.{ProposalOutcome as Proposals, proposeOf, postOf};
+ghost use Rattle.held.specs.Changes.{LoadOutcome, loadOf, addition, withdrawal, ChangeOutcome, changeOf};
+ghost use Rattle.held.specs.Tickets.{ProposalOutcome, proposeOf, postOf};
 use answers::Verdict;
 use entries::check_book;
 use held::Asked;
@@ -17,7 +17,7 @@ use settling::change_held;
 
 // Loads a book into the lent buffer of a held book.
 pub fn load_held(book: &[u8], held: &mut [u8]) -> Verdict
-    ensures { λ r. ⌜ Loads.after (ofVerdict r) (now (held .exit)) ≡ loadOf (now (book .entry)) (now (held .entry)) ⌝ }
+    ensures { λ r. ⌜ LoadOutcome.after (ofVerdict r) (now (held .exit)) ≡ loadOf (now (book .entry)) (now (held .entry)) ⌝ }
 {
     let checked = check_book(book);
     let Verdict::Accepted(_) = checked else {
@@ -53,35 +53,35 @@ pub fn changes_of(held: &[u8]) -> usize
 
 // Adds a relation, given as one record, at the end of a held book, and writes the new sheet.
 pub fn add_relation(held: &mut [u8], bytes: &[u8], sheet: &mut [u8]) -> Verdict
-    ensures { λ r. ⌜ Changes.after (ofVerdict r) (now (held .exit)) (now (sheet .exit)) ≡ changeOf (addition (now (bytes .entry))) (now (held .entry)) (now (sheet .entry)) ⌝ }
+    ensures { λ r. ⌜ ChangeOutcome.after (ofVerdict r) (now (held .exit)) (now (sheet .exit)) ≡ changeOf (addition (now (bytes .entry))) (now (held .entry)) (now (sheet .entry)) ⌝ }
 {
     change_held(Asked::Addition, held, bytes, sheet)
 }
 
 // Withdraws the relation of an index from a held book, and writes the new sheet.
 pub fn withdraw_relation(held: &mut [u8], i: usize, sheet: &mut [u8]) -> Verdict
-    ensures { λ r. ⌜ Changes.after (ofVerdict r) (now (held .exit)) (now (sheet .exit)) ≡ changeOf (withdrawal i) (now (held .entry)) (now (sheet .entry)) ⌝ }
+    ensures { λ r. ⌜ ChangeOutcome.after (ofVerdict r) (now (held .exit)) (now (sheet .exit)) ≡ changeOf (withdrawal i) (now (held .entry)) (now (sheet .entry)) ⌝ }
 {
     change_held(Asked::Withdrawal(i), held, b"", sheet)
 }
 
 // Proposes the addition of a relation: writes the sheet that it would lead to, and a ticket for it. The held book is only read.
 pub fn propose_addition(held: &[u8], bytes: &[u8], sheet: &mut [u8], ticket: &mut [u8]) -> Verdict
-    ensures { λ r. ⌜ Proposals.after (ofVerdict r) (now (sheet .exit)) (now (ticket .exit)) ≡ proposeOf (addition (now (bytes .entry))) (now (held .entry)) (now (sheet .entry)) (now (ticket .entry)) ⌝ }
+    ensures { λ r. ⌜ ProposalOutcome.after (ofVerdict r) (now (sheet .exit)) (now (ticket .exit)) ≡ proposeOf (addition (now (bytes .entry))) (now (held .entry)) (now (sheet .entry)) (now (ticket .entry)) ⌝ }
 {
     propose_change(Asked::Addition, held, bytes, sheet, ticket)
 }
 
 // Proposes the withdrawal of the relation of an index, likewise.
 pub fn propose_withdrawal(held: &[u8], i: usize, sheet: &mut [u8], ticket: &mut [u8]) -> Verdict
-    ensures { λ r. ⌜ Proposals.after (ofVerdict r) (now (sheet .exit)) (now (ticket .exit)) ≡ proposeOf (withdrawal i) (now (held .entry)) (now (sheet .entry)) (now (ticket .entry)) ⌝ }
+    ensures { λ r. ⌜ ProposalOutcome.after (ofVerdict r) (now (sheet .exit)) (now (ticket .exit)) ≡ proposeOf (withdrawal i) (now (held .entry)) (now (sheet .entry)) (now (ticket .entry)) ⌝ }
 {
     propose_change(Asked::Withdrawal(i), held, b"", sheet, ticket)
 }
 
 // Posts a ticket: makes its change, and writes the new sheet.
 pub fn post_ticket(held: &mut [u8], ticket: &[u8], sheet: &mut [u8]) -> Verdict
-    ensures { λ r. ⌜ Changes.after (ofVerdict r) (now (held .exit)) (now (sheet .exit)) ≡ postOf (now (ticket .entry)) (now (held .entry)) (now (sheet .entry)) ⌝ }
+    ensures { λ r. ⌜ ChangeOutcome.after (ofVerdict r) (now (held .exit)) (now (sheet .exit)) ≡ postOf (now (ticket .entry)) (now (held .entry)) (now (sheet .entry)) ⌝ }
 {
     let changes = holding::changes_of(held);
     if tickets::count_of(ticket) != changes {

@@ -4,7 +4,7 @@ ghost use Rattle.layout.specs.Layout.{wordsIn};
 ghost use Rattle.layout.specs.Families.{familyBy};
 ghost use Rattle.moves.specs.State.{Ready};
 ghost use Rattle.answers.specs.Answers.{ofVerdict, ofRound};
-ghost use Rattle.answers.specs.Entries.{SheetOutcome as Sheets, RoundOutcome as Rounds, loadedRound, roomOf, askedOf};
+ghost use Rattle.answers.specs.Entries.{SheetOutcome, RoundOutcome, loadedRound, roomOf, askedOf};
 ghost use Rattle.answers.specs.Parts.{SheetReady, acceptedSheet, answeredRound};
 use answers::Round;
 use answers::Verdict;
@@ -17,7 +17,7 @@ use rounds::RoundLengths;
 // The sheet of an accepted book, by its table: 12 where the buffer is too small.
 pub fn accepted_sheet(table: &[u16], relations: usize, sheet: &mut [u8]) -> Verdict
     requires { ⌜ SheetReady (now table) relations ⌝ }
-    ensures { λ r. ⌜ Sheets.after (ofVerdict r) (now (sheet .exit)) ≡ acceptedSheet (now (table .entry)) relations (now (sheet .entry)) ⌝ }
+    ensures { λ r. ⌜ SheetOutcome.after (ofVerdict r) (now (sheet .exit)) ≡ acceptedSheet (now (table .entry)) relations (now (sheet .entry)) ⌝ }
 {
     if sheet.len() < Sheet::COLUMNS * (2 * relations) {
         return Verdict::Refused(Refusal::Narrow(0));
@@ -85,7 +85,7 @@ pub fn loaded_round(
     np: &mut [u8],
 ) -> Round
     requires { ⌜ Ready (now text) (now table) n ⌝ }
-    ensures { λ r. ⌜ Rounds.after (ofRound r) (now (nu .exit)) (now (nv .exit)) (now (np .exit)) ≡ loadedRound letters (wordsIn (now (text .entry)) (now (table .entry)) n) (familyBy (now (table .entry)) n) (now (u .entry)) (now (v .entry)) (now (p .entry)) (now (nu .entry)) (now (nv .entry)) (now (np .entry)) ⌝ }
+    ensures { λ r. ⌜ RoundOutcome.after (ofRound r) (now (nu .exit)) (now (nv .exit)) (now (np .exit)) ≡ loadedRound letters (wordsIn (now (text .entry)) (now (table .entry)) n) (familyBy (now (table .entry)) n) (now (u .entry)) (now (v .entry)) (now (p .entry)) (now (nu .entry)) (now (nv .entry)) (now (np .entry)) ⌝ }
 {
     let asked = check_asked(letters, u, v, p, nu.len(), nv.len(), np.len());
     match asked {

@@ -5,10 +5,10 @@ ghost use Rattle.layout.specs.Layout.{wordsIn};
 ghost use Rattle.layout.specs.Families.{familyBy};
 ghost use Rattle.moves.specs.State.{placedMark};
 ghost use Rattle.leastword.specs.Writing.{leastFrom, Asked};
-ghost use Rattle.answers.specs.Answers.{ofLeast};
-ghost use Rattle.answers.specs.Entries.{LeastOutcome as Leasts, lacksSpace, foundAt, loadedLeast};
+ghost use Rattle.answers.specs.Answers.{ofWrittenWord};
+ghost use Rattle.answers.specs.Entries.{WordOutcome, lacksSpace, foundAt, loadedLeast};
 ghost use Rattle.answers.specs.Parts.{LeastLoaded, LeastCounted, LeastWidenable};
-use answers::Least;
+use answers::WrittenWord;
 use given::Given;
 use given::widen_word;
 use leastword::Counted;
@@ -38,15 +38,15 @@ fn place_counted(
     letters: usize,
     buffer: &mut [u8],
     offset: usize,
-) -> Least
+) -> WrittenWord
     requires { ⌜ LeastCounted (now text) (now table) n (now u) piece letters ⌝ }
-    ensures { λ r. ⌜ Leasts.after (ofLeast r) (now (buffer .exit)) ≡ foundAt offset (leastFrom (wordsIn (now (text .entry)) (now (table .entry)) n) (familyBy (now (table .entry)) n) (placedMark (now (text .entry)) piece) (now (u .entry))) (now (buffer .entry)) ⌝ }
+    ensures { λ r. ⌜ WordOutcome.after (ofWrittenWord r) (now (buffer .exit)) ≡ foundAt offset (leastFrom (wordsIn (now (text .entry)) (now (table .entry)) n) (familyBy (now (table .entry)) n) (placedMark (now (text .entry)) piece) (now (u .entry))) (now (buffer .entry)) ⌝ }
 {
     if lacks_space(buffer.len(), offset, letters) {
-        return Least::Refused(Refusal::NoSpace);
+        return WrittenWord::Refused(Refusal::NoSpace);
     }
     write_least(text, table, n, u, piece, &mut buffer[offset..]);
-    Least::Wrote(letters)
+    WrittenWord::Wrote(letters)
 }
 
 // The least word behind a piece, of a word that is fine. A counting pass tells before a byte is written whether there is one, and whether it has space.
@@ -58,13 +58,13 @@ fn place_least(
     piece: Mark,
     buffer: &mut [u8],
     offset: usize,
-) -> Least
+) -> WrittenWord
     requires { ⌜ Asked (now text) (now table) n (now u) piece ⌝ }
-    ensures { λ r. ⌜ Leasts.after (ofLeast r) (now (buffer .exit)) ≡ foundAt offset (leastFrom (wordsIn (now (text .entry)) (now (table .entry)) n) (familyBy (now (table .entry)) n) (placedMark (now (text .entry)) piece) (now (u .entry))) (now (buffer .entry)) ⌝ }
+    ensures { λ r. ⌜ WordOutcome.after (ofWrittenWord r) (now (buffer .exit)) ≡ foundAt offset (leastFrom (wordsIn (now (text .entry)) (now (table .entry)) n) (familyBy (now (table .entry)) n) (placedMark (now (text .entry)) piece) (now (u .entry))) (now (buffer .entry)) ⌝ }
 {
     let counted = count_least(text, table, n, u, piece);
     let Counted::Letters(letters) = counted else {
-        return Least::Refused(Refusal::NoPrefix);
+        return WrittenWord::Refused(Refusal::NoPrefix);
     };
     place_counted(text, table, n, u, piece, letters, buffer, offset)
 }
@@ -79,9 +79,9 @@ fn place_bytes(
     wide: &mut [u16],
     buffer: &mut [u8],
     offset: usize,
-) -> Least
+) -> WrittenWord
     requires { ⌜ LeastWidenable (now text) (now table) n (now u) piece (now wide) ⌝ }
-    ensures { λ r. ⌜ Leasts.after (ofLeast r) (now (buffer .exit)) ≡ foundAt offset (leastFrom (wordsIn (now (text .entry)) (now (table .entry)) n) (familyBy (now (table .entry)) n) (placedMark (now (text .entry)) piece) (now (u .entry))) (now (buffer .entry)) ⌝ }
+    ensures { λ r. ⌜ WordOutcome.after (ofWrittenWord r) (now (buffer .exit)) ≡ foundAt offset (leastFrom (wordsIn (now (text .entry)) (now (table .entry)) n) (familyBy (now (table .entry)) n) (placedMark (now (text .entry)) piece) (now (u .entry))) (now (buffer .entry)) ⌝ }
 {
     widen_word(u, wide);
     place_least(text, table, n, &wide[..u.len()], piece, buffer, offset)
@@ -96,9 +96,9 @@ fn place_long(
     piece: Mark,
     buffer: &mut [u8],
     offset: usize,
-) -> Least
+) -> WrittenWord
     requires { ⌜ Asked (now text) (now table) n (now u) piece ⌝ }
-    ensures { λ r. ⌜ Leasts.after (ofLeast r) (now (buffer .exit)) ≡ foundAt offset (leastFrom (wordsIn (now (text .entry)) (now (table .entry)) n) (familyBy (now (table .entry)) n) (placedMark (now (text .entry)) piece) (now (u .entry))) (now (buffer .entry)) ⌝ }
+    ensures { λ r. ⌜ WordOutcome.after (ofWrittenWord r) (now (buffer .exit)) ≡ foundAt offset (leastFrom (wordsIn (now (text .entry)) (now (table .entry)) n) (familyBy (now (table .entry)) n) (placedMark (now (text .entry)) piece) (now (u .entry))) (now (buffer .entry)) ⌝ }
 {
     let mut wide = [0u16; Word::COMPARED];
     place_bytes(text, table, n, u, piece, &mut wide, buffer, offset)
@@ -113,9 +113,9 @@ pub fn place_word(
     piece: Mark,
     buffer: &mut [u8],
     offset: usize,
-) -> Least
+) -> WrittenWord
     requires { ⌜ Asked (now text) (now table) n (now u) piece ⌝ }
-    ensures { λ r. ⌜ Leasts.after (ofLeast r) (now (buffer .exit)) ≡ foundAt offset (leastFrom (wordsIn (now (text .entry)) (now (table .entry)) n) (familyBy (now (table .entry)) n) (placedMark (now (text .entry)) piece) (now (u .entry))) (now (buffer .entry)) ⌝ }
+    ensures { λ r. ⌜ WordOutcome.after (ofWrittenWord r) (now (buffer .exit)) ≡ foundAt offset (leastFrom (wordsIn (now (text .entry)) (now (table .entry)) n) (familyBy (now (table .entry)) n) (placedMark (now (text .entry)) piece) (now (u .entry))) (now (buffer .entry)) ⌝ }
 {
     if given::SHORT < u.len() {
         return place_long(text, table, n, u, piece, buffer, offset);
@@ -133,13 +133,13 @@ pub fn loaded_least(
     u: &[u8],
     buffer: &mut [u8],
     offset: usize,
-) -> Least
+) -> WrittenWord
     requires { ⌜ LeastLoaded (now text) (now table) n letters ⌝ }
-    ensures { λ r. ⌜ Leasts.after (ofLeast r) (now (buffer .exit)) ≡ loadedLeast letters (wordsIn (now (text .entry)) (now (table .entry)) n) (familyBy (now (table .entry)) n) (now (u .entry)) (now (buffer .entry)) offset ⌝ }
+    ensures { λ r. ⌜ WordOutcome.after (ofWrittenWord r) (now (buffer .exit)) ≡ loadedLeast letters (wordsIn (now (text .entry)) (now (table .entry)) n) (familyBy (now (table .entry)) n) (now (u .entry)) (now (buffer .entry)) offset ⌝ }
 {
     let given = given::check_one(letters, u);
     match given {
-        Given::Refused(refusal) => Least::Refused(refusal),
+        Given::Refused(refusal) => WrittenWord::Refused(refusal),
         Given::Fine => place_word(text, table, n, u, Mark { at: 0, to: 0 }, buffer, offset),
     }
 }

@@ -8,7 +8,7 @@ ghost use Rattle.refusals.specs.declared.Refusal.the-variants.{Narrow};
 ghost use Rattle.answers.specs.Answers.{ofVerdict};
 ghost use Rattle.held.specs.Changes.{settled, lastly};
 ghost use Rattle.held.specs.Asked.{changeAsked};
-ghost use Rattle.held.specs.Tickets.{ProposalOutcome as Proposals, shown, proposeOf};
+ghost use Rattle.held.specs.Tickets.{ProposalOutcome, shown, proposeOf};
 ghost use Rattle.proposing.specs.Proposing.{Showable};
 use answers::Verdict;
 use entries::cut_sheet;
@@ -32,7 +32,7 @@ fn show(
     ticket: &mut [u8],
 ) -> Verdict
     requires { ⌜ Showable (changeAsked asked (now bytes)) (now held) ⌝ }
-    ensures { λ r. ⌜ Proposals.after (ofVerdict r) (now (sheet .exit)) (now (ticket .exit)) ≡ shown (changeAsked asked (now (bytes .entry))) (now (held .entry)) (now (sheet .entry)) (now (ticket .entry)) (lastly (ltb (length (now (ticket .entry))) ticketRoom) (Narrow ticketBuffer) (settled (length (now (sheet .entry))) (now (book .entry)))) ⌝ }
+    ensures { λ r. ⌜ ProposalOutcome.after (ofVerdict r) (now (sheet .exit)) (now (ticket .exit)) ≡ shown (changeAsked asked (now (bytes .entry))) (now (held .entry)) (now (sheet .entry)) (now (ticket .entry)) (lastly (ltb (length (now (ticket .entry))) ticketRoom) (Narrow ticketBuffer) (settled (length (now (sheet .entry))) (now (book .entry)))) ⌝ }
 {
     if ticket.len() < Ticket::ROOM {
         return refuse_last(book, sheet, Refusal::Narrow(Ticket::BUFFER));
@@ -53,7 +53,7 @@ pub fn propose_change(
     sheet: &mut [u8],
     ticket: &mut [u8],
 ) -> Verdict
-    ensures { λ r. ⌜ Proposals.after (ofVerdict r) (now (sheet .exit)) (now (ticket .exit)) ≡ proposeOf (changeAsked asked (now (bytes .entry))) (now (held .entry)) (now (sheet .entry)) (now (ticket .entry)) ⌝ }
+    ensures { λ r. ⌜ ProposalOutcome.after (ofVerdict r) (now (sheet .exit)) (now (ticket .exit)) ≡ proposeOf (changeAsked asked (now (bytes .entry))) (now (held .entry)) (now (sheet .entry)) (now (ticket .entry)) ⌝ }
 {
     let mut fresh = [0u8; Held::BOOK];
     let made = make_change(asked, held, bytes, &mut fresh);

@@ -25,13 +25,13 @@ use Rattle.limits.specs.Limits.{sideMost, comparedMost}
 use Rattle.writing.specs.Writing.{over}
 use Rattle.format.specs.Book.{Presentation, BookReading}
 use Rattle.presentation.specs.Loading.{loadBook}
-use Rattle.given.specs.declared.Given.the-variants as Words
+use Rattle.given.specs.declared.Given.the-variants as Givens
 use Rattle.given.specs.Given.{markedOf}
 use Rattle.given.proofs.Laws.{fine-short, fine-marked}
 use Rattle.leastword.specs.Writing.{leastFrom}
 use Rattle.leastword.proofs.Rounds.{longest-bound}
 use Rattle.answers.specs.Answers.{wrote, refused}
-use Rattle.answers.specs.Entries.{LeastOutcome, lacksSpace, placedAt, foundAt}
+use Rattle.answers.specs.Entries.{WordOutcome, lacksSpace, placedAt, foundAt}
 use Rattle.answers.specs.Demands.{Placed}
 use Rattle.answers.proofs.Loaded.{loaded-c4, loaded-short}
 use Rattle.answers.proofs.LeastWords.{placed-word, placed-nowhere}
@@ -39,26 +39,26 @@ use Rattle.removal.specs.Removal.{removedAt, loadedRemoval, removalOf}
 use Rattle.removal.specs.Demands.{WritesBehind, RemovesPrefix, RemovalAnswered}
 
 -- a word that is placed, or has no space, is not refused by another number than 14
-placed-number : (n offset : ℕ) (w old : List ℕ) → (n ≡ 14 → ⊥) → placedAt offset w old ≡ LeastOutcome.after (refused n 0) old → ⊥
+placed-number : (n offset : ℕ) (w old : List ℕ) → (n ≡ 14 → ⊥) → placedAt offset w old ≡ WordOutcome.after (refused n 0) old → ⊥
 unfolding placedAt
 placed-number n offset w old h e = go (lacksSpace (length old) offset (length w)) refl
   where
     go : (t : Bool) → lacksSpace (length old) offset (length w) ≡ t → ⊥
     go true q =
-        let d : LeastOutcome.after (refused 14 0) old ≡ LeastOutcome.after (refused n 0) old = rw q at e in
+        let d : WordOutcome.after (refused 14 0) old ≡ WordOutcome.after (refused n 0) old = rw q at e in
         let m : 14 ≡ n = cc in
         h (sym m)
     go false q =
-        let d : LeastOutcome.after (wrote (length w)) (take offset old ++ over w (drop offset old)) ≡ LeastOutcome.after (refused n 0) old = rw q at e in
+        let d : WordOutcome.after (wrote (length w)) (take offset old ++ over w (drop offset old)) ≡ WordOutcome.after (refused n 0) old = rw q at e in
         let z : _≡_ {A = ℕ} 0 1 = cc in
         omega arith
 
 -- what is found is never refused by 18, and by 19 only where nothing is found
-found-number : (offset : ℕ) (f : Found) (old : List ℕ) → foundAt offset f old ≡ LeastOutcome.after (refused 18 0) old → ⊥
+found-number : (offset : ℕ) (f : Found) (old : List ℕ) → foundAt offset f old ≡ WordOutcome.after (refused 18 0) old → ⊥
 found-number offset (found w) old e = placed-number 18 offset w old (λ h. omega (arith, h)) e
 found-number offset absent old e = let z : _≡_ {A = ℕ} 18 19 = cc in omega (arith, z)
 
-found-missing : (offset : ℕ) (f : Found) (old : List ℕ) → foundAt offset f old ≡ LeastOutcome.after (refused 19 0) old → f ≡ absent
+found-missing : (offset : ℕ) (f : Found) (old : List ℕ) → foundAt offset f old ≡ WordOutcome.after (refused 19 0) old → f ≡ absent
 found-missing offset (found w) old e = absurd (placed-number 19 offset w old (λ h. omega (arith, h)) e)
 found-missing offset absent old e = refl
 
@@ -68,18 +68,18 @@ module _ (B : List Word) (family : ℕ → ℕ) (u p : Word) (old : List ℕ) (o
   unfolding removedAt
   piece-removed e = rw e
 
-  pub no-piece-removed : isPiece B p ≡ false → removedAt B family u p old offset ≡ LeastOutcome.after (refused 18 0) old
+  pub no-piece-removed : isPiece B p ≡ false → removedAt B family u p old offset ≡ WordOutcome.after (refused 18 0) old
   unfolding removedAt
   no-piece-removed e = rw e
 
-  strange-iff : (removedAt B family u p old offset ≡ LeastOutcome.after (refused 18 0) old) ↔ (¬ IsPiece B p)
+  strange-iff : (removedAt B family u p old offset ≡ WordOutcome.after (refused 18 0) old) ↔ (¬ IsPiece B p)
   strange-iff = (
     λ e s. found-number offset (leastFrom B family p u) old (sym (piece-removed (isPiece-iff-piece B p .1 s)) ∙ e),
     λ s. no-piece-removed (false-of (isPiece B p) (λ e. s (isPiece-iff-piece B p .0 e))),
   )
 
   -- 19 is given of pieces alone
-  missing-piece : removedAt B family u p old offset ≡ LeastOutcome.after (refused 19 0) old → IsPiece B p
+  missing-piece : removedAt B family u p old offset ≡ WordOutcome.after (refused 19 0) old → IsPiece B p
   missing-piece e = go (isPiece B p) refl
     where
       go : (t : Bool) → isPiece B p ≡ t → IsPiece B p
@@ -89,10 +89,10 @@ module _ (B : List Word) (family : ℕ → ℕ) (u p : Word) (old : List ℕ) (o
 -- under relations whose rounds from a piece write the least word behind it
 module _ (relations : List Relation) (writes : (p u : Word) → IsPiece (wordsOf relations) p → Written (wordsOf relations) (familyOf relations) houseRank (Congruent (relationWords relations)) p u)
     (short : longestWord (wordsOf relations) ≤ sideMost) (u p : Word) (few : length u ≤ comparedMost) (old : List ℕ) (offset : ℕ) where
-  abbrev removed : LeastOutcome
+  abbrev removed : WordOutcome
   removed = removedAt (wordsOf relations) (familyOf relations) u p old offset
 
-  missing-iff : (removed ≡ LeastOutcome.after (refused 19 0) old) ↔ (IsPiece (wordsOf relations) p × ((w : Word) → ¬ Congruent (relationWords relations) (p ++ w) u))
+  missing-iff : (removed ≡ WordOutcome.after (refused 19 0) old) ↔ (IsPiece (wordsOf relations) p × ((w : Word) → ¬ Congruent (relationWords relations) (p ++ w) u))
   missing-iff = (
     λ e.
         let s = missing-piece (wordsOf relations) (familyOf relations) u p old offset e in
@@ -138,7 +138,7 @@ module _ (relations : List Relation) (writes : (p u : Word) → IsPiece (wordsOf
 
 -- an accepted book, and words that are fine
 module _ (book : List ℕ) (presentation : Presentation) (e : loadBook book ≡ BookReading.read presentation) where
-  pub removal-is : (u p : Word) (old : List ℕ) (offset : ℕ) → markedOf (presentation .letters) u p ≡ Words.Fine
+  pub removal-is : (u p : Word) (old : List ℕ) (offset : ℕ) → markedOf (presentation .letters) u p ≡ Givens.Fine
       → removalOf book u p old offset ≡ removedAt (wordsOf (presentation .relations)) (familyOf (presentation .relations)) u p old offset
   unfolding removalOf loadedRemoval
   removal-is u p old offset f = rw (e, f)
@@ -147,7 +147,7 @@ module _ (book : List ℕ) (presentation : Presentation) (e : loadBook book ≡ 
       → Written (wordsOf (presentation .relations)) (familyOf (presentation .relations)) houseRank (Congruent (relationWords (presentation .relations))) p u
   loaded-writes p u s = rounds-write-least (presentation .relations) (loaded-c4 book presentation e) houseRank house-injective p u s
 
-  pub loaded-removes : (u p : Word) (old : List ℕ) (offset : ℕ) → markedOf (presentation .letters) u p ≡ Words.Fine
+  pub loaded-removes : (u p : Word) (old : List ℕ) (offset : ℕ) → markedOf (presentation .letters) u p ≡ Givens.Fine
       → RemovesPrefix (presentation .relations) u p old offset (removalOf book u p old offset)
   loaded-removes u p old offset f =
       let B = wordsOf (presentation .relations) in
@@ -157,7 +157,7 @@ module _ (book : List ℕ) (presentation : Presentation) (e : loadBook book ≡ 
       (removes-prefix (presentation .relations) loaded-writes (omega arith) u p few old offset)
 
 -- what is the definition's outcome is all that the removal promises
-pub removal-answered : (book : List ℕ) (u p : Word) (old : List ℕ) (offset : ℕ) (outcome : LeastOutcome) → outcome ≡ removalOf book u p old offset
+pub removal-answered : (book : List ℕ) (u p : Word) (old : List ℕ) (offset : ℕ) (outcome : WordOutcome) → outcome ≡ removalOf book u p old offset
     → RemovalAnswered book u p old offset outcome
 removal-answered book u p old offset outcome e =
     record { is = e; removes = λ q l f. subst (RemovesPrefix (q .relations) u p old offset) (sym e) (loaded-removes book q l u p old offset f) }

@@ -5,7 +5,7 @@ use mathlib.Core.Path.{_≡_}
 use Rattle.words.specs.Words.{Word}
 use Rattle.limits.specs.Limits.{markMost}
 use Rattle.pieces.specs.Judging.{PiecesTabled}
-use Rattle.given.specs.declared.Given.the-variants as Words
+use Rattle.given.specs.declared.Given.the-variants as Givens
 use Rattle.given.specs.Given.{givenOf, markedOf}
 use Rattle.answers.specs.Parts.{LeastLoaded}
 
@@ -18,10 +18,10 @@ pub record Removable (text table longest : List ℕ) (n letters : ℕ) : Type 0 
 pub record PrefixGiven (text table longest : List ℕ) (n : ℕ) (p : Word) : Type 0 where
   pub letters : ℕ
   pub known : Removable text table longest n letters
-  pub fine : givenOf 2 markMost letters p ≡ Words.Fine
+  pub fine : givenOf 2 markMost letters p ≡ Givens.Fine
 
 -- the same, and a word and a front mark that are fine
 pub record Marked (text table longest : List ℕ) (n : ℕ) (u p : Word) : Type 0 where
   pub letters : ℕ
   pub known : Removable text table longest n letters
-  pub fine : markedOf letters u p ≡ Words.Fine
+  pub fine : markedOf letters u p ≡ Givens.Fine

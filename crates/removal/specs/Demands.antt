@@ -14,36 +14,36 @@ use Rattle.least.specs.Least.{LeastBehind}
 use Rattle.limits.specs.Limits.{sideMost, leastMost}
 use Rattle.format.specs.Book.{Presentation, BookReading}
 use Rattle.presentation.specs.Loading.{loadBook}
-use Rattle.given.specs.declared.Given.the-variants as Words
+use Rattle.given.specs.declared.Given.the-variants as Givens
 use Rattle.given.specs.Given.{markedOf}
 use Rattle.answers.specs.Answers.{refused}
-use Rattle.answers.specs.Entries.{LeastOutcome, leastOf}
+use Rattle.answers.specs.Entries.{WordOutcome, leastOf}
 use Rattle.answers.specs.Demands.{Placed}
 use Rattle.removal.specs.Removal.{removalOf}
 
 -- of a word u and a prefix p under relation words B: the least word w of which p w is congruent to u, of which there is one and only one, is in the buffer from the
 -- offset on, exactly when there is room for it; else 14 and the old buffer
-pub record WritesBehind (B : List Word) (u p : Word) (old : List ℕ) (offset : ℕ) (outcome : LeastOutcome) : Type 0 where
+pub record WritesBehind (B : List Word) (u p : Word) (old : List ℕ) (offset : ℕ) (outcome : WordOutcome) : Type 0 where
   pub word : Word
   pub least : LeastBehind (Congruent B) houseRank p u word
   pub only : (w : Word) → LeastBehind (Congruent B) houseRank p u w → w ≡ word
   pub roomy : offset + length word ≤ length old → Placed word old offset outcome
-  pub narrow : length old < offset + length word → outcome ≡ LeastOutcome.after (refused 14 0) old
+  pub narrow : length old < offset + length word → outcome ≡ WordOutcome.after (refused 14 0) old
   pub short : length word ≤ leastMost
 
 -- of an accepted book's relations, a word and a prefix that are fine
-pub record RemovesPrefix (relations : List Relation) (u p : Word) (old : List ℕ) (offset : ℕ) (outcome : LeastOutcome) : Type 0 where
+pub record RemovesPrefix (relations : List Relation) (u p : Word) (old : List ℕ) (offset : ℕ) (outcome : WordOutcome) : Type 0 where
   -- 18 exactly when the prefix is no piece
-  pub strange : (outcome ≡ LeastOutcome.after (refused 18 0) old) ↔ (¬ IsPiece (wordsOf relations) p)
+  pub strange : (outcome ≡ WordOutcome.after (refused 18 0) old) ↔ (¬ IsPiece (wordsOf relations) p)
   -- 19 exactly when it is one, and no word behind it is congruent to u
-  pub missing : (outcome ≡ LeastOutcome.after (refused 19 0) old) ↔ (IsPiece (wordsOf relations) p × ((w : Word) → ¬ Congruent (relationWords relations) (p ++ w) u))
+  pub missing : (outcome ≡ WordOutcome.after (refused 19 0) old) ↔ (IsPiece (wordsOf relations) p × ((w : Word) → ¬ Congruent (relationWords relations) (p ++ w) u))
   -- else the least such word is written
   pub writes : IsPiece (wordsOf relations) p → (w : Word) → Congruent (relationWords relations) (p ++ w) u → WritesBehind (relationWords relations) u p old offset outcome
 
 -- what the removal promises of its outcome: it is the definition's; and of an accepted book and words that are fine, the prefix is removed
-pub record RemovalAnswered (book : List ℕ) (u p : Word) (old : List ℕ) (offset : ℕ) (outcome : LeastOutcome) : Type 0 where
+pub record RemovalAnswered (book : List ℕ) (u p : Word) (old : List ℕ) (offset : ℕ) (outcome : WordOutcome) : Type 0 where
   pub is : outcome ≡ removalOf book u p old offset
-  pub removes : (presentation : Presentation) → loadBook book ≡ BookReading.read presentation → markedOf (presentation .letters) u p ≡ Words.Fine
+  pub removes : (presentation : Presentation) → loadBook book ≡ BookReading.read presentation → markedOf (presentation .letters) u p ≡ Givens.Fine
       → RemovesPrefix (presentation .relations) u p old offset outcome
 
 -- the empty piece, whatever else is given: the least word with all its refusals
@@ -53,16 +53,16 @@ NothingRemoved = (book : List ℕ) (u : Word) (old : List ℕ) (offset : ℕ) �
 -- a word of as many letters as a side can have is no piece of an accepted book, so that it is 18
 abbrev pub LongNoPiece : Type 0
 LongNoPiece = (book : List ℕ) (u p : Word) (old : List ℕ) (offset : ℕ) (presentation : Presentation) → loadBook book ≡ BookReading.read presentation
-    → markedOf (presentation .letters) u p ≡ Words.Fine → sideMost ≤ length p → removalOf book u p old offset ≡ LeastOutcome.after (refused 18 0) old
+    → markedOf (presentation .letters) u p ≡ Givens.Fine → sideMost ≤ length p → removalOf book u p old offset ≡ WordOutcome.after (refused 18 0) old
 
 -- a piece that was put in front of a word v comes off again: a word is found, and it is v or comes before it
 abbrev pub JoinedComeOff : Type 0
 JoinedComeOff = (book : List ℕ) (p v : Word) (old : List ℕ) (offset : ℕ) (presentation : Presentation) → loadBook book ≡ BookReading.read presentation
-    → markedOf (presentation .letters) (p ++ v) p ≡ Words.Fine → IsPiece (wordsOf (presentation .relations)) p
+    → markedOf (presentation .letters) (p ++ v) p ≡ Givens.Fine → IsPiece (wordsOf (presentation .relations)) p
     → (w : WritesBehind (relationWords (presentation .relations)) (p ++ v) p old offset (removalOf book (p ++ v) p old offset)) × AtMost houseRank (w .word) v
 
 -- congruent words have one answer, whichever of them is given
 abbrev pub ClassesAlike : Type 0
 ClassesAlike = (book : List ℕ) (u v p : Word) (old : List ℕ) (offset : ℕ) (presentation : Presentation) → loadBook book ≡ BookReading.read presentation
-    → markedOf (presentation .letters) u p ≡ Words.Fine → markedOf (presentation .letters) v p ≡ Words.Fine → Congruent (relationWords (presentation .relations)) u v
+    → markedOf (presentation .letters) u p ≡ Givens.Fine → markedOf (presentation .letters) v p ≡ Givens.Fine → Congruent (relationWords (presentation .relations)) u v
     → removalOf book u p old offset ≡ removalOf book v p old offset

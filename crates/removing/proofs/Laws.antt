@@ -21,7 +21,7 @@ use Rattle.format.specs.declared.Reading.the-variants.{Read, Refused}
 use Rattle.presentation.specs.Loading.{PiecesKept}
 use Rattle.presentation.proofs.Laws.{load-refused}
 use Rattle.given.specs.declared.Given.{Given}
-use Rattle.given.specs.declared.Given.the-variants as Words
+use Rattle.given.specs.declared.Given.the-variants as Givens
 use Rattle.given.specs.Given.{markedOf, Widened}
 use Rattle.given.proofs.Laws.{fine-short, fine-known, fine-marked}
 use Rattle.moves.specs.declared.Mark.{Mark}
@@ -30,9 +30,9 @@ use Rattle.occurrence.specs.declared.Place.{Place}
 use Rattle.occurrence.specs.declared.Place.the-variants.{At, Nowhere}
 use Rattle.occurrence.specs.Standing.{Sought, PieceSought}
 use Rattle.leastword.specs.Writing.{leastFrom, Asked}
-use Rattle.answers.specs.declared.Least.the-variants as Leasts
-use Rattle.answers.specs.Answers.{ofLeast}
-use Rattle.answers.specs.Entries.{LeastOutcome, foundAt}
+use Rattle.answers.specs.declared.WrittenWord.the-variants as WrittenWords
+use Rattle.answers.specs.Answers.{ofWrittenWord}
+use Rattle.answers.specs.Entries.{WordOutcome, foundAt}
 use Rattle.answers.proofs.LeastCalls.{fine-asked}
 use Rattle.answers.proofs.Laws.{memory-made, loaded-room, loaded-letters}
 use Rattle.removal.specs.Removal.{removedAt, loadedRemoval, removalOf}
@@ -72,7 +72,7 @@ remove-given text table longest n u p m = record { letters = m .letters; known =
 
 module _ (text table longest : List ℕ) (n : ℕ) (u p : Word) (m : Marked text table longest n u p) (r : Place) (s : PieceSought text table n p r) where
   pub remove-strange : (buffer : List ℕ) (offset : ℕ) → r ≡ Nowhere
-      → LeastOutcome.after (ofLeast (Leasts.Refused NotPiece)) buffer ≡ removedAt (wordsIn text table n) (familyBy table n) u p buffer offset
+      → WordOutcome.after (ofWrittenWord (WrittenWords.Refused NotPiece)) buffer ≡ removedAt (wordsIn text table n) (familyBy table n) u p buffer offset
   remove-strange buffer offset e = sym (no-piece-removed (wordsIn text table n) (familyBy table n) u p buffer offset (s .absent e))
 
   module _ (mark : Mark) (e : r ≡ At mark) where
@@ -82,7 +82,7 @@ module _ (text table longest : List ℕ) (n : ℕ) (u p : Word) (m : Marked text
     pub remove-asked : Asked text table n u mark
     remove-asked = fine-asked text table n (m .letters) (m .known .loaded) u (fine-marked (m .letters) u p (m .fine) .0) mark (s .found mark e .fits) stands
 
-    pub remove-placed : (buffer : List ℕ) (offset : ℕ) (o : LeastOutcome)
+    pub remove-placed : (buffer : List ℕ) (offset : ℕ) (o : WordOutcome)
         → o ≡ foundAt offset (leastFrom (wordsIn text table n) (familyBy table n) (placedMark text mark) u) buffer
         → o ≡ removedAt (wordsIn text table n) (familyBy table n) u p buffer offset
     remove-placed buffer offset o f =
@@ -94,16 +94,16 @@ pub ruleset removes = (remove-given, remove-strange, remove-asked, remove-placed
 
 -- a given word and a given prefix
 module _ (text table longest : List ℕ) (n letters : ℕ) (k : Removable text table longest n letters) (u p : Word) (g : Given) (e : g ≡ markedOf letters u p) where
-  pub removal-refused : (buffer : List ℕ) (offset : ℕ) (r : Refusal) → g ≡ Words.Refused r
-      → LeastOutcome.after (ofLeast (Leasts.Refused r)) buffer ≡ loadedRemoval letters (wordsIn text table n) (familyBy table n) u p buffer offset
+  pub removal-refused : (buffer : List ℕ) (offset : ℕ) (r : Refusal) → g ≡ Givens.Refused r
+      → WordOutcome.after (ofWrittenWord (WrittenWords.Refused r)) buffer ≡ loadedRemoval letters (wordsIn text table n) (familyBy table n) u p buffer offset
   unfolding loadedRemoval
   removal-refused buffer offset r f = sym (rw (sym e ∙ f))
 
-  module _ (f : g ≡ Words.Fine) where
+  module _ (f : g ≡ Givens.Fine) where
     pub removal-marked : Marked text table longest n u p
     removal-marked = record { letters = letters; known = k; fine = sym e ∙ f }
 
-    pub removal-made : (buffer : List ℕ) (offset : ℕ) (o : LeastOutcome) → o ≡ removedAt (wordsIn text table n) (familyBy table n) u p buffer offset
+    pub removal-made : (buffer : List ℕ) (offset : ℕ) (o : WordOutcome) → o ≡ removedAt (wordsIn text table n) (familyBy table n) u p buffer offset
         → o ≡ loadedRemoval letters (wordsIn text table n) (familyBy table n) u p buffer offset
     unfolding loadedRemoval
     removal-made buffer offset o h = rw (sym e ∙ f) h
@@ -113,10 +113,10 @@ pub ruleset givenRemovals = (removal-refused, removal-marked, removal-made, need
 -- the entry
 module _ (book : List ℕ) (reading : Reading) (text table longest : List ℕ) (d : PiecesKept book (replicate textRoom 0) reading text table longest) where
   pub removal-unread : (u p buffer : List ℕ) (offset : ℕ) (r : Refusal) → reading ≡ Refused r
-      → RemovalAnswered book u p buffer offset (LeastOutcome.after (ofLeast (Leasts.Refused r)) buffer)
+      → RemovalAnswered book u p buffer offset (WordOutcome.after (ofWrittenWord (WrittenWords.Refused r)) buffer)
   unfolding removalOf
   removal-unread u p buffer offset r f =
-      removal-answered book u p buffer offset (LeastOutcome.after (ofLeast (Leasts.Refused r)) buffer) (sym (rw (load-refused book reading text table (d .loaded) r f)))
+      removal-answered book u p buffer offset (WordOutcome.after (ofWrittenWord (WrittenWords.Refused r)) buffer) (sym (rw (load-refused book reading text table (d .loaded) r f)))
 
   module _ (letters count : ℕ) (e : reading ≡ Read letters count) where
     pub removal-room : countCell < length table
@@ -127,7 +127,7 @@ module _ (book : List ℕ) (reading : Reading) (text table longest : List ℕ) (
       removal-loaded =
           record { loaded = loaded-letters book reading text table (d .loaded) letters count e n c; tabled = rw c (d .tabled (omega (arith, length-replicate {A = ℕ} textRoom 0)) letters count e) }
 
-      pub removal-told : (u p buffer : List ℕ) (offset : ℕ) (x : LeastOutcome)
+      pub removal-told : (u p buffer : List ℕ) (offset : ℕ) (x : WordOutcome)
           → x ≡ loadedRemoval letters (wordsIn text table n) (familyBy table n) u p buffer offset → RemovalAnswered book u p buffer offset x
       unfolding removalOf
       removal-told u p buffer offset x f =

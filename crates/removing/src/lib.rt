@@ -4,12 +4,12 @@ ghost use mathlib.Core.Path.{_≡_};
 ghost use Rattle.layout.specs.Layout.{wordsIn};
 ghost use Rattle.layout.specs.Families.{familyBy};
 ghost use Rattle.occurrence.specs.Standing.{PieceSought};
-ghost use Rattle.answers.specs.Answers.{ofLeast};
-ghost use Rattle.answers.specs.Entries.{LeastOutcome as Leasts};
+ghost use Rattle.answers.specs.Answers.{ofWrittenWord};
+ghost use Rattle.answers.specs.Entries.{WordOutcome};
 ghost use Rattle.removal.specs.Removal.{removedAt, loadedRemoval};
 ghost use Rattle.removal.specs.Asked.{Removable, PrefixGiven, Marked};
 ghost use Rattle.removal.specs.Demands.{RemovalAnswered};
-pub use answers::Least;
+pub use answers::WrittenWord;
 use format::Reading;
 use given::Given;
 use given::widen_word;
@@ -41,13 +41,13 @@ fn remove_piece(
     p: &[u8],
     buffer: &mut [u8],
     offset: usize,
-) -> Least
+) -> WrittenWord
     requires { ⌜ Marked (now text) (now table) (now longest) n (now u) (now p) ⌝ }
-    ensures { λ r. ⌜ Leasts.after (ofLeast r) (now (buffer .exit)) ≡ removedAt (wordsIn (now (text .entry)) (now (table .entry)) n) (familyBy (now (table .entry)) n) (now (u .entry)) (now (p .entry)) (now (buffer .entry)) offset ⌝ }
+    ensures { λ r. ⌜ WordOutcome.after (ofWrittenWord r) (now (buffer .exit)) ≡ removedAt (wordsIn (now (text .entry)) (now (table .entry)) n) (familyBy (now (table .entry)) n) (now (u .entry)) (now (p .entry)) (now (buffer .entry)) offset ⌝ }
 {
     let place = find_prefix(text, table, longest, n, p);
     match place {
-        Place::Nowhere => Least::Refused(Refusal::NotPiece),
+        Place::Nowhere => WrittenWord::Refused(Refusal::NotPiece),
         Place::At(piece) => place_word(text, table, n, u, piece, buffer, offset),
     }
 }
@@ -63,20 +63,26 @@ fn loaded_removal(
     p: &[u8],
     buffer: &mut [u8],
     offset: usize,
-) -> Least
+) -> WrittenWord
     requires { ⌜ Removable (now text) (now table) (now longest) n letters ⌝ }
-    ensures { λ r. ⌜ Leasts.after (ofLeast r) (now (buffer .exit)) ≡ loadedRemoval letters (wordsIn (now (text .entry)) (now (table .entry)) n) (familyBy (now (table .entry)) n) (now (u .entry)) (now (p .entry)) (now (buffer .entry)) offset ⌝ }
+    ensures { λ r. ⌜ WordOutcome.after (ofWrittenWord r) (now (buffer .exit)) ≡ loadedRemoval letters (wordsIn (now (text .entry)) (now (table .entry)) n) (familyBy (now (table .entry)) n) (now (u .entry)) (now (p .entry)) (now (buffer .entry)) offset ⌝ }
 {
     let given = given::check_marked(letters, u, p);
     match given {
-        Given::Refused(refusal) => Least::Refused(refusal),
+        Given::Refused(refusal) => WrittenWord::Refused(refusal),
         Given::Fine => remove_piece(text, table, longest, n, u, p, buffer, offset),
     }
 }
 
 // Writes the least word w of which p w is congruent to u, for a piece p of the book, into the part of a lent buffer from an offset on.
-pub fn remove_prefix(book: &[u8], u: &[u8], p: &[u8], buffer: &mut [u8], offset: usize) -> Least
-    ensures { λ r. ⌜ RemovalAnswered (now (book .entry)) (now (u .entry)) (now (p .entry)) (now (buffer .entry)) offset (Leasts.after (ofLeast r) (now (buffer .exit))) ⌝ }
+pub fn remove_prefix(
+    book: &[u8],
+    u: &[u8],
+    p: &[u8],
+    buffer: &mut [u8],
+    offset: usize,
+) -> WrittenWord
+    ensures { λ r. ⌜ RemovalAnswered (now (book .entry)) (now (u .entry)) (now (p .entry)) (now (buffer .entry)) offset (WordOutcome.after (ofWrittenWord r) (now (buffer .exit))) ⌝ }
 {
     let mut text = [0u16; Text::ROOM];
     let mut table = [0u16; Table::ROOM];
@@ -94,6 +100,6 @@ pub fn remove_prefix(book: &[u8], u: &[u8], p: &[u8], buffer: &mut [u8], offset:
             buffer,
             offset,
         ),
-        Reading::Refused(refusal) => Least::Refused(refusal),
+        Reading::Refused(refusal) => WrittenWord::Refused(refusal),
     }
 }

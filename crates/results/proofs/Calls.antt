@@ -9,9 +9,9 @@ use Rattle.comparison.specs.declared.Comparison.{Comparison}
 use Rattle.answers.specs.declared.Verdict.{Verdict}
 use Rattle.answers.specs.declared.Round.{Round}
 use Rattle.answers.specs.declared.Printed.{Printed}
-use Rattle.answers.specs.declared.Least.{Least}
-use Rattle.answers.specs.Answers.{Answer, ofVerdict, ofRound, ofComparison, ofPrinted, ofLeast}
-use Rattle.answers.specs.Entries.{checkOf, SheetOutcome, sheetOf, RoundOutcome, roundOf, LeastOutcome, OutputOutcome, outputOf}
+use Rattle.answers.specs.declared.WrittenWord.{WrittenWord}
+use Rattle.answers.specs.Answers.{Answer, ofVerdict, ofRound, ofComparison, ofPrinted, ofWrittenWord}
+use Rattle.answers.specs.Entries.{checkOf, SheetOutcome, sheetOf, RoundOutcome, roundOf, WordOutcome, OutputOutcome, outputOf}
 use Rattle.answers.specs.Demands.{Compared, LeastAnswered}
 use Rattle.held.specs.Held.{bookIn, bookStart, changesTold}
 use Rattle.held.specs.Changes.{LoadOutcome, loadOf, Change, ChangeOutcome, changeOf}
@@ -48,12 +48,12 @@ compare-passes book u v allowance comparison r d f =
       compared = subst (λ (a : Answer). Compared book u v allowance a) (d .is) d;
     }
 
-pub least-passes : (book u old buffer : List ℕ) (offset : ℕ) (least : Least) (r : LeastResult) → LeastAnswered book u old offset (LeastOutcome.after (ofLeast least) buffer)
-    → r ≡ leastResult (ofLeast least) → LeastNumbered book u old offset r buffer
+pub least-passes : (book u old buffer : List ℕ) (offset : ℕ) (least : WrittenWord) (r : LeastResult) → LeastAnswered book u old offset (WordOutcome.after (ofWrittenWord least) buffer)
+    → r ≡ leastResult (ofWrittenWord least) → LeastNumbered book u old offset r buffer
 least-passes book u old buffer offset least r e f = record { is = rw (f, ← e .is); answered = subst (LeastAnswered book u old offset) (e .is) e }
 
-pub removal-passes : (book u p old buffer : List ℕ) (offset : ℕ) (least : Least) (r : LeastResult)
-    → RemovalAnswered book u p old offset (LeastOutcome.after (ofLeast least) buffer) → r ≡ leastResult (ofLeast least) → RemovalNumbered book u p old offset r buffer
+pub removal-passes : (book u p old buffer : List ℕ) (offset : ℕ) (least : WrittenWord) (r : LeastResult)
+    → RemovalAnswered book u p old offset (WordOutcome.after (ofWrittenWord least) buffer) → r ≡ leastResult (ofWrittenWord least) → RemovalNumbered book u p old offset r buffer
 removal-passes book u p old buffer offset least r e f = record { is = rw (f, ← e .is); answered = subst (RemovalAnswered book u p old offset) (e .is) e }
 
 pub program-passes : (input old output : List ℕ) (printed : Printed) (r : ProgramResult) → OutputOutcome.after (ofPrinted printed) output ≡ outputOf input old

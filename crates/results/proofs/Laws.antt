@@ -13,9 +13,9 @@ use Rattle.answers.specs.declared.Round.{Round}
 use Rattle.answers.specs.declared.Round.the-variants as Ways
 use Rattle.answers.specs.declared.Printed.{Printed}
 use Rattle.answers.specs.declared.Printed.the-variants as Prints
-use Rattle.answers.specs.declared.Least.{Least}
-use Rattle.answers.specs.declared.Least.the-variants as Leasts
-use Rattle.answers.specs.Answers.{ofVerdict, ofRound, ofComparison, ofPrinted, ofLeast}
+use Rattle.answers.specs.declared.WrittenWord.{WrittenWord}
+use Rattle.answers.specs.declared.WrittenWord.the-variants as WrittenWords
+use Rattle.answers.specs.Answers.{ofVerdict, ofRound, ofComparison, ofPrinted, ofWrittenWord}
 use Rattle.results.specs.Numbers.{endOutcome, checkResult, roundResult, compareResult, programResult, leastResult}
 
 -- how a round ends
@@ -82,12 +82,12 @@ module _ (printed : Printed) where
 pub ruleset printings = (program-wrote, program-refused, needs)
 
 -- a least word
-module _ (least : Least) where
-  pub least-wrote : (n : ℕ) → least ≡ Leasts.Wrote n → record { refusal = 0; place = 0; length = n } ≡ leastResult (ofLeast least)
+module _ (least : WrittenWord) where
+  pub least-wrote : (n : ℕ) → least ≡ WrittenWords.Wrote n → record { refusal = 0; place = 0; length = n } ≡ leastResult (ofWrittenWord least)
   least-wrote n f = rw f
 
-  pub least-refused : (r : Refusal) (n p : ℕ) → least ≡ Leasts.Refused r → n ≡ numberAndPlace r .number → p ≡ numberAndPlace r .place
-      → record { refusal = n; place = p; length = 0 } ≡ leastResult (ofLeast least)
+  pub least-refused : (r : Refusal) (n p : ℕ) → least ≡ WrittenWords.Refused r → n ≡ numberAndPlace r .number → p ≡ numberAndPlace r .place
+      → record { refusal = n; place = p; length = 0 } ≡ leastResult (ofWrittenWord least)
   least-refused r n p f g h = rw (f, g, h)
 
 pub ruleset leasts = (least-wrote, least-refused, needs)

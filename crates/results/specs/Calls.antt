@@ -3,7 +3,7 @@ use Prim.Native.Nat.{ℕ}
 use mathlib.Core.List.{List}
 use mathlib.Core.Path.{_≡_}
 use Rattle.words.specs.Words.{Word}
-use Rattle.answers.specs.Entries.{SheetOutcome, RoundOutcome, compareOf, LeastOutcome, leastOf, OutputOutcome}
+use Rattle.answers.specs.Entries.{SheetOutcome, RoundOutcome, compareOf, WordOutcome, leastOf, OutputOutcome}
 use Rattle.answers.specs.Demands.{Compared, LeastAnswered}
 use Rattle.held.specs.Changes.{LoadOutcome, ChangeOutcome}
 use Rattle.held.specs.Tickets.{ProposalOutcome}
@@ -43,8 +43,8 @@ pub record ComparedNumbers (book : List ℕ) (u v : Word) (allowance : ℕ) (r :
 pub data LeastNumbers : Type 0 where
   after : LeastResult → List ℕ → LeastNumbers
 
-abbrev pub leastNumbers : LeastOutcome → LeastNumbers
-leastNumbers (LeastOutcome.after a buffer) = LeastNumbers.after (leastResult a) buffer
+abbrev pub leastNumbers : WordOutcome → LeastNumbers
+leastNumbers (WordOutcome.after a buffer) = LeastNumbers.after (leastResult a) buffer
 
 -- the numbers and the buffer are those of the definition's outcome, of which all is promised that the entry promises
 pub record LeastNumbered (book : List ℕ) (u : Word) (old : List ℕ) (offset : ℕ) (r : LeastResult) (buffer : List ℕ) : Type 0 where

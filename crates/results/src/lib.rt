@@ -3,13 +3,13 @@
 // The fields have the words of the C header, which are the specification's: a rule is a relation, a run a word.
 ghost use mathlib.Core.Path.{_≡_};
 ghost use Rattle.refusals.specs.Refusals.{numberAndPlace};
-ghost use Rattle.answers.specs.Answers.{ofVerdict, ofRound, ofComparison, ofPrinted, ofLeast};
+ghost use Rattle.answers.specs.Answers.{ofVerdict, ofRound, ofComparison, ofPrinted, ofWrittenWord};
 ghost use Rattle.results.specs.Numbers.{endOutcome, checkResult, roundResult, compareResult, programResult, leastResult, heldResult};
 ghost use Rattle.results.specs.Calls.{version};
-use answers::Least;
 use answers::Printed;
 use answers::Round;
 use answers::Verdict;
+use answers::WrittenWord;
 use comparison::Comparison;
 use refusals::Refusal;
 use refusals::number_and_place;
@@ -219,16 +219,16 @@ pub fn of_printed(printed: Printed) -> ProgramResult
 }
 
 // The numbers of a least word.
-pub fn of_least(least: Least) -> LeastResult
-    ensures { λ r. ⌜ r ≡ leastResult (ofLeast least) ⌝ }
+pub fn of_least(least: WrittenWord) -> LeastResult
+    ensures { λ r. ⌜ r ≡ leastResult (ofWrittenWord least) ⌝ }
 {
     match least {
-        Least::Wrote(letters) => LeastResult {
+        WrittenWord::Wrote(letters) => LeastResult {
             refusal: 0,
             place: 0,
             length: letters as u64,
         },
-        Least::Refused(refusal) => LeastResult {
+        WrittenWord::Refused(refusal) => LeastResult {
             refusal: number(refusal),
             place: place(refusal),
             length: 0,

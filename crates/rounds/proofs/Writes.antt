@@ -29,7 +29,7 @@ use Rattle.rounds.specs.declared.RoundLengths.the-variants as S
 use Rattle.plans.specs.Plans.{planned, Fit, MarkFit, PlanFit, PlansRound}
 use Rattle.plans.specs.Plans.PlanFit.{goes}
 use Rattle.plans.specs.Asked.{HeadClear}
-use Rattle.rounds.specs.Writing.{writtenBy, Writable, Written, Changes, Planned, GivenShort, GivenRoom, LentInBytes, Lent}
+use Rattle.rounds.specs.Writing.{writtenBy, Writable, Written, AllWritable, Planned, GivenShort, GivenRoom, LentInBytes, Lent}
 use Rattle.rounds.specs.Writing.Outcome.{after}
 
 -- a change is written by two writings, one behind the other
@@ -90,7 +90,7 @@ mark-room zero k l a b c f = omega arith
 mark-room (suc m) k l a b c f = let e = f (omega arith) in omega arith
 
 -- three changes are written
-module _ (text : List ℕ) (cu cv cp : Change) (u v p nu nv np : List ℕ) (h : Changes text cu cv cp u v p nu nv np) where
+module _ (text : List ℕ) (cu cv cp : Change) (u v p nu nv np : List ℕ) (h : AllWritable text cu cv cp u v p nu nv np) where
   pub changes-u : Writable text cu u nu
   changes-u = h .forU
 
@@ -112,7 +112,7 @@ pub plan-end : (text : List ℕ) (plan : Plan) (u v p nu nv np : List ℕ) (b : 
 unfolding planned writtenBy
 plan-end text plan u v p nu nv np b e = rw e
 
-pub plan-changes : (text : List ℕ) (plan : Plan) (u v p nu nv np : List ℕ) → Planned text plan u v p nu nv np → (cu cv cp : Change) → plan ≡ Go cu cv cp → Changes text cu cv cp u v p nu nv np
+pub plan-changes : (text : List ℕ) (plan : Plan) (u v p nu nv np : List ℕ) → Planned text plan u v p nu nv np → (cu cv cp : Change) → plan ≡ Go cu cv cp → AllWritable text cu cv cp u v p nu nv np
 plan-changes text plan u v p nu nv np h cu cv cp e = h .changes cu cv cp e
 
 pub plan-go : (text : List ℕ) (plan : Plan) (u v p nu nv np : List ℕ) (cu cv cp : Change) → plan ≡ Go cu cv cp → (r : RoundLengths) (nu′ nv′ np′ : List ℕ)

@@ -38,14 +38,14 @@ pub record Written (text : List ℕ) (c : Change) (w d : List ℕ) (r : ℕ) (d�
   pub bytes : d′ ≡ over (applied text c w) d
 
 -- three changes can be written, each into its buffer
-pub record Changes (text : List ℕ) (cu cv cp : Change) (u v p nu nv np : List ℕ) : Type 0 where
+pub record AllWritable (text : List ℕ) (cu cv cp : Change) (u v p nu nv np : List ℕ) : Type 0 where
   pub forU : Writable text cu u nu
   pub forV : Writable text cv v nv
   pub forP : Writable text cp p np
 
 -- the changes of a plan, if it has any, can be written
 pub record Planned (text : List ℕ) (plan : Plan) (u v p nu nv np : List ℕ) : Type 0 where
-  pub changes : (cu cv cp : Change) → plan ≡ Go cu cv cp → Changes text cu cv cp u v p nu nv np
+  pub changes : (cu cv cp : Change) → plan ≡ Go cu cv cp → AllWritable text cu cv cp u v p nu nv np
 
 -- what a round asks of its words: a checked presentation with families, and the limits of u, v and p
 pub record GivenShort (text table : List ℕ) (n : ℕ) (u v p : Word) : Type 0 where

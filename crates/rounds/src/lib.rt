@@ -6,7 +6,7 @@ ghost use Rattle.layout.specs.Layout.{wordsIn};
 ghost use Rattle.layout.specs.Families.{familyBy};
 ghost use Rattle.plans.specs.Plans.{planned, PlansRound};
 ghost use Rattle.changes.specs.declared.Plan.the-variants.{Go};
-ghost use Rattle.rounds.specs.Writing.{Writable, Written, writtenBy, Changes, Planned, GivenShort, GivenRoom, LentInBytes, Lent};
+ghost use Rattle.rounds.specs.Writing.{Writable, Written, writtenBy, AllWritable, Planned, GivenShort, GivenRoom, LentInBytes, Lent};
 ghost use Rattle.rounds.specs.Writing.Outcome.{after};
 use given::widen_word;
 use limits::Word;
@@ -46,7 +46,7 @@ fn write_changes(
     nv: &mut [u8],
     np: &mut [u8],
 ) -> RoundLengths
-    requires { ⌜ Changes (now text) cu cv cp (now u) (now v) (now p) (now nu) (now nv) (now np) ⌝ }
+    requires { ⌜ AllWritable (now text) cu cv cp (now u) (now v) (now p) (now nu) (now nv) (now np) ⌝ }
     ensures { λ r. ⌜ after r (now (nu .exit)) (now (nv .exit)) (now (np .exit)) ≡ writtenBy (planned (now (text .entry)) (now (u .entry)) (now (v .entry)) (now (p .entry)) (Go cu cv cp)) (now (nu .entry)) (now (nv .entry)) (now (np .entry)) ⌝ }
 {
     let a = write_change(text, cu, u, nu);

@@ -6,7 +6,7 @@ ghost use lib.ListN.{length};
 ghost use Rattle.refusals.specs.declared.Refusal.the-variants.{BookWorn};
 ghost use Rattle.answers.specs.Answers.{ofVerdict};
 ghost use Rattle.held.specs.Held.{worn};
-ghost use Rattle.held.specs.Changes.{settled, lastly, ChangeOutcome as Changes, made, changeOf};
+ghost use Rattle.held.specs.Changes.{settled, lastly, ChangeOutcome, made, changeOf};
 ghost use Rattle.held.specs.Asked.{changeAsked};
 ghost use Rattle.settling.specs.Settling.{answered, Settleable, Takeable};
 use answers::Verdict;
@@ -38,7 +38,7 @@ pub fn refuse_last(book: &[u8], sheet: &[u8], last: Refusal) -> Verdict
 // Writes the sheet of a new book, worked out afresh, and, where that is not refused, holds the book in place of the old one.
 fn take_place(book: &[u8], held: &mut [u8], sheet: &mut [u8]) -> Verdict
     requires { ⌜ Takeable (now book) (now held) ⌝ }
-    ensures { λ r. ⌜ Changes.after (ofVerdict r) (now (held .exit)) (now (sheet .exit)) ≡ made (now (held .entry)) (now (sheet .entry)) (settled (length (now (sheet .entry))) (now (book .entry))) ⌝ }
+    ensures { λ r. ⌜ ChangeOutcome.after (ofVerdict r) (now (held .exit)) (now (sheet .exit)) ≡ made (now (held .entry)) (now (sheet .entry)) (settled (length (now (sheet .entry))) (now (book .entry))) ⌝ }
 {
     let verdict = cut_sheet(book, sheet);
     let Verdict::Accepted(_) = verdict else {
@@ -52,7 +52,7 @@ fn take_place(book: &[u8], held: &mut [u8], sheet: &mut [u8]) -> Verdict
 // The same, unless no more changes are taken.
 fn settle(book: &[u8], held: &mut [u8], sheet: &mut [u8]) -> Verdict
     requires { ⌜ Settleable (now book) (now held) ⌝ }
-    ensures { λ r. ⌜ Changes.after (ofVerdict r) (now (held .exit)) (now (sheet .exit)) ≡ made (now (held .entry)) (now (sheet .entry)) (lastly (worn (now (held .entry))) BookWorn (settled (length (now (sheet .entry))) (now (book .entry)))) ⌝ }
+    ensures { λ r. ⌜ ChangeOutcome.after (ofVerdict r) (now (held .exit)) (now (sheet .exit)) ≡ made (now (held .entry)) (now (sheet .entry)) (lastly (worn (now (held .entry))) BookWorn (settled (length (now (sheet .entry))) (now (book .entry)))) ⌝ }
 {
     let changes = changes_of(held);
     if Held::COUNTED <= changes {
@@ -63,7 +63,7 @@ fn settle(book: &[u8], held: &mut [u8], sheet: &mut [u8]) -> Verdict
 
 // Makes the change that is asked for.
 pub fn change_held(asked: Asked, held: &mut [u8], bytes: &[u8], sheet: &mut [u8]) -> Verdict
-    ensures { λ r. ⌜ Changes.after (ofVerdict r) (now (held .exit)) (now (sheet .exit)) ≡ changeOf (changeAsked asked (now (bytes .entry))) (now (held .entry)) (now (sheet .entry)) ⌝ }
+    ensures { λ r. ⌜ ChangeOutcome.after (ofVerdict r) (now (held .exit)) (now (sheet .exit)) ≡ changeOf (changeAsked asked (now (bytes .entry))) (now (held .entry)) (now (sheet .entry)) ⌝ }
 {
     let mut fresh = [0u8; Held::BOOK];
     let made = make_change(asked, held, bytes, &mut fresh);

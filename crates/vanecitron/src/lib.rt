@@ -7,7 +7,7 @@ ghost use Rattle.held.specs.Held.{bookIn, bookStart, changesTold};
 ghost use Rattle.held.specs.Changes.{loadOf, addition, withdrawal, changeOf};
 ghost use Rattle.held.specs.Tickets.{proposeOf, postOf};
 ghost use Rattle.results.specs.Numbers.{checkResult, heldResult};
-ghost use Rattle.results.specs.Calls.{version, SheetNumbers as Sheets, sheetNumbers, RoundNumbers as Rounds, roundNumbers, ComparedNumbers, LeastNumbered, RemovalNumbered, ProgramNumbers as Programs, programNumbers, LoadNumbers as Loads, loadNumbers, ChangeNumbers as Changes, changeNumbers, ProposalNumbers as Proposals, proposalNumbers};
+ghost use Rattle.results.specs.Calls.{version, SheetNumbers, sheetNumbers, RoundNumbers, roundNumbers, ComparedNumbers, LeastNumbered, RemovalNumbered, ProgramNumbers, programNumbers, LoadNumbers, loadNumbers, ChangeNumbers, changeNumbers, ProposalNumbers, proposalNumbers};
 use results::CheckResult;
 use results::CompareResult;
 use results::HeldResult;
@@ -34,7 +34,7 @@ pub extern "C" fn vanecitron_check(book: &[u8]) -> CheckResult
 // The cut sheet of a book, in a lent buffer.
 #[no_mangle]
 pub extern "C" fn vanecitron_cut_sheet(book: &[u8], sheet: &mut [u8]) -> CheckResult
-    ensures { λ r. ⌜ Sheets.after r (now (sheet .exit)) ≡ sheetNumbers (sheetOf (now (book .entry)) (now (sheet .entry))) ⌝ }
+    ensures { λ r. ⌜ SheetNumbers.after r (now (sheet .exit)) ≡ sheetNumbers (sheetOf (now (book .entry)) (now (sheet .entry))) ⌝ }
 {
     results::of_verdict(entries::cut_sheet(book, sheet))
 }
@@ -50,7 +50,7 @@ pub extern "C" fn vanecitron_round(
     nv: &mut [u8],
     np: &mut [u8],
 ) -> RoundResult
-    ensures { λ r. ⌜ Rounds.after r (now (nu .exit)) (now (nv .exit)) (now (np .exit)) ≡ roundNumbers (roundOf (now (book .entry)) (now (u .entry)) (now (v .entry)) (now (p .entry)) (now (nu .entry)) (now (nv .entry)) (now (np .entry))) ⌝ }
+    ensures { λ r. ⌜ RoundNumbers.after r (now (nu .exit)) (now (nv .exit)) (now (np .exit)) ≡ roundNumbers (roundOf (now (book .entry)) (now (u .entry)) (now (v .entry)) (now (p .entry)) (now (nu .entry)) (now (nv .entry)) (now (np .entry))) ⌝ }
 {
     results::of_round(entries::single_round(book, u, v, p, nu, nv, np))
 }
@@ -98,7 +98,7 @@ pub extern "C" fn vanecitron_front(
 // The whole program: input bytes to output bytes, in a lent buffer.
 #[no_mangle]
 pub extern "C" fn vanecitron_program(input: &[u8], output: &mut [u8]) -> ProgramResult
-    ensures { λ r. ⌜ Programs.after r (now (output .exit)) ≡ programNumbers (outputOf (now (input .entry)) (now (output .entry))) ⌝ }
+    ensures { λ r. ⌜ ProgramNumbers.after r (now (output .exit)) ≡ programNumbers (outputOf (now (input .entry)) (now (output .entry))) ⌝ }
 {
     results::of_printed(entries::print_program(input, output))
 }
@@ -106,7 +106,7 @@ pub extern "C" fn vanecitron_program(input: &[u8], output: &mut [u8]) -> Program
 // The loading of a book into the lent buffer of a held book.
 #[no_mangle]
 pub extern "C" fn vanecitron_load(book: &[u8], held: &mut [u8]) -> CheckResult
-    ensures { λ r. ⌜ Loads.after r (now (held .exit)) ≡ loadNumbers (loadOf (now (book .entry)) (now (held .entry))) ⌝ }
+    ensures { λ r. ⌜ LoadNumbers.after r (now (held .exit)) ≡ loadNumbers (loadOf (now (book .entry)) (now (held .entry))) ⌝ }
 {
     results::of_verdict(heldbook::load_held(book, held))
 }
@@ -114,7 +114,7 @@ pub extern "C" fn vanecitron_load(book: &[u8], held: &mut [u8]) -> CheckResult
 // The addition of a relation to a held book, with the new sheet in a lent buffer.
 #[no_mangle]
 pub extern "C" fn vanecitron_add(held: &mut [u8], bytes: &[u8], sheet: &mut [u8]) -> CheckResult
-    ensures { λ r. ⌜ Changes.after r (now (held .exit)) (now (sheet .exit)) ≡ changeNumbers (changeOf (addition (now (bytes .entry))) (now (held .entry)) (now (sheet .entry))) ⌝ }
+    ensures { λ r. ⌜ ChangeNumbers.after r (now (held .exit)) (now (sheet .exit)) ≡ changeNumbers (changeOf (addition (now (bytes .entry))) (now (held .entry)) (now (sheet .entry))) ⌝ }
 {
     results::of_verdict(heldbook::add_relation(held, bytes, sheet))
 }
@@ -122,7 +122,7 @@ pub extern "C" fn vanecitron_add(held: &mut [u8], bytes: &[u8], sheet: &mut [u8]
 // The withdrawal of a relation from a held book, with the new sheet in a lent buffer.
 #[no_mangle]
 pub extern "C" fn vanecitron_withdraw(held: &mut [u8], i: usize, sheet: &mut [u8]) -> CheckResult
-    ensures { λ r. ⌜ Changes.after r (now (held .exit)) (now (sheet .exit)) ≡ changeNumbers (changeOf (withdrawal i) (now (held .entry)) (now (sheet .entry))) ⌝ }
+    ensures { λ r. ⌜ ChangeNumbers.after r (now (held .exit)) (now (sheet .exit)) ≡ changeNumbers (changeOf (withdrawal i) (now (held .entry)) (now (sheet .entry))) ⌝ }
 {
     results::of_verdict(heldbook::withdraw_relation(held, i, sheet))
 }
@@ -135,7 +135,7 @@ pub extern "C" fn vanecitron_propose_add(
     sheet: &mut [u8],
     ticket: &mut [u8],
 ) -> CheckResult
-    ensures { λ r. ⌜ Proposals.after r (now (sheet .exit)) (now (ticket .exit)) ≡ proposalNumbers (proposeOf (addition (now (bytes .entry))) (now (held .entry)) (now (sheet .entry)) (now (ticket .entry))) ⌝ }
+    ensures { λ r. ⌜ ProposalNumbers.after r (now (sheet .exit)) (now (ticket .exit)) ≡ proposalNumbers (proposeOf (addition (now (bytes .entry))) (now (held .entry)) (now (sheet .entry)) (now (ticket .entry))) ⌝ }
 {
     results::of_verdict(heldbook::propose_addition(held, bytes, sheet, ticket))
 }
@@ -148,7 +148,7 @@ pub extern "C" fn vanecitron_propose_withdraw(
     sheet: &mut [u8],
     ticket: &mut [u8],
 ) -> CheckResult
-    ensures { λ r. ⌜ Proposals.after r (now (sheet .exit)) (now (ticket .exit)) ≡ proposalNumbers (proposeOf (withdrawal i) (now (held .entry)) (now (sheet .entry)) (now (ticket .entry))) ⌝ }
+    ensures { λ r. ⌜ ProposalNumbers.after r (now (sheet .exit)) (now (ticket .exit)) ≡ proposalNumbers (proposeOf (withdrawal i) (now (held .entry)) (now (sheet .entry)) (now (ticket .entry))) ⌝ }
 {
     results::of_verdict(heldbook::propose_withdrawal(held, i, sheet, ticket))
 }
@@ -156,7 +156,7 @@ pub extern "C" fn vanecitron_propose_withdraw(
 // The posting of a ticket, with the new sheet in a lent buffer.
 #[no_mangle]
 pub extern "C" fn vanecitron_post(held: &mut [u8], ticket: &[u8], sheet: &mut [u8]) -> CheckResult
-    ensures { λ r. ⌜ Changes.after r (now (held .exit)) (now (sheet .exit)) ≡ changeNumbers (postOf (now (ticket .entry)) (now (held .entry)) (now (sheet .entry))) ⌝ }
+    ensures { λ r. ⌜ ChangeNumbers.after r (now (held .exit)) (now (sheet .exit)) ≡ changeNumbers (postOf (now (ticket .entry)) (now (held .entry)) (now (sheet .entry))) ⌝ }
 {
     results::of_verdict(heldbook::post_ticket(held, ticket, sheet))
 }
