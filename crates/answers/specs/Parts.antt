@@ -6,7 +6,7 @@ use mathlib.Core.Path.{_≡_}
 use lib.Dec.{ltb}
 use lib.ListN.{length}
 use Rattle.words.specs.Words.{Word}
-use Rattle.limits.specs.Limits.{lettersMost, sheetColumns}
+use Rattle.limits.specs.Limits.{lettersMost, relationsMost, sheetColumns}
 use Rattle.refusals.specs.declared.Refusal.the-variants.{Narrow}
 use Rattle.moves.specs.declared.Mark.{Mark}
 use Rattle.moves.specs.State.{Ready, placedMark}
@@ -26,7 +26,7 @@ use Rattle.answers.specs.Entries.{SheetOutcome}
 -- the table has the words of all sides, with their cuts
 pub record SheetReady (table : List ℕ) (relations : ℕ) : Type 0 where
   pub sides : (s : ℕ) → s < 2 * relations → SideIn table s
-  pub few : relations ≤ 32
+  pub few : relations ≤ relationsMost
 
 -- a checked presentation of so many letters, which are within the limit
 pub record LeastLoaded (text table : List ℕ) (n letters : ℕ) : Type 0 where

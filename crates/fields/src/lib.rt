@@ -4,6 +4,7 @@ ghost use mathlib.Core.Path.{_≡_};
 ghost use Prim.Native.Nat.{_≤_, _<_};
 ghost use lib.ListN.{length};
 ghost use Rattle.fields.specs.Places.{Behind, Filled};
+use limits::ComparisonRecord;
 
 // The position of a byte from a position on, or the end.
 pub fn find(s: &[u8], at: usize, b: u8) -> usize
@@ -100,12 +101,15 @@ fn digit(c: u8) -> u8
     }
 }
 
-// The value of a decimal text, at most 4,294,967,295.
+// The value of a decimal text, at most the largest allowance, which is the largest number of four bytes.
 fn decimal(field: &[u8]) -> u32 {
     let mut n = 0u64;
     let mut i = 0;
     while i < field.len() {
-        n = least(10 * n + digit(field[i]) as u64, 4294967295);
+        n = least(
+            10 * n + digit(field[i]) as u64,
+            ComparisonRecord::ALLOWANCE as u64,
+        );
         i += 1;
     }
     n as u32

@@ -10,7 +10,7 @@ use Rattle.words.specs.Words.{part}
 use Rattle.words.specs.Relations.{Relation}
 use Rattle.limits.specs.declared.Record.{Record}
 use Rattle.limits.specs.declared.Record.the-variants.{Whole, CutOff}
-use Rattle.limits.specs.Limits.{recordPrefix, headKind, relationKind, headLength, relationLength, lettersMost, relationsMost, sideMost, outside}
+use Rattle.limits.specs.Limits.{recordPrefix, headKind, headPayload, headRecord, lettersFewest, lettersMost, relationKind, relationFixedPayload, sideFewest, sideMost, relationsMost, outside}
 use Rattle.refusals.specs.declared.Refusal.{Refusal}
 use Rattle.refusals.specs.declared.Refusal.the-variants.{Short, Kind, Length, Range, UnknownLetter, TooMany}
 use Rattle.letters.specs.Letters.{unknownIn}
@@ -68,18 +68,18 @@ unfoldable pub headAt : ℕ → ℕ → List ℕ → ℕ → HeadReading
 headAt most place book at =
     onWhole (recordAt book at) (Heads.Refused (Short place)) (λ kind from to.
     cond (differs kind headKind) (Heads.Refused (Kind place))
-    (cond (differs (to - from) headLength) (Heads.Refused (Length place))
-    (cond (outside 1 most (byte book from)) (Heads.Refused (Range place))
+    (cond (differs (to - from) headPayload) (Heads.Refused (Length place))
+    (cond (outside lettersFewest most (byte book from)) (Heads.Refused (Range place))
     (Heads.Read (byte book from) to))))
 
 -- the fields of a relation, from one position to another: byte m, byte n, and m + n letters. The lines are the refusals 3, 4, 5; a length below 2 differs
 -- from 2 + m + n whatever m and n are
 unfoldable pub fieldsAt : ℕ → ℕ → List ℕ → ℕ → ℕ → RelationReading
 fieldsAt letters place book from to =
-    cond (differs (to - from) (relationLength + byte book from + byte book (from + 1))) (Relations.Refused (Length place))
-    (cond (outside 1 sideMost (byte book from) || outside 1 sideMost (byte book (from + 1))) (Relations.Refused (Range place))
-    (cond (unknownIn letters (part book (from + relationLength) to)) (Relations.Refused (UnknownLetter place))
-    (Relations.Read (from + relationLength) (from + relationLength + byte book from) to)))
+    cond (differs (to - from) (relationFixedPayload + byte book from + byte book (from + 1))) (Relations.Refused (Length place))
+    (cond (outside sideFewest sideMost (byte book from) || outside sideFewest sideMost (byte book (from + 1))) (Relations.Refused (Range place))
+    (cond (unknownIn letters (part book (from + relationFixedPayload) to)) (Relations.Refused (UnknownLetter place))
+    (Relations.Read (from + relationFixedPayload) (from + relationFixedPayload + byte book from) to)))
 
 -- the relation (document 01: a rule) whose record begins at `at`: kind 2, where `count` relations stand before it. The lines are the refusals 1, 2, 6, and
 -- those of its fields
@@ -102,7 +102,7 @@ additionAt letters count place bytes =
 
 -- where the record of relation k begins, by the lengths of the records before it
 unfoldable pub relationStart : List ℕ → ℕ → ℕ
-relationStart book zero = recordPrefix + headLength
+relationStart book zero = headRecord
 relationStart book (suc k) = relationStart book k + recordPrefix + field book (relationStart book k)
 
 -- the relation whose words lie from `left` to `right` and from there to `to`

@@ -6,7 +6,7 @@ use lib.ListN.{length, getD}
 use Rattle.words.specs.Words.{Word}
 use Rattle.words.specs.Relations.{Relation}
 use Rattle.limits.specs.declared.Record.the-variants.{Whole}
-use Rattle.limits.specs.Limits.{headKind, relationKind, lettersMost, relationsMost, sideMost, bookMost}
+use Rattle.limits.specs.Limits.{headKind, lettersFewest, lettersMost, relationKind, sideFewest, sideMost, relationsMost, bookMost}
 use Rattle.refusals.specs.declared.Refusal.{Refusal}
 use Rattle.refusals.specs.declared.Refusal.the-variants.{Short, Length}
 use Rattle.format.specs.declared.RelationReading.the-variants as Relations
@@ -36,7 +36,7 @@ bookBytes presentation = headBytes (presentation .letters) ++ relationsBytes (pr
 
 -- a relation word within the limits: 1 to 64 letters, each below the number of letters
 pub record WordWithin (letters : ℕ) (w : Word) : Type 0 where
-  pub some : 1 ≤ length w
+  pub some : sideFewest ≤ length w
   pub short : length w ≤ sideMost
   pub known : (i : ℕ) → i < length w → getD w i 0 < letters
 
@@ -50,7 +50,7 @@ pub data AllWithin (letters : ℕ) : List Relation → Type 0 where
 
 -- a presentation within the limits
 pub record Within (presentation : Presentation) : Type 0 where
-  pub some : 1 ≤ presentation .letters
+  pub some : lettersFewest ≤ presentation .letters
   pub few : presentation .letters ≤ lettersMost
   pub fewRelations : length (presentation .relations) ≤ relationsMost
   pub all : AllWithin (presentation .letters) (presentation .relations)

@@ -38,16 +38,19 @@ module _ (most n : ℕ) where
           let z : _≡_ {A = ℕ} 0 1 = cc in
           absurd (omega arith)
 
-  within-most : (w : Record) → wordOf most n ≡ Made.Good w → n ≤ most
+  within-most : (w : Record) → wordOf most n ≡ Made.Good w → (n ≤ most) × (w .length ≡ n)
   unfolding wordOf
   within-most w e = go (ltb most n) refl
     where
-      go : (t : Bool) → ltb most n ≡ t → n ≤ most
+      go : (t : Bool) → ltb most n ≡ t → (n ≤ most) × (w .length ≡ n)
       go true q =
           let f : Made.Long ≡ Made.Good w = rw q at e in
           let z : _≡_ {A = ℕ} 0 1 = cc in
           absurd (omega arith)
-      go false q = ltb-false most n q
+      go false q =
+          let f : Made.Good (record { length = n }) ≡ Made.Good w = rw q at e in
+          let g : _≡_ {A = Record} (record { length = n }) w = cc in
+          (ltb-false most n q, sym (ap (λ (x : Record). x .length) g))
 
 -- one word
 module _ (number most letters : ℕ) (w : Word) (made : MadeWord) (m : made ≡ wordOf most (length w)) where
@@ -56,19 +59,19 @@ module _ (number most letters : ℕ) (w : Word) (made : MadeWord) (m : made ≡ 
   given-long f = rw (lt-ltb _ _ (over-most most (length w) (sym m ∙ f)))
 
   module _ (x : Record) (f : made ≡ Made.Good x) (at : ℕ) (e : at ≡ firstUnknown letters w) where
-    within : length w ≤ most
+    within : (length w ≤ most) × (x .length ≡ length w)
     within = within-most most (length w) x (sym m ∙ f)
 
-    pub given-stranger : at < length w → Refused (Stranger number at) ≡ givenOf number most letters w
+    pub given-stranger : at < x .length → Refused (Stranger number at) ≡ givenOf number most letters w
     unfolding givenOf
-    given-stranger l = rw (le-ltb _ _ within, ← e, lt-ltb _ _ l)
+    given-stranger l = let h = within in rw (le-ltb _ _ (h .0), ← e, lt-ltb at (length w) (omega (arith, h .1)))
 
-    pub given-fine : length w ≤ at → Fine ≡ givenOf number most letters w
+    pub given-fine : x .length ≤ at → Fine ≡ givenOf number most letters w
     unfolding givenOf
-    given-fine l = rw (le-ltb _ _ within, ← e, le-ltb _ _ l)
+    given-fine l = let h = within in rw (le-ltb _ _ (h .0), ← e, le-ltb at (length w) (omega (arith, h .1)))
 
-    pub position-fits : most ≤ 65535 → at < length w → Fits w16 at
-    position-fits k l = let h = within in omega arith
+    pub position-fits : most ≤ 65535 → at < x .length → Fits w16 at
+    position-fits k l = let h = within in omega (arith, h .0, h .1)
 
 pub ruleset givens = (given-long, given-stranger, given-fine, position-fits, needs)
 

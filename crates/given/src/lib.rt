@@ -23,11 +23,11 @@ fn check_word(number: u8, most: usize, letters: u8, word: &[u8]) -> Given
     ensures { λ r. ⌜ r ≡ givenOf number most letters (now (word .entry)) ⌝ }
 {
     let made = Word::make(word.len(), most);
-    let MadeWord::Good(_) = made else {
+    let MadeWord::Good(given) = made else {
         return Given::Refused(Refusal::Long(number));
     };
     let at = letters::first_unknown(word, letters);
-    if at < word.len() {
+    if at < given.length {
         return Given::Refused(Refusal::Stranger(number, at as u16));
     }
     Given::Fine

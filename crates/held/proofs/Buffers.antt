@@ -8,7 +8,7 @@ use native.Mathlib.Decide.{decLt}
 use lib.ListN.{length, take, drop, length-take, List·getD-eq-default}
 use lib.Seq.{take-at, getD-take, getD-drop}
 use Rattle.writing.proofs.Writing.{over-kept}
-use Rattle.limits.specs.Limits.{heldLength, heldPrefix, bookMost, heldRoom}
+use Rattle.limits.specs.Limits.{heldLengthAt, heldPrefix, bookMost, heldRoom}
 use Rattle.format.specs.Book.{field}
 use Rattle.format.specs.Bytes.{AreBytes}
 use Rattle.held.specs.Held.{bookIn, changesIn, heldBytes, holding}
@@ -44,4 +44,4 @@ rest-bytes n s are i = rw (getD-drop n s i 0) (are (n + i))
 -- the book of a buffer of bytes is one of bytes
 pub book-bytes : (held : List ℕ) → AreBytes held → AreBytes (bookIn held)
 unfolding bookIn
-book-bytes held are = front-bytes (field held heldLength) (drop heldPrefix held) (rest-bytes heldPrefix held are)
+book-bytes held are = front-bytes (field held heldLengthAt) (drop heldPrefix held) (rest-bytes heldPrefix held are)

@@ -6,14 +6,14 @@ use mathlib.Core.List.{List, _++_}
 use lib.Dec.{ltb, leb}
 use lib.ListN.{length, take, drop}
 use Rattle.writing.specs.Writing.{over}
-use Rattle.limits.specs.Limits.{heldLength, heldChanges, heldPrefix, heldRoom, changesMost, heldBuffer}
+use Rattle.limits.specs.Limits.{heldLengthAt, heldChangesAt, heldPrefix, heldRoom, changesMost, heldBuffer}
 use Rattle.refusals.specs.declared.Refusal.the-variants.{Narrow}
 use Rattle.format.specs.Book.{BookReading, refused, field, readBook}
 use Rattle.format.specs.Bytes.{fieldBytes}
 
 -- the book that is held: as many bytes as the length says, as far as the buffer has them
 unfoldable pub bookIn : List ℕ → List ℕ
-bookIn held = take (field held heldLength) (drop heldPrefix held)
+bookIn held = take (field held heldLengthAt) (drop heldPrefix held)
 
 -- where it begins, which is in the buffer in any case
 abbrev pub bookStart : List ℕ → ℕ
@@ -21,7 +21,7 @@ bookStart held = min heldPrefix (length held)
 
 -- the count of changes
 abbrev pub changesIn : List ℕ → ℕ
-changesIn held = field held heldChanges
+changesIn held = field held heldChangesAt
 
 -- what is told of it: nothing is counted in a buffer that has no room for the two fields
 unfoldable pub changesTold : List ℕ → ℕ

@@ -94,4 +94,4 @@ ChangesCounted = (held held′ : List ℕ) (changes : List Change) → Changes h
 -- so a held book takes at most 60,000 changes from loading
 abbrev pub ChangesLimited : Type 0
 ChangesLimited = (book lent : List ℕ) (n : ℕ) (held held′ : List ℕ) (changes : List Change) → loadOf book lent ≡ LoadOutcome.after (accepted n) held
-    → Changes held changes held′ → length changes ≤ 60000
+    → Changes held changes held′ → length changes ≤ changesMost

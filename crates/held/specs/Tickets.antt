@@ -6,7 +6,7 @@ use mathlib.Core.List.{List, _++_}
 use lib.Dec.{eqb, ltb}
 use lib.ListN.{length, take, drop}
 use Rattle.writing.specs.Writing.{over}
-use Rattle.limits.specs.Limits.{ticketChanges, ticketKind, ticketNumber, ticketPrefix, ticketRoom, ticketBuffer, additionKind, withdrawalKind}
+use Rattle.limits.specs.Limits.{ticketChangesAt, ticketKindAt, ticketNumberAt, ticketPrefix, ticketRoom, ticketBuffer, additionKind, withdrawalKind}
 use Rattle.refusals.specs.declared.Refusal.the-variants.{Narrow, StaleTicket, BookWorn}
 use Rattle.format.specs.Book.{field, differs}
 use Rattle.format.specs.Bytes.{fieldBytes}
@@ -29,15 +29,15 @@ ticketBytes changes (withdrawal i) = fieldsOf changes withdrawalKind i
 
 -- the count that a ticket has, whatever its bytes are; a byte that is not there is read as 0
 abbrev pub countIn : List ℕ → ℕ
-countIn ticket = field ticket ticketChanges
+countIn ticket = field ticket ticketChangesAt
 
 -- the bytes that it has for an addition: as many as the number says, as far as they are there
 unfoldable pub recordIn : List ℕ → List ℕ
-recordIn ticket = take (field ticket ticketNumber) (drop ticketPrefix ticket)
+recordIn ticket = take (field ticket ticketNumberAt) (drop ticketPrefix ticket)
 
 -- its change: every kind but that of additions is a withdrawal
 unfoldable pub changeIn : List ℕ → Change
-changeIn ticket = cond (eqb (field ticket ticketKind) additionKind) (addition (recordIn ticket)) (withdrawal (field ticket ticketNumber))
+changeIn ticket = cond (eqb (field ticket ticketKindAt) additionKind) (addition (recordIn ticket)) (withdrawal (field ticket ticketNumberAt))
 
 -- its count is not that of a held book
 abbrev pub stale : List ℕ → List ℕ → Bool

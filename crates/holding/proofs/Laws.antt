@@ -13,7 +13,7 @@ use mir.Syntax.{w64}
 use mir.Val.{Fits}
 use Rattle.writing.specs.Writing.{written}
 use Rattle.writing.proofs.Writing.{written-length, written-zero, written-behind, written-one}
-use Rattle.limits.specs.Limits.{heldLength, heldChanges, heldPrefix, heldRoom, heldBuffer}
+use Rattle.limits.specs.Limits.{heldLengthAt, heldChangesAt, heldPrefix, heldRoom, heldBuffer}
 use Rattle.refusals.specs.declared.Refusal.the-variants.{Narrow}
 use Rattle.format.specs.declared.Reading.{Reading}
 use Rattle.format.specs.declared.Reading.the-variants.{Refused}
@@ -41,16 +41,16 @@ pub ruleset fields = (field-room, field-put, needs)
 -- the number of bytes of the book that is held
 module _ (held : List ℕ) where
   -- it is what the length says, as far as the buffer has them
-  book-long : length (bookIn held) ≡ min (field held heldLength) (length held - heldPrefix)
+  book-long : length (bookIn held) ≡ min (field held heldLengthAt) (length held - heldPrefix)
   unfolding bookIn
-  book-long = length-take (field held heldLength) (drop heldPrefix held) ∙ ap (min (field held heldLength)) (length-drop heldPrefix held)
+  book-long = length-take (field held heldLengthAt) (drop heldPrefix held) ∙ ap (min (field held heldLengthAt)) (length-drop heldPrefix held)
 
   -- a buffer shorter than its two fields holds no book
   pub book-none : length held < heldPrefix → 0 ≡ length (bookIn held)
   book-none h = omega (arith, book-long)
 
   -- a longer one holds as much as the code finds
-  pub book-some : (n r : ℕ) → n ≡ field held heldLength → r ≡ min n (length held - heldPrefix) → r ≡ length (bookIn held)
+  pub book-some : (n r : ℕ) → n ≡ field held heldLengthAt → r ≡ min n (length held - heldPrefix) → r ≡ length (bookIn held)
   book-some n r e f = f ∙ ap (λ (m : ℕ). min m (length held - heldPrefix)) e ∙ sym book-long
 
   -- what is told of the count of changes
@@ -58,7 +58,7 @@ module _ (held : List ℕ) where
   unfolding changesTold
   told-none h = rw (lt-ltb (length held) heldPrefix h)
 
-  pub told-some : (r : ℕ) → heldPrefix ≤ length held → r ≡ field held heldChanges → r ≡ changesTold held
+  pub told-some : (r : ℕ) → heldPrefix ≤ length held → r ≡ field held heldChangesAt → r ≡ changesTold held
   unfolding changesTold
   told-some r h e = rw (le-ltb (length held) heldPrefix h) e
 
@@ -95,7 +95,7 @@ module _ (held : List ℕ) (start n : ℕ) (e : start ≡ bookStart held) (f : n
   -- the part is the book
   pub book-part : take (start + n - start) (drop start held) ≡ bookIn held
   unfolding bookIn
-  book-part = part-whole held heldPrefix (field held heldLength) start n e f
+  book-part = part-whole held heldPrefix (field held heldLengthAt) start n e f
 
 pub ruleset parts = (book-fits, book-counted, book-part, needs)
 
@@ -122,19 +122,19 @@ pub ruleset takings = (taken-narrow, taken-read, needs)
 -- the two fields and the book, written one behind the other, are a held book
 module _ (book held : List ℕ) (changes : ℕ) (h : Holdable book changes held) (n c : ℕ) (e : n ≡ length book) (f : c ≡ changes) where
   -- the two fields
-  fields-both : (a b : List ℕ) → a ≡ written heldLength (fieldBytes n) held → b ≡ written heldChanges (fieldBytes c) a
-      → b ≡ written heldLength (fieldBytes (length book) ++ fieldBytes changes) held
+  fields-both : (a b : List ℕ) → a ≡ written heldLengthAt (fieldBytes n) held → b ≡ written heldChangesAt (fieldBytes c) a
+      → b ≡ written heldLengthAt (fieldBytes (length book) ++ fieldBytes changes) held
   fields-both a b p q =
       q ∙ rw (p, e, f)
-      (written-behind heldLength (fieldBytes (length book)) (fieldBytes changes) held heldChanges (omega arith) (omega (arith, h .room)))
+      (written-behind heldLengthAt (fieldBytes (length book)) (fieldBytes changes) held heldChangesAt (omega arith) (omega (arith, h .room)))
 
   -- and the book
-  pub held-whole : (a b d : List ℕ) → a ≡ written heldLength (fieldBytes n) held → b ≡ written heldChanges (fieldBytes c) a
+  pub held-whole : (a b d : List ℕ) → a ≡ written heldLengthAt (fieldBytes n) held → b ≡ written heldChangesAt (fieldBytes c) a
       → d ≡ written heldPrefix book b → d ≡ holding changes book held
   unfolding holding
   held-whole a b d p q r =
       r ∙ ap (written heldPrefix book) (fields-both a b p q)
-      ∙ written-behind heldLength (fieldBytes (length book) ++ fieldBytes changes) book held heldPrefix (omega arith) (omega (arith, h .room))
+      ∙ written-behind heldLengthAt (fieldBytes (length book) ++ fieldBytes changes) book held heldPrefix (omega arith) (omega (arith, h .room))
       ∙ written-zero ((fieldBytes (length book) ++ fieldBytes changes) ++ book) held
 
 pub ruleset holds = (held-whole, needs)

@@ -22,7 +22,7 @@ fn book_length(held: &[u8]) -> usize
     if held.len() < Held::PREFIX {
         return 0;
     }
-    smaller(field_at(held, Held::LENGTH), held.len() - Held::PREFIX)
+    smaller(field_at(held, Held::LENGTH_AT), held.len() - Held::PREFIX)
 }
 
 // Where the book that is held begins.
@@ -66,7 +66,7 @@ pub fn changes_of(held: &[u8]) -> usize
     if held.len() < Held::PREFIX {
         return 0;
     }
-    field_at(held, Held::CHANGES)
+    field_at(held, Held::CHANGES_AT)
 }
 
 // Writes a two-byte field, little-endian.
@@ -83,7 +83,7 @@ pub fn hold(book: &[u8], changes: usize, held: &mut [u8])
     requires { ⌜ Holdable (now book) changes (now held) ⌝ }
     ensures { λ _. ⌜ now (held .exit) ≡ holding changes (now (book .entry)) (now (held .entry)) ⌝ }
 {
-    put_field(narrow(book.len()), held, Held::LENGTH);
-    put_field(narrow(changes), held, Held::CHANGES);
+    put_field(narrow(book.len()), held, Held::LENGTH_AT);
+    put_field(narrow(changes), held, Held::CHANGES_AT);
     writing::put_bytes(book, held, Held::PREFIX);
 }

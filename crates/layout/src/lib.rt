@@ -17,10 +17,10 @@ impl Text {
     pub const WORDS: usize = 2 * Relation::MOST;
 
     // The most letters of a relation word.
-    pub const WORD: usize = Relation::LETTERS;
+    pub const WORD: usize = Relation::MOST_LETTERS;
 
     // Letters are below this number; relation word i has the fence LETTERS + i.
-    pub const LETTERS: usize = Head::LETTERS;
+    pub const LETTERS: usize = Head::MOST_LETTERS;
 
     pub const ROOM: usize = Text::WORDS * (Text::WORD + 1);
 }

@@ -30,7 +30,14 @@ before rank [] (y ∷ v) = true
 before rank (x ∷ u) [] = false
 before rank (x ∷ u) (y ∷ v) = choose (eqb x y) (λ _. before rank u v) (λ _. ltb (rank x) (rank y))
 
--- the house table of document 01: the letters 32 to 63 have the ranks 0 to 31, and 0 to 31 the ranks 32 to 63; no other letter is below the limit, and each
--- further one has its own number
+-- the house table of document 01 has so many ranks, one for each letter below that number
+abbrev pub houseRanks : ℕ
+houseRanks = 64
+
+-- the letters of the cleaning steps, which come first, are those from this one on
+abbrev pub houseCleaning : ℕ
+houseCleaning = 32
+
+-- the rank of a letter: 32 to 63 have the ranks 0 to 31, and 0 to 31 the ranks 32 to 63; no other letter is below the limit, and each further one has its own number
 unfoldable pub houseRank : ℕ → ℕ
-houseRank c = cond (ltb c 32) (c + 32) (cond (ltb c 64) (c - 32) c)
+houseRank c = cond (ltb c houseCleaning) (c + (houseRanks - houseCleaning)) (cond (ltb c houseRanks) (c - houseCleaning) c)

@@ -34,9 +34,9 @@ pub record Asked (text table : List ℕ) (n : ℕ) (given : Word) (mark : Mark) 
   pub fits : MarkFits text mark
   pub piece : IsPiece (wordsIn text table n) (placedMark text mark)
 
--- no more letters are ever written than those of a relation word in each round; rounds are fewer than 65 for each letter of the given word
+-- no more letters are ever written than those of a relation word in each round; for each letter of the given word there is at most one round more than a relation word has letters
 abbrev pub writtenMost : ℕ
-writtenMost = sideMost * (65 * comparedMost)
+writtenMost = sideMost * ((sideMost + 1) * comparedMost)
 
 -- letters that fit in bytes, to be written behind so many others
 pub record LettersPuttable (c : Word) (at : ℕ) : Type 0 where

@@ -16,12 +16,23 @@ use moves::Mark;
 use moves::PlacedWord;
 use sites::Site;
 
+// The house table of ranks, by its numbers.
+pub struct House {}
+
+impl House {
+    // It has so many ranks, one for each letter below that number.
+    pub const RANKS: u16 = 64;
+
+    // The letters of the cleaning steps, which come first, are those from this one on.
+    pub const CLEANING: u16 = 32;
+}
+
 // The rank of a letter in the house table.
 fn rank(letter: u16) -> u16
     ensures { λ r. ⌜ r ≡ houseRank letter ⌝ }
 {
-    if letter < 64 {
-        return (letter + 32) % 64;
+    if letter < House::RANKS {
+        return (letter + (House::RANKS - House::CLEANING)) % House::RANKS;
     }
     letter
 }

@@ -9,6 +9,7 @@ use Rattle.words.specs.Words.{Word, part}
 use Rattle.congruence.specs.Rows.{Next, round}
 use Rattle.congruence.specs.Rows.Next.{end, go}
 use Rattle.congruence.specs.NoRelationPrefix.{NoRelationPrefix}
+use Rattle.layout.specs.Places.{wordMost}
 use Rattle.layout.specs.Layout.{wordsIn}
 use Rattle.layout.specs.Families.{familyBy, Grouped}
 use Rattle.changes.specs.declared.Change.{Change}
@@ -33,14 +34,14 @@ placedMark text m = part text (m .at) (m .to)
 pub record WordFits (text : List ℕ) (B : List Word) (source : Word) (h : PlacedWord) : Type 0 where
   pub up : h .at ≤ h .to
   pub inside : h .to ≤ length text
-  pub short : h .to ≤ h .at + 64
+  pub short : h .to ≤ h .at + wordMost
   pub within : h .from ≤ length source
   pub noPrefix : NoRelationPrefix B (part text (h .at) (h .to))
 
 pub record MarkFits (text : List ℕ) (m : Mark) : Type 0 where
   pub up : m .at ≤ m .to
   pub inside : m .to ≤ length text
-  pub short : m .to ≤ m .at + 64
+  pub short : m .to ≤ m .at + wordMost
 
 -- a state whose words and mark are held
 pub record StateFits (text : List ℕ) (B : List Word) (first second : Word) (s : State) : Type 0 where

@@ -14,7 +14,7 @@ use Rattle.refusals.specs.declared.Refusal.{Refusal}
 use Rattle.refusals.specs.declared.Refusal.the-variants.{Short, Kind, Length}
 use Rattle.limits.specs.declared.Record.{Record}
 use Rattle.limits.specs.declared.Record.the-variants.{Whole, CutOff}
-use Rattle.limits.specs.Limits.{comparisonKind, comparisonLength}
+use Rattle.limits.specs.Limits.{comparisonKind, comparisonFixedPayload}
 use Rattle.format.specs.Book.{field, recordAt, differs}
 use Rattle.format.proofs.Readings.{passed, passed-whole, equal-of, WholeAt, whole-at}
 use Rattle.records.specs.Reads.{Field, Payload}
@@ -180,11 +180,11 @@ lies-of input at r e a first second end f =
     let o = passed-whole (recordAt input at) _ _ _ (other _) (sym e ∙ f) in
     let w = whole-at input at (o .0) (o .1) (o .2) (o .3) in
     let b = passed (differs (o .0) comparisonKind) _ _ _ (other _) (o .4) in
-    let c = passed (differs (o .2 - o .1) (comparisonLength + field input (o .1 + 4) + field input (o .1 + 6))) _ _ _ (other _) (b .1) in
-    let l = equal-of (o .2 - o .1) (comparisonLength + field input (o .1 + 4) + field input (o .1 + 6)) (c .0) in
+    let c = passed (differs (o .2 - o .1) (comparisonFixedPayload + field input (o .1 + 4) + field input (o .1 + 6))) _ _ _ (other _) (b .1) in
+    let l = equal-of (o .2 - o .1) (comparisonFixedPayload + field input (o .1 + 4) + field input (o .1 + 6)) (c .0) in
     let t : longField input (o .1) ≡ a = cc (c .1) in
-    let x : o .1 + comparisonLength ≡ first = cc (c .1) in
-    let y : o .1 + comparisonLength + field input (o .1 + 4) ≡ second = cc (c .1) in
+    let x : o .1 + comparisonFixedPayload ≡ first = cc (c .1) in
+    let y : o .1 + comparisonFixedPayload + field input (o .1 + 4) ≡ second = cc (c .1) in
     let z : o .2 ≡ end = cc (c .1) in
     record {
       order = omega arith;

@@ -2,7 +2,7 @@
 use Prim.Native.Nat.{ℕ, _+_, _*_, _-_}
 use mathlib.Core.Bool.{cond}
 use mathlib.Core.List.{List}
-use Rattle.limits.specs.Limits.{comparisonKind, comparisonLength}
+use Rattle.limits.specs.Limits.{comparisonKind, comparisonFixedPayload}
 use Rattle.refusals.specs.declared.Refusal.the-variants.{Short, Kind, Length}
 use Rattle.format.specs.Book.{field, recordAt, onWhole, differs}
 use Rattle.output.specs.declared.Request.{Request}
@@ -16,8 +16,8 @@ longField input at = field input at + 65536 * field input (at + 2)
 -- its first word begins, where the second begins and where it ends
 unfoldable pub fieldsOf : List ℕ → ℕ → ℕ → ℕ → Request
 fieldsOf input place from to =
-    cond (differs (to - from) (comparisonLength + field input (from + 4) + field input (from + 6))) (Refused (Length place))
-    (Compare (longField input from) (from + comparisonLength) (from + comparisonLength + field input (from + 4)) to)
+    cond (differs (to - from) (comparisonFixedPayload + field input (from + 4) + field input (from + 6))) (Refused (Length place))
+    (Compare (longField input from) (from + comparisonFixedPayload) (from + comparisonFixedPayload + field input (from + 4)) to)
 
 -- the record at a position: 1 and 2, then 3
 unfoldable pub requestAt : List ℕ → ℕ → Request

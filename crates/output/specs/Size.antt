@@ -2,7 +2,7 @@
 use Prim.Native.Nat.{ℕ, _+_, _*_, _/_, _≤_}
 use mathlib.Core.List.{List, [], _∷_}
 use lib.ListN.{length}
-use Rattle.limits.specs.Limits.{recordPrefix, inputMost, comparisonLength}
+use Rattle.limits.specs.Limits.{recordPrefix, inputMost, comparisonFixedPayload}
 use Rattle.format.specs.Bytes.{AreBytes}
 use Rattle.output.specs.Program.{programOf}
 
@@ -12,7 +12,7 @@ lineMost = 22
 
 -- the bytes of the output are at most: a line for the book and one for each comparison record that the input has room for. A record takes at least 12 bytes
 abbrev pub outputMost : ℕ
-outputMost = lineMost * (1 + inputMost / (recordPrefix + comparisonLength))
+outputMost = lineMost * (1 + inputMost / (recordPrefix + comparisonFixedPayload))
 
 -- no input has a longer output
 abbrev pub OutputFits : Type 0

@@ -4,9 +4,9 @@ ghost use mathlib.Core.Path.{_≡_};
 ghost use Rattle.output.specs.Examples.{Hold, examples, HeavyFirst};
 ghost use Rattle.output.specs.Program.{FuelSuffices};
 ghost use Rattle.output.specs.Size.{OutputFits, sizes};
+use limits::ComparisonRecord;
 use limits::Input;
 use limits::Record;
-use limits::Word;
 use refusals::Refusal;
 
 // What the program writes, by its length.
@@ -19,7 +19,8 @@ impl Output {
     pub const LINE: usize = 22;
 
     // The most bytes of the output: a line for the book, and one for each comparison record that the input has room for.
-    pub const MOST: usize = Output::LINE * (1 + Input::MOST / (Record::PREFIX + Word::LENGTH));
+    pub const MOST: usize = Output::LINE
+        * (1 + Input::MOST / (Record::PREFIX + ComparisonRecord::FIXED_PAYLOAD));
 }
 
 // The worked examples hold of the definition of the output.

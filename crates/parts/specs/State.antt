@@ -9,7 +9,7 @@ use Rattle.least.specs.Order.{houseRank}
 use Rattle.least.specs.Possible.{possible}
 use Rattle.least.specs.Writing.{Part, writePart}
 use Rattle.least.specs.Writing.Part.{end, none, part as writes}
-use Rattle.layout.specs.Places.{lettersBound}
+use Rattle.layout.specs.Places.{wordMost, lettersBound}
 use Rattle.layout.specs.Layout.{wordsIn}
 use Rattle.layout.specs.Families.{familyBy}
 use Rattle.moves.specs.declared.PlacedWord.{PlacedWord}
@@ -61,12 +61,12 @@ pub record LeastReady (text table : List ℕ) (n : ℕ) (given : Word) (s : Leas
 
 -- what falls with every round: a letter of the given word weighs more than any part of the text
 abbrev pub weight : Word → PlacedWord → ℕ
-weight given h = (h .to - h .at) + 65 * (length given - h .from)
+weight given h = (h .to - h .at) + (wordMost + 1) * (length given - h .from)
 
 -- the letters written lie where they are said to lie, are few, and are letters if those of the given word are
 pub record SourceFits (text : List ℕ) (given : Word) (c : Source) : Type 0 where
   pub up : c .from ≤ c .to
-  pub short : c .to ≤ c .from + 64
+  pub short : c .to ≤ c .from + wordMost
   pub inGiven : c .given ≡ true → c .to ≤ length given
   pub inText : c .given ≡ false → c .to ≤ length text
   pub low : LettersLow given → LettersLow (sourceWord text given c)

@@ -8,6 +8,7 @@ use Rattle.words.specs.Words.{Word, isPrefix, part}
 use Rattle.overlap.specs.Cuts.{xylen, xyOf, zOf}
 use Rattle.congruence.specs.Rows.{Next, round}
 use Rattle.congruence.specs.Rows.Next.{end, go}
+use Rattle.layout.specs.Places.{wordMost}
 use Rattle.layout.specs.Layout.{wordsIn}
 use Rattle.layout.specs.Families.{familyBy}
 use Rattle.changes.specs.declared.Change.{Change}
@@ -37,7 +38,7 @@ pub record Tailed (text : List ℕ) (B : List Word) (w : Word) (c : Change) : Ty
 pub record Fit (text : List ℕ) (B : List Word) (w : Word) (c : Change) : Type 0 where
   pub up : c .from ≤ c .to
   pub inside : c .to ≤ length text
-  pub short : c .to ≤ c .from + 64
+  pub short : c .to ≤ c .from + wordMost
   pub within : c .cut ≤ length w
   pub tailed : c .from < c .to → Tailed text B w c
 
@@ -45,7 +46,7 @@ pub record Fit (text : List ℕ) (B : List Word) (w : Word) (c : Change) : Type 
 pub record MarkFit (text : List ℕ) (B : List Word) (p : Word) (c : Change) : Type 0 where
   pub up : c .from ≤ c .to
   pub inside : c .to ≤ length text
-  pub short : c .to ≤ c .from + 64
+  pub short : c .to ≤ c .from + wordMost
   pub within : c .cut ≤ length p
   pub whole : c .from < c .to → c .cut ≡ length p
 

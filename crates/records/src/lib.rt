@@ -39,7 +39,7 @@ pub fn relation_start(book: &[u8], k: usize) -> usize
     requires { ⌜ Starts (now book) k ⌝ }
     ensures { λ r. ⌜ r ≡ relationStart (now (book .entry)) k ⌝ }
 {
-    let mut at = Record::PREFIX + Head::LENGTH;
+    let mut at = Head::RECORD;
     let mut i = 0;
     while i < k {
         at = at + Record::PREFIX + field_at(book, at);

@@ -2,7 +2,7 @@
 use Prim.Native.Nat.{ℕ, _+_, _-_, _≤_, _<_}
 use mathlib.Core.Bool.{Bool, true, false, _||_, cond}
 use mathlib.Core.List.{List}
-use mathlib.Core.Path.{_≡_, refl, sym, _∙_}
+use mathlib.Core.Path.{_≡_, refl, sym, ap, _∙_}
 use native.Mathlib.Omega.{arith}
 use borrow.Author.Needs.{needs}
 use borrow.Author.Tests.{eq-eqb, ne-eqb, le-leb, lt-leb}
@@ -44,13 +44,13 @@ head-outside x e = go (outside 1 64 x) e
     go true q = refl
     go false q = absurd (let z : _≡_ {A = ℕ} 0 1 = cc in omega arith)
 
-head-inside : (x : ℕ) (h : Head) → headOf x ≡ MadeHeads.Good h → outside 1 64 x ≡ false
+head-inside : (x : ℕ) (h : Head) → headOf x ≡ MadeHeads.Good h → (outside 1 64 x ≡ false) × (h .letters ≡ x)
 unfolding headOf
 head-inside x h e = go (outside 1 64 x) e
   where
-    go : (b : Bool) → cond b MadeHeads.Range (MadeHeads.Good (record { letters = x })) ≡ MadeHeads.Good h → b ≡ false
+    go : (b : Bool) → cond b MadeHeads.Range (MadeHeads.Good (record { letters = x })) ≡ MadeHeads.Good h → (b ≡ false) × (h .letters ≡ x)
     go true q = absurd (let z : _≡_ {A = ℕ} 0 1 = cc in omega arith)
-    go false q = refl
+    go false q = let g : _≡_ {A = Head} (record { letters = x }) h = cc in (refl, sym (ap (λ (y : Head). y .letters) g))
 
 relation-outside : (m n : ℕ) → relationOf m n ≡ MadeRelations.Range → (outside 1 64 m || outside 1 64 n) ≡ true
 unfolding relationOf
@@ -60,13 +60,13 @@ relation-outside m n e = go (outside 1 64 m || outside 1 64 n) e
     go true q = refl
     go false q = absurd (let z : _≡_ {A = ℕ} 0 1 = cc in omega arith)
 
-relation-inside : (m n : ℕ) (r : Relation) → relationOf m n ≡ MadeRelations.Good r → (outside 1 64 m || outside 1 64 n) ≡ false
+relation-inside : (m n : ℕ) (r : Relation) → relationOf m n ≡ MadeRelations.Good r → ((outside 1 64 m || outside 1 64 n) ≡ false) × (r .left ≡ m)
 unfolding relationOf
 relation-inside m n r e = go (outside 1 64 m || outside 1 64 n) e
   where
-    go : (b : Bool) → cond b MadeRelations.Range (MadeRelations.Good (record { left = m; right = n })) ≡ MadeRelations.Good r → b ≡ false
+    go : (b : Bool) → cond b MadeRelations.Range (MadeRelations.Good (record { left = m; right = n })) ≡ MadeRelations.Good r → (b ≡ false) × (r .left ≡ m)
     go true q = absurd (let z : _≡_ {A = ℕ} 0 1 = cc in omega arith)
-    go false q = refl
+    go false q = let g : _≡_ {A = Relation} (record { left = m; right = n }) r = cc in (refl, sym (ap (λ (y : Relation). y .left) g))
 
 module _ (place : ℕ) (book : List ℕ) (at : ℕ) (o : Record) (e : o ≡ recordAt book at) where
   pub head-short : o ≡ CutOff → Heads.Refused (Short place) ≡ headAt 64 place book at
@@ -92,14 +92,14 @@ module _ (place : ℕ) (book : List ℕ) (at : ℕ) (o : Record) (e : o ≡ reco
     unfolding headAt
     head-length k l = rw (← e, f, eq-eqb kind 1 k, ne-eqb (to - from) 1 l)
 
-    module _ (k : kind ≡ 1) (l : to - from ≡ 1) (x : ℕ) (w : Widened 256 (byte book from) x) (made : MadeHead) (m : made ≡ headOf x) where
+    module _ (k : kind ≡ 1) (l : to - from ≡ 1) (made : MadeHead) (m : made ≡ headOf (byte book from)) where
       pub head-range : made ≡ MadeHeads.Range → Heads.Refused (Range place) ≡ headAt 64 place book at
       unfolding headAt
-      head-range g = rw (← e, f, eq-eqb kind 1 k, eq-eqb (to - from) 1 l, ← w .same, head-outside x (sym m ∙ g))
+      head-range g = rw (← e, f, eq-eqb kind 1 k, eq-eqb (to - from) 1 l, head-outside (byte book from) (sym m ∙ g))
 
-      pub head-good : (h : Head) → made ≡ MadeHeads.Good h → Heads.Read (byte book from) to ≡ headAt 64 place book at
+      pub head-good : (h : Head) → made ≡ MadeHeads.Good h → Heads.Read (h .letters) to ≡ headAt 64 place book at
       unfolding headAt
-      head-good h g = rw (← e, f, eq-eqb kind 1 k, eq-eqb (to - from) 1 l, ← w .same, head-inside x h (sym m ∙ g))
+      head-good h g = let i = head-inside (byte book from) h (sym m ∙ g) in rw (← e, f, eq-eqb kind 1 k, eq-eqb (to - from) 1 l, i .0, i .1)
 
     pub relation-kind : (letters count : ℕ) → (kind ≡ 2 → ⊥) → Relations.Refused (Kind place) ≡ relationAt letters count place book at
     unfolding relationAt
@@ -134,17 +134,22 @@ module _ (letters place : ℕ) (book : List ℕ) (from to : ℕ) (p : Payload bo
       fields-range g = rw (← v .same, ← w .same, eq-eqb (to - from) (2 + m + n) l, relation-outside m n (sym d ∙ g))
 
       module _ (r : Relation) (g : made ≡ MadeRelations.Good r) where
+        pub fields-middle : from + 2 + r .left ≤ to
+        fields-middle = let i = relation-inside m n r (sym d ∙ g) in omega (arith, i .1, p .order, l)
+
         pub fields-part : Payload book (from + 2) to
         fields-part = record { order = omega arith; inside = p .inside }
 
         module _ (u : Bool) (k : u ≡ unknownIn letters (part book (from + 2) to)) where
           pub fields-unknown : u ≡ true → Relations.Refused (UnknownLetter place) ≡ fieldsAt letters place book from to
           unfolding fieldsAt
-          fields-unknown h = rw (← v .same, ← w .same, eq-eqb (to - from) (2 + m + n) l, relation-inside m n r (sym d ∙ g), ← k, h)
+          fields-unknown h = rw (← v .same, ← w .same, eq-eqb (to - from) (2 + m + n) l, relation-inside m n r (sym d ∙ g) .0, ← k, h)
 
-          pub fields-good : u ≡ false → Relations.Read (from + 2) (from + 2 + m) to ≡ fieldsAt letters place book from to
+          pub fields-good : u ≡ false → Relations.Read (from + 2) (from + 2 + r .left) to ≡ fieldsAt letters place book from to
           unfolding fieldsAt
-          fields-good h = rw (← v .same, ← w .same, eq-eqb (to - from) (2 + m + n) l, relation-inside m n r (sym d ∙ g), ← k, h)
+          fields-good h =
+              let i = relation-inside m n r (sym d ∙ g) in
+              rw (← v .same, ← w .same, eq-eqb (to - from) (2 + m + n) l, i .0, i .1, ← k, h)
 
 pub ruleset fieldsets = (fields-none, fields-length, fields-range, fields-part, fields-unknown, fields-good, needs)
 

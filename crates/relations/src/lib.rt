@@ -28,15 +28,14 @@ pub fn head_at(book: &[u8], at: usize, place: usize) -> HeadReading
     };
     match kind {
         Head::KIND => {
-            if to - from != Head::LENGTH {
+            if to - from != Head::PAYLOAD {
                 return HeadReading::Refused(Refusal::Length(place));
             }
-            let letters = book[from];
-            let made = Head::make(wide(letters));
-            let MadeHead::Good(_) = made else {
+            let made = Head::make(book[from]);
+            let MadeHead::Good(head) = made else {
                 return HeadReading::Refused(Refusal::Range(place));
             };
-            HeadReading::Read(letters, to)
+            HeadReading::Read(head.letters, to)
         }
         _ => HeadReading::Refused(Refusal::Kind(place)),
     }
@@ -56,23 +55,23 @@ pub fn fields_at(book: &[u8], from: usize, to: usize, place: usize, letters: u8)
     requires { ⌜ Payload (now book) from to ⌝ }
     ensures { λ r. ⌜ r ≡ fieldsAt letters place (now (book .entry)) from to ⌝ }
 {
-    if to - from < Relation::LENGTH {
+    if to - from < Relation::FIXED_PAYLOAD {
         return RelationReading::Refused(Refusal::Length(place));
     }
     let m = wide(book[from]);
     let n = wide(book[from + 1]);
-    if to - from != Relation::LENGTH + m + n {
+    if to - from != Relation::FIXED_PAYLOAD + m + n {
         return RelationReading::Refused(Refusal::Length(place));
     }
     let made = Relation::make(m, n);
-    let MadeRelation::Good(_) = made else {
+    let MadeRelation::Good(relation) = made else {
         return RelationReading::Refused(Refusal::Range(place));
     };
-    let left = from + Relation::LENGTH;
+    let left = from + Relation::FIXED_PAYLOAD;
     if unknown_in(book, left, to, letters) {
         return RelationReading::Refused(Refusal::UnknownLetter(place));
     }
-    RelationReading::Read(left, left + m, to)
+    RelationReading::Read(left, left + relation.left, to)
 }
 
 // The relation whose record begins at `at`, so many standing before it: refusals 1, 2, 6, reported at `place`, then those of its fields.

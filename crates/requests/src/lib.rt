@@ -5,8 +5,8 @@ ghost use lib.ListN.{length};
 ghost use Rattle.records.specs.Reads.{Payload};
 ghost use Rattle.output.specs.Program.{bookEnd};
 ghost use Rattle.output.specs.Requests.{longField, fieldsOf, requestAt};
+use limits::ComparisonRecord;
 use limits::Record;
-use limits::Word;
 use output::Request;
 use records::field_at;
 use records::record_at;
@@ -28,7 +28,7 @@ pub fn book_end(input: &[u8]) -> usize
 {
     let mut at = 0;
     while Record::PREFIX <= input.len() - at {
-        if field_at(input, at + 2) == Word::KIND {
+        if field_at(input, at + 2) == ComparisonRecord::KIND {
             return at;
         }
         let record = record_at(input, at);
@@ -45,16 +45,16 @@ fn fields_at(input: &[u8], from: usize, to: usize, place: usize) -> Request
     requires { ⌜ Payload (now input) from to ⌝ }
     ensures { λ r. ⌜ r ≡ fieldsOf (now (input .entry)) place from to ⌝ }
 {
-    if to - from < Word::LENGTH {
+    if to - from < ComparisonRecord::FIXED_PAYLOAD {
         return Request::Refused(Refusal::Length(place));
     }
     let m = field_at(input, from + 4);
     let n = field_at(input, from + 6);
-    if to - from != Word::LENGTH + m + n {
+    if to - from != ComparisonRecord::FIXED_PAYLOAD + m + n {
         return Request::Refused(Refusal::Length(place));
     }
     let allowance = long_field_at(input, from);
-    let first = from + Word::LENGTH;
+    let first = from + ComparisonRecord::FIXED_PAYLOAD;
     Request::Compare(allowance, first, first + m, to)
 }
 
@@ -67,7 +67,7 @@ pub fn request_at(input: &[u8], at: usize) -> Request
         return Request::Refused(Refusal::Short(at));
     };
     match kind {
-        Word::KIND => fields_at(input, from, to, at),
+        ComparisonRecord::KIND => fields_at(input, from, to, at),
         _ => Request::Refused(Refusal::Kind(at)),
     }
 }

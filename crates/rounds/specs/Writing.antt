@@ -7,6 +7,7 @@ use Rattle.words.specs.Words.{Word}
 use Rattle.writing.specs.Writing.{over, Bytes}
 use Rattle.congruence.specs.Rows.{Next}
 use Rattle.congruence.specs.Rows.Next.{end, go}
+use Rattle.limits.specs.Limits.{roundMost, nextRoom, markMost}
 use Rattle.layout.specs.Families.{Grouped}
 use Rattle.changes.specs.declared.Change.{Change}
 use Rattle.changes.specs.declared.Plan.{Plan}
@@ -50,9 +51,9 @@ pub record Planned (text : List ℕ) (plan : Plan) (u v p nu nv np : List ℕ) :
 -- what a round asks of its words: a checked presentation with families, and the limits of u, v and p
 pub record GivenShort (text table : List ℕ) (n : ℕ) (u v p : Word) : Type 0 where
   pub grouped : Grouped text table n
-  pub shortU : length u ≤ 4160
-  pub shortV : length v ≤ 4160
-  pub shortP : length p ≤ 64
+  pub shortU : length u ≤ roundMost
+  pub shortV : length v ≤ roundMost
+  pub shortP : length p ≤ markMost
 
 -- two arrays have room for u and v
 pub record GivenRoom (text table : List ℕ) (n : ℕ) (u v p a c : List ℕ) : Type 0 where
@@ -63,9 +64,9 @@ pub record GivenRoom (text table : List ℕ) (n : ℕ) (u v p a c : List ℕ) : 
 -- what the single round asks of its words and buffers
 pub record Lent (text table : List ℕ) (n : ℕ) (u v p nu nv np : List ℕ) : Type 0 where
   pub given : GivenShort text table n u v p
-  pub roomU : 4224 ≤ length nu
-  pub roomV : 4224 ≤ length nv
-  pub roomP : 64 ≤ length np
+  pub roomU : nextRoom ≤ length nu
+  pub roomV : nextRoom ≤ length nv
+  pub roomP : markMost ≤ length np
 
 -- what the single round asks, over a text whose elements fit in bytes
 pub record LentInBytes (text table : List ℕ) (n : ℕ) (u v p nu nv np : List ℕ) : Type 0 where

@@ -11,7 +11,7 @@ use mir.Syntax.{w64}
 use mir.Val.{Fits}
 use Rattle.writing.specs.Writing.{written, over}
 use Rattle.writing.proofs.Writing.{over-kept, written-zero, written-behind}
-use Rattle.limits.specs.Limits.{ticketChanges, ticketKind, ticketNumber, ticketPrefix, additionKind, withdrawalKind}
+use Rattle.limits.specs.Limits.{ticketChangesAt, ticketKindAt, ticketNumberAt, ticketPrefix, additionKind, withdrawalKind}
 use Rattle.format.specs.Book.{byte, field}
 use Rattle.format.specs.Bytes.{fieldBytes}
 use Rattle.held.specs.declared.Asked.{Asked}
@@ -28,12 +28,12 @@ byte-none ticket at h = sym (List·getD-eq-default ticket 0 {n = at} h)
 pub ruleset bytes = (byte-none, needs)
 
 -- the record as a part of the ticket
-module _ (ticket : List ℕ) (start number n : ℕ) (e : start ≡ min ticketPrefix (length ticket)) (f : number ≡ field ticket ticketNumber)
+module _ (ticket : List ℕ) (start number n : ℕ) (e : start ≡ min ticketPrefix (length ticket)) (f : number ≡ field ticket ticketNumberAt)
     (g : n ≡ min number (length ticket - start)) where
   -- it has as many bytes as the code finds
   record-long : n ≡ length (recordIn ticket)
   unfolding recordIn
-  record-long = omega (arith, length-take (field ticket ticketNumber) (drop ticketPrefix ticket), length-drop ticketPrefix ticket)
+  record-long = omega (arith, length-take (field ticket ticketNumberAt) (drop ticketPrefix ticket), length-drop ticketPrefix ticket)
 
   -- it ends in the ticket
   pub record-fits : start + n ≤ length ticket
@@ -46,34 +46,34 @@ module _ (ticket : List ℕ) (start number n : ℕ) (e : start ≡ min ticketPre
   -- the part is the record
   pub record-part : take (start + n - start) (drop start ticket) ≡ recordIn ticket
   unfolding recordIn
-  record-part = part-whole ticket ticketPrefix (field ticket ticketNumber) start n e record-long
+  record-part = part-whole ticket ticketPrefix (field ticket ticketNumberAt) start n e record-long
 
 pub ruleset parts = (record-fits, record-counted, record-part, needs)
 
 -- the change of a ticket by its kind
-module _ (ticket : List ℕ) (kind : ℕ) (e : kind ≡ field ticket ticketKind) where
+module _ (ticket : List ℕ) (kind : ℕ) (e : kind ≡ field ticket ticketKindAt) where
   -- the kind of additions
   pub asked-addition : kind ≡ additionKind → changeAsked Addition (recordIn ticket) ≡ changeIn ticket
   unfolding changeIn
-  asked-addition h = rw (eq-eqb (field ticket ticketKind) additionKind (sym e ∙ h))
+  asked-addition h = rw (eq-eqb (field ticket ticketKindAt) additionKind (sym e ∙ h))
 
   -- every other kind
-  pub asked-withdrawal : (i : ℕ) → kind ≢ additionKind → i ≡ field ticket ticketNumber
+  pub asked-withdrawal : (i : ℕ) → kind ≢ additionKind → i ≡ field ticket ticketNumberAt
       → changeAsked (Withdrawal i) (recordIn ticket) ≡ changeIn ticket
   unfolding changeIn
-  asked-withdrawal i h f = rw (ne-eqb (field ticket ticketKind) additionKind (λ g. h (e ∙ g)), f)
+  asked-withdrawal i h f = rw (ne-eqb (field ticket ticketKindAt) additionKind (λ g. h (e ∙ g)), f)
 
 pub ruleset kinds = (asked-addition, asked-withdrawal, needs)
 
 -- the three fields, written one behind the other
 module _ (changes kind number : ℕ) (ticket : List ℕ) (h : FieldsWritable changes kind number ticket) where
-  pub fields-whole : (c k n : ℕ) (a b d : List ℕ) → c ≡ changes → a ≡ written ticketChanges (fieldBytes c) ticket → k ≡ kind
-      → b ≡ written ticketKind (fieldBytes k) a → n ≡ number → d ≡ written ticketNumber (fieldBytes n) b → d ≡ over (fieldsOf changes kind number) ticket
+  pub fields-whole : (c k n : ℕ) (a b d : List ℕ) → c ≡ changes → a ≡ written ticketChangesAt (fieldBytes c) ticket → k ≡ kind
+      → b ≡ written ticketKindAt (fieldBytes k) a → n ≡ number → d ≡ written ticketNumberAt (fieldBytes n) b → d ≡ over (fieldsOf changes kind number) ticket
   fields-whole c k n a b d e p f q g r =
       r ∙ rw (q, p, e, f, g)
-      (ap (written ticketNumber (fieldBytes number))
-      (written-behind ticketChanges (fieldBytes changes) (fieldBytes kind) ticket ticketKind (omega arith) (omega (arith, h .room)))
-      ∙ written-behind ticketChanges (fieldBytes changes ++ fieldBytes kind) (fieldBytes number) ticket ticketNumber (omega arith) (omega (arith, h .room))
+      (ap (written ticketNumberAt (fieldBytes number))
+      (written-behind ticketChangesAt (fieldBytes changes) (fieldBytes kind) ticket ticketKindAt (omega arith) (omega (arith, h .room)))
+      ∙ written-behind ticketChangesAt (fieldBytes changes ++ fieldBytes kind) (fieldBytes number) ticket ticketNumberAt (omega arith) (omega (arith, h .room))
       ∙ written-zero (fieldsOf changes kind number) ticket)
 
 -- the writing of a ticket

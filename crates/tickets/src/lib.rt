@@ -2,7 +2,7 @@
 ghost use mathlib.Core.Path.{_≡_};
 ghost use Prim.Native.Nat.{_≤_};
 ghost use Rattle.writing.specs.Writing.{over};
-ghost use Rattle.limits.specs.Limits.{ticketNumber};
+ghost use Rattle.limits.specs.Limits.{ticketNumberAt};
 ghost use Rattle.format.specs.Book.{byte, field};
 ghost use Rattle.held.specs.Asked.{changeAsked};
 ghost use Rattle.held.specs.Tickets.{fieldsOf, ticketBytes, countIn, recordIn, changeIn};
@@ -27,7 +27,7 @@ fn byte_at(ticket: &[u8], at: usize) -> u8
 
 // The two-byte field at a position, little-endian.
 fn field_at(ticket: &[u8], at: usize) -> usize
-    requires { ⌜ at ≤ ticketNumber ⌝ }
+    requires { ⌜ at ≤ ticketNumberAt ⌝ }
     ensures { λ r. ⌜ r ≡ field (now (ticket .entry)) at ⌝ }
 {
     wide(byte_at(ticket, at)) + 256 * wide(byte_at(ticket, at + 1))
@@ -37,7 +37,7 @@ fn field_at(ticket: &[u8], at: usize) -> usize
 pub fn count_of(ticket: &[u8]) -> usize
     ensures { λ r. ⌜ r ≡ countIn (now (ticket .entry)) ⌝ }
 {
-    field_at(ticket, Ticket::CHANGES)
+    field_at(ticket, Ticket::CHANGES_AT)
 }
 
 // The bytes of an addition, as a part of the ticket.
@@ -45,7 +45,7 @@ pub fn record_of(ticket: &[u8]) -> &[u8]
     ensures { λ r. ⌜ now r ≡ recordIn (now (ticket .entry)) ⌝ }
 {
     let start = smaller(Ticket::PREFIX, ticket.len());
-    let end = start + smaller(field_at(ticket, Ticket::NUMBER), ticket.len() - start);
+    let end = start + smaller(field_at(ticket, Ticket::NUMBER_AT), ticket.len() - start);
     &ticket[start..end]
 }
 
@@ -53,11 +53,11 @@ pub fn record_of(ticket: &[u8]) -> &[u8]
 pub fn asked_in(ticket: &[u8]) -> Asked
     ensures { λ r. ⌜ changeAsked r (recordIn (now (ticket .entry))) ≡ changeIn (now (ticket .entry)) ⌝ }
 {
-    let kind = field_at(ticket, Ticket::KIND);
+    let kind = field_at(ticket, Ticket::KIND_AT);
     if kind == Ticket::ADDITION {
         return Asked::Addition;
     }
-    Asked::Withdrawal(field_at(ticket, Ticket::NUMBER))
+    Asked::Withdrawal(field_at(ticket, Ticket::NUMBER_AT))
 }
 
 // Writes the three fields.
@@ -65,9 +65,9 @@ fn put_fields(changes: usize, kind: usize, number: usize, ticket: &mut [u8])
     requires { ⌜ FieldsWritable changes kind number (now ticket) ⌝ }
     ensures { λ _. ⌜ now (ticket .exit) ≡ over (fieldsOf changes kind number) (now (ticket .entry)) ⌝ }
 {
-    put_field(narrow(changes), ticket, Ticket::CHANGES);
-    put_field(narrow(kind), ticket, Ticket::KIND);
-    put_field(narrow(number), ticket, Ticket::NUMBER);
+    put_field(narrow(changes), ticket, Ticket::CHANGES_AT);
+    put_field(narrow(kind), ticket, Ticket::KIND_AT);
+    put_field(narrow(number), ticket, Ticket::NUMBER_AT);
 }
 
 // Writes a ticket of the change that is asked for at the start of a lent buffer.

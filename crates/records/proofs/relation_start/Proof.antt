@@ -17,7 +17,6 @@ relation-start-spec =
     μ-loop
     (λ c. search starts)
     (λ c. search starts)
-    (λ c. search starts)
     (λ c κs. search starts)
     (λ c. search starts)
     (λ c. search starts)

@@ -14,7 +14,6 @@ head-at-spec =
     (λ c. search heads)
     (λ c. search heads)
     (λ c κs. search heads)
-    (λ c κs. search heads)
     (λ c. search heads)
     (λ c. search heads)
     (λ c. search heads)
