@@ -22,13 +22,13 @@ SPECIFICATION = ROOT / "docs/SPECIFICATION.md"
 
 # what the proved sources say, and its name in the header, without VANECITRON_, and in the wrapper
 LIMITS = {
-    "Head::LETTERS": "LETTERS",
+    "Head::MOST_LETTERS": "LETTERS",
     "Relation::MOST": "RULES",
-    "Relation::LETTERS": "SIDE",
+    "Relation::MOST_LETTERS": "SIDE",
     "Word::COMPARED": "RUN",
     "Word::ROUND": "ROUND_RUN",
     "Word::MARK": "ROUND_MARK",
-    "Word::ALLOWANCE": "ALLOWANCE",
+    "ComparisonRecord::ALLOWANCE": "ALLOWANCE",
     "Word::SPACING": "PLACE_SPACING",
     "Input::MOST": "INPUT",
     "Sheet::COLUMNS": "SHEET_SIDE",
@@ -41,7 +41,7 @@ LIMITS = {
     "Word::NEXT": "NEXT_RUN",
     "Word::MARK ": "NEXT_MARK",
     "Output::MOST": "OUTPUT",
-    "Word::LEAST": "LEAST",
+    "Word::LEAST_WORD": "LEAST",
     "Held::BOOK": "BOOK_MOST",
     "Held::ROOM": "HELD",
     "Held::COUNTED": "CHANGES_MOST",
@@ -75,8 +75,8 @@ def associated_constants():
 
 
 def value(expression, constants):
-    """An expression over constants and numbers; KeyError where a constant is missing."""
-    numbers = re.sub(r"\w+::\w+", lambda match: str(value(constants[match[0]], constants)), expression.strip())
+    """An expression over constants and numbers, on one line or more; KeyError where a constant is missing."""
+    numbers = re.sub(r"\w+::\w+", lambda match: str(value(constants[match[0]], constants)), " ".join(expression.split()))
     return eval(numbers.replace("/", "//"), {"__builtins__": {}})
 
 

@@ -17,7 +17,7 @@ pub enum Given {
     Refused(Refusal),
 }
 
-// One given word, by its number and the most letters that it may have.
+// One given word, by its number and the most letters that it may have. A position in it has two bytes, and 65,535 is no limit of the papers.
 fn check_word(number: u8, most: usize, letters: u8, word: &[u8]) -> Given
     requires { ⌜ most ≤ 65535 ⌝ }
     ensures { λ r. ⌜ r ≡ givenOf number most letters (now (word .entry)) ⌝ }

@@ -31,7 +31,7 @@ pub record IdleAsked (text table : List ℕ) (n : ℕ) (given : Word) (i j k : �
   pub rest : RestAsked text table n given i k
   pub idle : (x : Bool) → x ≡ active (wordsIn text table n) (zOf (wordsIn text table n) j) (drop k given) → x ≡ false
 
--- text[at..to] and a place of the given word
+-- text[at..to] and a place of the given word; the places of both are small
 pub record QuietAsked (text table : List ℕ) (n : ℕ) (given : Word) (at to k : ℕ) : Type 0 where
   pub checked : Checked text table n
   pub span : Span text at to

@@ -88,7 +88,7 @@ abbrev pub Applicable : State → Plan → Type 0
 Applicable s (Plans.End b) = Unit {0}
 Applicable s (Plans.Go cu cv cp) = Movable (s .u) cu × Movable (s .v) cv × MarkMovable (s .mark) cp
 
--- a checked presentation with families in arrays, in a text whose places are small
+-- a checked presentation with families in arrays, in a text whose places are small: 65536 is no limit of the papers and only keeps sums in range
 pub record Ready (text table : List ℕ) (n : ℕ) : Type 0 where
   pub grouped : Grouped text table n
   pub text-short : length text ≤ 65536

@@ -35,7 +35,7 @@ fn reaches(longest: &[u8], q: usize, letters: u8) -> bool
     letters <= longest[q]
 }
 
-// The mark of so many letters from a place on.
+// The mark of so many letters from a place on. Its bound is no limit of the papers and only keeps the sum in range.
 fn mark_at(at: usize, letters: usize) -> Mark
     requires { ⌜ at + letters ≤ 65536 ⌝ }
     ensures { λ r. ⌜ r ≡ markAt at letters ⌝ }

@@ -53,7 +53,7 @@ pub record LeastFits (text : List ℕ) (B : List Word) (family : ℕ → ℕ) (g
   pub mark : MarkFits text (s .mark)
   pub hint : HintRight text B family given (s .word) (s .hint)
 
--- a state from which a round can be made
+-- a state from which a round can be made, in a given word whose places are small
 pub record LeastReady (text table : List ℕ) (n : ℕ) (given : Word) (s : LeastState) : Type 0 where
   pub ready : Ready text table n
   pub short : length given ≤ 65536

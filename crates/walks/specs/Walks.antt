@@ -31,7 +31,7 @@ pub record FirstClean (B : List Word) (w : Word) (from to q : ℕ) : Type 0 wher
   pub none : (k : ℕ) → from ≤ k → k < q → length B ≤ cleanRelationPrefix B (drop k w)
   pub some : q < to → cleanRelationPrefix B (drop q w) < length B
 
--- a mark, text[at..to], and the given word from `from` on
+-- a mark, text[at..to], and the given word from `from` on, whose places are small: 65536 is no limit of the papers and only keeps sums in range
 pub record Walking (text table : List ℕ) (n : ℕ) (given : Word) (at to from : ℕ) : Type 0 where
   pub ready : Ready text table n
   pub short : length given ≤ 65536
