@@ -5,3 +5,4 @@ pub mod Rooms
 pub mod Sheets
 pub mod LeastWords
 pub mod LeastCalls
+pub mod Keeping

@@ -2,3 +2,4 @@ pub mod Answers
 pub mod Entries
 pub mod Parts
 pub mod Demands
+pub mod Keeping

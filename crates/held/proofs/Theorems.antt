@@ -1,18 +1,20 @@
 -- The demands on held books.
 use Prim.Native.Nat.{ℕ, _*_, _-_, _≤_, _<_}
+use mathlib.Core.Bool.{Bool, true, false, cond}
 use mathlib.Core.List.{List, [], _∷_}
 use mathlib.Core.Path.{_≡_, refl, sym, ap, _∙_, subst}
 use native.Mathlib.Omega.{arith}
 use borrow.Author.Tests.{lt-ltb, le-ltb, le-leb, lt-leb}
+use lib.Dec.{ltb}
 use lib.ListN.{length, length-append}
 use Rattle.words.specs.Relations.{relationWords}
 use Rattle.words.proofs.Relations.{withdrawn-sides, added-sides}
 use Rattle.overlap.specs.Verdict.{Verdict, judge}
 use Rattle.overlap.proofs.Fewer.{fewer-accepted}
 use Rattle.writing.specs.Writing.{over}
-use Rattle.limits.specs.Limits.{sheetColumns, heldRoom}
+use Rattle.limits.specs.Limits.{sheetColumns, heldRoom, heldBuffer}
 use Rattle.refusals.specs.declared.Refusal.the-variants.{Narrow, NoSuchRelation, BookWorn}
-use Rattle.format.specs.Book.{Presentation, adding, without, read, relationIn}
+use Rattle.format.specs.Book.{Presentation, adding, without, BookReading, read, relationIn}
 use Rattle.format.specs.Bytes.{bookBytes}
 use Rattle.format.proofs.Lengths.{bytes-few}
 use Rattle.format.proofs.Bytes.{read-bytes}
@@ -20,12 +22,12 @@ use Rattle.format.proofs.Unique.{bytes-unique, without-within, without-length}
 use Rattle.format.proofs.Additions.{without-last}
 use Rattle.presentation.specs.Loading.{loadBook}
 use Rattle.sheet.specs.Sheet.{cutSheet}
-use Rattle.answers.specs.Answers.{accepted}
+use Rattle.answers.specs.Answers.{accepted, refused, refusal}
 use Rattle.answers.specs.Entries.{SheetOutcome, sheetOf}
 use Rattle.held.specs.Held.{bookIn, changesAfter, worn, holding}
-use Rattle.held.specs.Changes.{loadOf, Change, addition, withdrawal, changed, changedIn, refuses, settled, effectOf, lastly, ChangeOutcome, made, changeOf}
+use Rattle.held.specs.Changes.{LoadOutcome, loadOf, Change, addition, withdrawal, changed, changedIn, refuses, settled, effectOf, lastly, ChangeOutcome, made, changeOf}
 use Rattle.held.specs.Tickets.{changeIn}
-use Rattle.held.specs.Demands.{Holds, HeldFits, LoadedHolds, LoadingsHold, RefusedKeeps, WithdrawalsHold, AdditionsNeedC4, Changes, ChangesTo, Fresh, ChangesFresh, AdditionsUndone}
+use Rattle.held.specs.Demands.{Holds, HeldFits, LoadedHolds, LoadingsHold, LoadingsKeep, RefusedKeeps, WithdrawalsHold, AdditionsNeedC4, Changes, ChangesTo, Fresh, ChangesFresh, AdditionsUndone}
 use Rattle.held.proofs.Buffers.{book-held, changes-held, holding-long, book-bytes}
 use Rattle.held.proofs.Effects.{made-refused, change-fresh, change-worn, change-refused, posted-direct}
 use Rattle.held.proofs.Steps.{loaded-read, loaded-within, read-loads, Taken, changed-in, added, leadsTo, settles, Accepted, accepted-change, accepted-taken}
@@ -58,6 +60,21 @@ loadings-hold book held presentation are e room =
       same = book-held 0 book held;
       unchanged = changes-held 0 book held;
     }
+
+-- a book that is held has another answer
+pub loadings-keep : LoadingsKeep
+unfolding loadOf
+loadings-keep book held n place held′ e = go (loadBook book) refl
+  where
+    go : (o : BookReading) → loadBook book ≡ o → held′ ≡ held
+    go (BookReading.refused r) f = let d : LoadOutcome.after (refusal r) held ≡ LoadOutcome.after (refused n place) held′ = rw f at e in cc
+    go (BookReading.read p) f = room (ltb (length held) heldRoom) (rw f at e)
+      where
+        room : (b : Bool)
+            → cond b (LoadOutcome.after (refusal (Narrow heldBuffer)) held) (LoadOutcome.after (accepted (length (p .relations))) (holding 0 book held)) ≡ LoadOutcome.after (refused n place) held′
+            → held′ ≡ held
+        room true d = cc
+        room false d = let z : _≡_ {A = ℕ} 0 1 = cc in absurd (omega arith)
 
 pub refused-keeps : RefusedKeeps
 unfolding changeOf

@@ -41,6 +41,10 @@ pub record LoadingHolds (book held : List ℕ) (presentation : Presentation) : T
 abbrev pub LoadingsHold : Type 0
 LoadingsHold = (book held : List ℕ) (presentation : Presentation) → AreBytes book → loadBook book ≡ read presentation → heldRoom ≤ length held → LoadingHolds book held presentation
 
+-- a refused loading leaves the lent buffer as it was
+abbrev pub LoadingsKeep : Type 0
+LoadingsKeep = (book held : List ℕ) (n place : ℕ) (held′ : List ℕ) → loadOf book held ≡ LoadOutcome.after (refused n place) held′ → held′ ≡ held
+
 -- a refused change leaves both lent buffers as they were
 abbrev pub RefusedKeeps : Type 0
 RefusedKeeps = (change : Change) (held sheet : List ℕ) (n place : ℕ) (held′ sheet′ : List ℕ)

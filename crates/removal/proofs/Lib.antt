@@ -1,2 +1,3 @@
 pub mod Removals
 pub mod Theorems
+pub mod Keeping

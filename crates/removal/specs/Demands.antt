@@ -66,3 +66,8 @@ abbrev pub ClassesAlike : Type 0
 ClassesAlike = (book : List ℕ) (u v p : Word) (old : List ℕ) (offset : ℕ) (presentation : Presentation) → loadBook book ≡ BookReading.read presentation
     → markedOf (presentation .letters) u p ≡ Givens.Fine → markedOf (presentation .letters) v p ≡ Givens.Fine → Congruent (relationWords (presentation .relations)) u v
     → removalOf book u p old offset ≡ removalOf book v p old offset
+
+-- a refusal keeps every lent byte, whatever its number and place are
+abbrev pub RemovalsKeep : Type 0
+RemovalsKeep = (book : List ℕ) (u p : Word) (old : List ℕ) (offset n place : ℕ) (buffer : List ℕ)
+    → removalOf book u p old offset ≡ WordOutcome.after (refused n place) buffer → buffer ≡ old

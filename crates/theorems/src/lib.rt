@@ -11,8 +11,9 @@ ghost use Rattle.format.specs.Book.{FuelSuffices};
 ghost use Rattle.format.specs.Bytes.{ReadBytes, ReadWithin, BytesUnique, BytesFew, AdditionsRead};
 ghost use Rattle.format.specs.Examples.{Hold, examples};
 ghost use Rattle.answers.specs.Demands.{Acceptance, CutsReported, LeastWritten, LeastDecides};
-ghost use Rattle.removal.specs.Demands.{NothingRemoved, LongNoPiece, JoinedComeOff, ClassesAlike};
-ghost use Rattle.held.specs.Demands.{HeldFits, LoadedHolds, LoadingsHold, RefusedKeeps, WithdrawalsHold, AdditionsNeedC4, ChangesFresh, AdditionsUndone};
+ghost use Rattle.answers.specs.Keeping.{RefusalsKeep};
+ghost use Rattle.removal.specs.Demands.{NothingRemoved, LongNoPiece, JoinedComeOff, ClassesAlike, RemovalsKeep};
+ghost use Rattle.held.specs.Demands.{HeldFits, LoadedHolds, LoadingsHold, LoadingsKeep, RefusedKeeps, WithdrawalsHold, AdditionsNeedC4, ChangesFresh, AdditionsUndone};
 ghost use Rattle.held.specs.Postings.{TicketsRead, TicketsFit, ProposalsKeep, PostingsKeep, ProposalsOfChange, NeverStale, PostingsAreChanges, PostingsHold, PostedOnTheSpot, ChangesCounted, ChangesLimited};
 
 // --- Distinct words and families (crate `words`). ---
@@ -203,6 +204,11 @@ pub fn least_words_agree()
     ensures { λ _. ⌜ LeastDecides ⌝ }
 {}
 
+// A refusal keeps every lent byte: of the sheet, of a round, of the least word and of the program.
+pub fn refusals_keep()
+    ensures { λ _. ⌜ RefusalsKeep ⌝ }
+{}
+
 // --- Taking a prefix off (crate `removal`). ---
 
 // With the empty piece it is the least word, with all its refusals.
@@ -225,6 +231,11 @@ pub fn classes_have_one_answer()
     ensures { λ _. ⌜ ClassesAlike ⌝ }
 {}
 
+// A refusal keeps every lent byte.
+pub fn refused_removals_keep()
+    ensures { λ _. ⌜ RemovalsKeep ⌝ }
+{}
+
 // --- Held books, changes, proposals and postings (crate `held`). ---
 
 // The room of a held book suffices for 32 relations at their longest.
@@ -240,6 +251,11 @@ pub fn loaded_is_held()
 // An accepted book is held as it is loaded.
 pub fn loading_holds()
     ensures { λ _. ⌜ LoadingsHold ⌝ }
+{}
+
+// A refused loading changes nothing.
+pub fn refused_loadings_keep()
+    ensures { λ _. ⌜ LoadingsKeep ⌝ }
 {}
 
 // A refused change changes nothing.
