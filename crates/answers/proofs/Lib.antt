@@ -6,3 +6,4 @@ pub mod Sheets
 pub mod LeastWords
 pub mod LeastCalls
 pub mod Keeping
+pub mod Program

@@ -3,3 +3,4 @@ pub mod Entries
 pub mod Parts
 pub mod Demands
 pub mod Keeping
+pub mod Program

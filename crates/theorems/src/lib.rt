@@ -12,6 +12,7 @@ ghost use Rattle.format.specs.Bytes.{ReadBytes, ReadWithin, BytesUnique, BytesF
 ghost use Rattle.format.specs.Examples.{Hold, examples};
 ghost use Rattle.answers.specs.Demands.{Acceptance, CutsReported, LeastWritten, LeastDecides};
 ghost use Rattle.answers.specs.Keeping.{RefusalsKeep};
+ghost use Rattle.answers.specs.Program.{ProgramCompares};
 ghost use Rattle.removal.specs.Demands.{NothingRemoved, LongNoPiece, JoinedComeOff, ClassesAlike, RemovalsKeep};
 ghost use Rattle.held.specs.Demands.{HeldFits, LoadedHolds, LoadingsHold, LoadingsKeep, RefusedKeeps, WithdrawalsHold, AdditionsNeedC4, ChangesFresh, AdditionsUndone};
 ghost use Rattle.held.specs.Postings.{TicketsRead, TicketsFit, ProposalsKeep, PostingsKeep, ProposalsOfChange, NeverStale, PostingsAreChanges, PostingsHold, PostedOnTheSpot, ChangesCounted, ChangesLimited};
@@ -207,6 +208,11 @@ pub fn least_words_agree()
 // A refusal keeps every lent byte: of the sheet, of a round, of the least word and of the program.
 pub fn refusals_keep()
     ensures { λ _. ⌜ RefusalsKeep ⌝ }
+{}
+
+// Each line of the program is an answer of the check or of the comparison, which decides.
+pub fn program_compares()
+    ensures { λ _. ⌜ ProgramCompares ⌝ }
 {}
 
 // --- Taking a prefix off (crate `removal`). ---
