@@ -5,3 +5,4 @@ pub mod Tickets
 pub mod Theorems
 pub mod Numbers
 pub mod Postings
+pub mod Additions

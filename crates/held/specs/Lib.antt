@@ -4,3 +4,4 @@ pub mod Asked
 pub mod Tickets
 pub mod Demands
 pub mod Postings
+pub mod Additions

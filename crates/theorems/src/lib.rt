@@ -15,6 +15,7 @@ ghost use Rattle.answers.specs.Keeping.{RefusalsKeep};
 ghost use Rattle.answers.specs.Program.{ProgramCompares};
 ghost use Rattle.removal.specs.Demands.{NothingRemoved, LongNoPiece, JoinedComeOff, ClassesAlike, RemovalsKeep};
 ghost use Rattle.held.specs.Demands.{HeldFits, LoadedHolds, LoadingsHold, LoadingsKeep, RefusedKeeps, WithdrawalsHold, AdditionsNeedC4, ChangesFresh, AdditionsUndone};
+ghost use Rattle.held.specs.Additions.{AdditionsAtTheEnd};
 ghost use Rattle.held.specs.Postings.{TicketsRead, TicketsFit, ProposalsKeep, PostingsKeep, ProposalsOfChange, NeverStale, PostingsAreChanges, PostingsHold, PostedOnTheSpot, ChangesCounted, ChangesLimited};
 
 // --- Distinct words and families (crate `words`). ---
@@ -272,6 +273,11 @@ pub fn refused_keeps()
 // A withdrawal from a held book is never refused as loose.
 pub fn withdrawals_hold()
     ensures { λ _. ⌜ WithdrawalsHold ⌝ }
+{}
+
+// An addition has the answer and the sheet of the book with its record at the end.
+pub fn additions_are_at_the_end()
+    ensures { λ _. ⌜ AdditionsAtTheEnd ⌝ }
 {}
 
 // An addition is accepted only where the held book itself meets C(4).
