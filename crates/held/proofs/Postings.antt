@@ -25,7 +25,7 @@ use Rattle.held.specs.Demands.{Changes}
 use Rattle.held.specs.Postings.{ProposalsKeep, PostingsKeep, OfChange, ProposalsOfChange, NeverStale, PostingsAreChanges, PostingsHold, OnTheSpot, PostedOnTheSpot, Counted, ChangesCounted, ChangesLimited}
 use Rattle.held.proofs.Steps.{passed-loaded, made-first}
 use Rattle.held.proofs.Effects.{leads-or-refuses, made-refused, shown-accepted, shown-refused, lastly-leads, Taking, change-accepted, change-fresh, change-refused, post-accepted, posted-direct}
-use Rattle.held.proofs.Tickets.{tickets-read}
+use Rattle.held.proofs.Tickets.{ticket-back}
 use Rattle.held.proofs.Numbers.{OwnEffect, effect-own}
 
 pub proposals-keep : ProposalsKeep
@@ -158,7 +158,7 @@ record TicketOf (ticket : List ℕ) (change : Change) (held : List ℕ) : Type 0
 
 ticket-of : (change : Change) (held buffer : List ℕ) → TicketOf (over (ticketBytes (changesTold held) change) buffer) change held
 ticket-of change held buffer =
-    let r = tickets-read (changesTold held) change buffer in
+    let r = ticket-back (changesTold held) change buffer in
     record { count = r .0; changes = r .1 }
 
 module _ (ticket : List ℕ) (change : Change) (held : List ℕ) (t : TicketOf ticket change held) where

@@ -5,16 +5,29 @@ use mathlib.Core.Path.{_≡_}
 use lib.ListN.{length}
 use Rattle.writing.specs.Writing.{over}
 use Rattle.limits.specs.Limits.{sheetColumns, changesMost, ticketRoom}
+use Rattle.format.specs.Bytes.{AreBytes}
 use Rattle.answers.specs.Answers.{accepted, refused}
 use Rattle.held.specs.Held.{changesTold}
-use Rattle.held.specs.Changes.{LoadOutcome, loadOf, Change, leads, effectOf, ChangeOutcome, changeOf}
-use Rattle.held.specs.Tickets.{ticketBytes, countIn, changeIn, ProposalOutcome, proposeOf, postOf}
+use Rattle.held.specs.Changes.{LoadOutcome, loadOf, Change, addition, withdrawal, leads, effectOf, ChangeOutcome, changeOf}
+use Rattle.held.specs.Tickets.{numberOf, ticketBytes, countIn, changeIn, ProposalOutcome, proposeOf, postOf}
 use Rattle.held.specs.Demands.{Changes}
 
--- a ticket that is written is read back: its count and its change, whatever stands behind it
+-- what a change brings along is bytes
+abbrev pub InBytes : Change → Type 0
+InBytes (addition bytes) = AreBytes bytes
+InBytes (withdrawal i) = Unit {0}
+
+-- a ticket whose count and number two bytes can have is a list of bytes, and what is written is read back: its count and its change, whatever stands behind it
 abbrev pub TicketsRead : Type 0
-TicketsRead = (changes : ℕ) (change : Change) (buffer : List ℕ)
-    → (countIn (over (ticketBytes changes change) buffer) ≡ changes) × (changeIn (over (ticketBytes changes change) buffer) ≡ change)
+TicketsRead = (changes : ℕ) (change : Change) (buffer : List ℕ) → changes < 65536 → numberOf change < 65536 → InBytes change
+    → AreBytes (ticketBytes changes change)
+    × (countIn (over (ticketBytes changes change) buffer) ≡ changes)
+    × (changeIn (over (ticketBytes changes change) buffer) ≡ change)
+
+-- that is so of every ticket that is written: the count of a held book is below that, and so is the number of every change that is not refused
+abbrev pub TicketsSmall : Type 0
+TicketsSmall = (change : Change) (held : List ℕ) (room n : ℕ) (book cuts : List ℕ) → AreBytes held → effectOf change held room ≡ leads n book cuts
+    → (changesTold held < 65536) × (numberOf change < 65536)
 
 -- the room of a ticket suffices for every change that is not refused
 abbrev pub TicketsFit : Type 0

@@ -16,7 +16,7 @@ ghost use Rattle.answers.specs.Program.{ProgramCompares};
 ghost use Rattle.removal.specs.Demands.{NothingRemoved, LongNoPiece, JoinedComeOff, ClassesAlike, RemovalsKeep};
 ghost use Rattle.held.specs.Demands.{HeldFits, LoadedHolds, LoadingsHold, LoadingsKeep, RefusedKeeps, WithdrawalsHold, AdditionsNeedC4, ChangesFresh, AdditionsUndone};
 ghost use Rattle.held.specs.Additions.{AdditionsAtTheEnd};
-ghost use Rattle.held.specs.Postings.{TicketsRead, TicketsFit, ProposalsKeep, PostingsKeep, ProposalsOfChange, NeverStale, PostingsAreChanges, PostingsHold, PostedOnTheSpot, ChangesCounted, ChangesLimited};
+ghost use Rattle.held.specs.Postings.{TicketsRead, TicketsSmall, TicketsFit, ProposalsKeep, PostingsKeep, ProposalsOfChange, NeverStale, PostingsAreChanges, PostingsHold, PostedOnTheSpot, ChangesCounted, ChangesLimited};
 
 // --- Distinct words and families (crate `words`). ---
 
@@ -298,6 +298,11 @@ pub fn additions_are_undone()
 // A ticket is read as it was written.
 pub fn tickets_are_read()
     ensures { λ _. ⌜ TicketsRead ⌝ }
+{}
+
+// Every ticket that is written is one of bytes.
+pub fn tickets_are_small()
+    ensures { λ _. ⌜ TicketsSmall ⌝ }
 {}
 
 // The room of a ticket suffices for every change that can be proposed.
