@@ -1,18 +1,24 @@
 -- The lines of the program are those of the check and of comparisons: record by record, as its definition goes.
-use Prim.Native.Nat.{ℕ, zero, suc, _+_, _≤_}
-use mathlib.Core.Bool.{Bool, true, false, cond}
+use Prim.Native.Nat.{ℕ, zero, suc, _+_, _-_, _≤_}
+use mathlib.Core.Bool.{Bool, true, false, not, cond, true≢false}
 use mathlib.Core.List.{List, [], _++_}
+use mathlib.Core.Logic.{_⊎_, inl, inr, ⊎-elim}
 use mathlib.Core.Path.{_≡_, refl, sym, ap, _∙_, subst}
 use native.Mathlib.Omega.{arith}
-use borrow.Author.Tests.{le-ltb, leb-true, leb-false}
+use borrow.Author.Tests.{eq-eqb, le-ltb, leb-true, leb-false}
 use lib.Dec.{leb}
-use lib.ListN.{length}
+use lib.ListN.{length, take, drop, take-append-drop}
 use Rattle.words.specs.Words.{Word, part}
+use Rattle.words.proofs.Parts.{part-length, part-take, part-drop}
 use Rattle.words.specs.Families.{wordsOf, familyOf}
-use Rattle.limits.specs.Limits.{inputMost}
+use Rattle.limits.specs.Limits.{comparisonKind, comparisonLength, inputMost}
+use Rattle.limits.specs.declared.Record.{Record}
+use Rattle.limits.specs.declared.Record.the-variants.{Whole, CutOff}
 use Rattle.refusals.specs.declared.Refusal.{Refusal}
+use Rattle.refusals.specs.declared.Refusal.the-variants.{Short, Kind, Length}
 use Rattle.refusals.specs.Refusals.{numberAndPlace}
-use Rattle.format.specs.Book.{Presentation, BookReading}
+use Rattle.format.specs.Book.{Presentation, BookReading, field, recordAt, differs}
+use Rattle.format.proofs.Readings.{passed, equal-of, whole-at, passed-whole}
 use Rattle.presentation.specs.Loading.{loadBook}
 use Rattle.comparison.specs.declared.Comparison.{Comparison}
 use Rattle.comparison.specs.declared.Comparison.the-variants as Comparisons
@@ -20,12 +26,11 @@ use Rattle.comparison.specs.Comparing.{comparisonOf}
 use Rattle.lines.specs.Lines.{lineOf}
 use Rattle.output.specs.declared.Request.{Request}
 use Rattle.output.specs.declared.Request.the-variants as Requests
-use Rattle.output.specs.Requests.{requestAt}
+use Rattle.output.specs.Requests.{longField, fieldsOf, requestAt}
 use Rattle.output.specs.Program.{bookText, refusedLine, comparisonLine, byRequest, linesFrom, byLoading, bookEnd, programOf}
-use Rattle.output.proofs.Reading.{lies-of}
 use Rattle.answers.specs.Answers.{Answer, accepted, refused, refusal, ofComparison}
 use Rattle.answers.specs.Entries.{checkOf, compareOf}
-use Rattle.answers.specs.Program.{Line, ComparedLine, Lines, bookBefore, Programmed, ProgramCompares}
+use Rattle.answers.specs.Program.{Line, ComparedLine, Asks, Stops, Lines, bookBefore, Programmed, ProgramCompares}
 use Rattle.answers.proofs.Theorems.{compared}
 
 -- the line of a refusal, and of what a comparison gives
@@ -37,6 +42,81 @@ comparison-line : (c : Comparison) → Line (ofComparison c) (comparisonLine c)
 comparison-line (Comparisons.Same n) = Line.sameLine n
 comparison-line (Comparisons.Different n) = Line.differentLine n
 comparison-line (Comparisons.Refused r) = refusal-line r
+
+-- a part, from one place to another and from there on
+part-join : (text : List ℕ) (a b c : ℕ) → a ≤ b → b ≤ c → part text a c ≡ part text a b ++ part text b c
+part-join text a b c h k =
+    let e : a + (b - a) ≡ b = omega arith in
+    let t : take (b - a) (part text a c) ≡ part text a b = part-take text a c (b - a) (omega arith) ∙ ap (part text a) e in
+    let d : drop (b - a) (part text a c) ≡ part text b c = part-drop text a c (b - a) ∙ ap (λ (n : ℕ). part text n c) e in
+    sym (take-append-drop (b - a) (part text a c)) ∙ cc (t, d)
+
+refused-or-compare : (a first second end : ℕ) (r : Refusal) → Requests.Refused r ≡ Requests.Compare a first second end → ⊥
+refused-or-compare a first second end r e = let z : _≡_ {A = ℕ} 0 1 = cc in omega arith
+
+-- what the bytes of a record are that asks for a comparison
+asks-of : (input : List ℕ) (at a first second end : ℕ) → requestAt input at ≡ Requests.Compare a first second end
+    → Asks input at (part input first second) (part input second end) a end
+unfolding requestAt fieldsOf
+asks-of input at a first second end e =
+    let other = refused-or-compare a first second end in
+    let o = passed-whole (recordAt input at) _ _ _ (other _) e in
+    let w = whole-at input at (o .0) (o .1) (o .2) (o .3) in
+    let b = passed (differs (o .0) comparisonKind) _ _ _ (other _) (o .4) in
+    let c = passed (differs (o .2 - o .1) (comparisonLength + field input (o .1 + 4) + field input (o .1 + 6))) _ _ _ (other _) (b .1) in
+    let k = equal-of (o .0) comparisonKind (b .0) in
+    let l = equal-of (o .2 - o .1) (comparisonLength + field input (o .1 + 4) + field input (o .1 + 6)) (c .0) in
+    let t : longField input (o .1) ≡ a = cc (c .1) in
+    let x : o .1 + comparisonLength ≡ first = cc (c .1) in
+    let y : o .1 + comparisonLength + field input (o .1 + 4) ≡ second = cc (c .1) in
+    let z : o .2 ≡ end = cc (c .1) in
+    let m : field input (o .1 + 4) ≡ field input (at + 4 + 4) = ap (λ (i : ℕ). field input (i + 4)) (w .start) in
+    let n : field input (o .1 + 6) ≡ field input (at + 4 + 6) = ap (λ (i : ℕ). field input (i + 6)) (w .start) in
+    let f = w .fits in
+    let s = w .start in
+    let r = w .end in
+    let lu = part-length input first second (omega arith) in
+    let lv = part-length input second end (omega arith) in
+    let j : at + 4 + 8 ≡ first = omega arith in
+    record {
+      size = omega arith;
+      kind = sym (w .kinds) ∙ k;
+      allowed = ap (longField input) (sym s) ∙ t;
+      first = omega arith;
+      second = omega arith;
+      letters = ap (λ (i : ℕ). part input i end) j ∙ part-join input first second end (omega arith) (omega arith);
+      ends = omega arith;
+      inside = omega arith;
+    }
+
+-- numbers that differ
+apart-of : (m n : ℕ) → differs m n ≡ true → ¬ (m ≡ n)
+apart-of m n e f = true≢false (sym e ∙ ap not (eq-eqb m n f))
+
+-- the cases of a choice
+chosen : {A : Type 0} (b : Bool) (x y r : A) → cond b x y ≡ r → ((b ≡ true) × (x ≡ r)) ⊎ ((b ≡ false) × (y ≡ r))
+chosen true x y r e = inl (refl, e)
+chosen false x y r e = inr (refl, e)
+
+-- why a record is refused
+stops-of : (input : List ℕ) (at : ℕ) (r : Refusal) → requestAt input at ≡ Requests.Refused r → (n : ℕ) × (refusal r ≡ refused n at) × Stops input at n
+unfolding requestAt fieldsOf
+stops-of input at r e = go (recordAt input at) refl
+  where
+    told : (x : Refusal) (n : ℕ) → Requests.Refused x ≡ Requests.Refused r → refusal x ≡ refused n at → refusal r ≡ refused n at
+    told x n f g = let d : x ≡ r = cc in ap refusal (sym d) ∙ g
+
+    go : (o : Record) → recordAt input at ≡ o → (n : ℕ) × (refusal r ≡ refused n at) × Stops input at n
+    go CutOff f = (1, told (Short at) 1 (rw f at e) refl, Stops.short f)
+    go (Whole kind from to) f =
+        ⊎-elim (λ (c : (differs kind comparisonKind ≡ true) × (Requests.Refused (Kind at) ≡ Requests.Refused r)).
+        (2, told (Kind at) 2 (c .1) refl, Stops.kind kind from to f (apart-of kind comparisonKind (c .0)))) (λ (c : (differs kind comparisonKind ≡ false) × (fieldsOf input at from to ≡ Requests.Refused r)).
+        let k = equal-of kind comparisonKind (c .0) in
+        ⊎-elim (λ (d : (differs (to - from) (comparisonLength + field input (from + 4) + field input (from + 6)) ≡ true) × (Requests.Refused (Length at) ≡ Requests.Refused r)).
+        (3, told (Length at) 3 (d .1) refl, Stops.misfit from to (f ∙ ap (λ (i : ℕ). Whole i from to) k) (apart-of (to - from) (comparisonLength + field input (from + 4) + field input (from + 6)) (d .0)))) (λ d.
+        absurd (refused-or-compare _ _ _ _ r (sym (d .1))))
+        (chosen (differs (to - from) (comparisonLength + field input (from + 4) + field input (from + 6))) _ _ (Requests.Refused r) (c .1)))
+        (chosen (differs kind comparisonKind) _ _ (Requests.Refused r) (rw f at e))
 
 module _ (book input : List ℕ) (p : Presentation) (l : loadBook book ≡ BookReading.read p) where
   -- a comparison under the words of the book's presentation is one under the book
@@ -57,11 +137,13 @@ module _ (book input : List ℕ) (p : Presentation) (l : loadBook book ≡ BookR
           → Lines book input at (cond b []
           (byRequest (linesFrom fuel (p .letters) (wordsOf (p .relations)) (familyOf (p .relations)) input) (p .letters) (wordsOf (p .relations)) (familyOf (p .relations)) input r))
       step true e r f ih = Lines.none (leb-true (length input) at e)
-      step false e (Requests.Refused x) f ih = Lines.stops x (leb-false (length input) at e) f (refusal-line x)
+      step false e (Requests.Refused x) f ih =
+          let (n, d, s) = stops-of input at x f in
+          Lines.stops n (leb-false (length input) at e) s (subst (λ (a : Answer). Line a (refusedLine x)) d (refusal-line x))
       step false e (Requests.Compare a first second end) f ih =
-          let w = lies-of input at (Requests.Compare a first second end) (sym f) a first second end refl in
-          Lines.compares a first second end _ _ (leb-false (length input) at e) f (compared-line (part input first second) (part input second end) a)
-          (ih end (omega (arith, w .behind))) refl
+          let w = asks-of input at a first second end f in
+          Lines.compares (part input first second) (part input second end) a end _ _ w (compared-line (part input first second) (part input second end) a)
+          (ih end (omega (arith, w .ends))) refl
 
 -- what is written for an input that is not too long
 light-output : (input : List ℕ) → length input ≤ inputMost → programOf input ≡ byLoading input (loadBook (bookBefore input))

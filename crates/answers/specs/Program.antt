@@ -1,17 +1,17 @@
 -- What the program's lines say, in the words of the other entries (document 01, "The program"): the first line is the answer of the check of the book, and each line
 -- behind `book R` is what the comparison answers for that book, those two words and that allowance.
-use Prim.Native.Nat.{ℕ, _<_, _≤_}
+use Prim.Native.Nat.{ℕ, _+_, _-_, _<_, _≤_}
 use mathlib.Core.List.{List, [], _++_}
 use mathlib.Core.Path.{_≡_}
 use lib.ListN.{length, take}
 use Rattle.words.specs.Words.{Word, part}
-use Rattle.limits.specs.Limits.{inputMost}
-use Rattle.refusals.specs.declared.Refusal.{Refusal}
+use Rattle.limits.specs.declared.Record.the-variants.{Whole, CutOff}
+use Rattle.limits.specs.Limits.{recordPrefix, comparisonKind, comparisonLength, inputMost}
+use Rattle.format.specs.Book.{field, recordAt}
 use Rattle.lines.specs.Lines.{lineOf, pairLineOf}
-use Rattle.output.specs.declared.Request.the-variants as Requests
-use Rattle.output.specs.Requests.{requestAt}
+use Rattle.output.specs.Requests.{longField}
 use Rattle.output.specs.Program.{refusedText, bookText, sameText, differentText, bookEnd, programOf}
-use Rattle.answers.specs.Answers.{Answer, accepted, same, different, refused, refusal}
+use Rattle.answers.specs.Answers.{Answer, accepted, same, different, refused}
 use Rattle.answers.specs.Entries.{checkOf}
 use Rattle.answers.specs.Demands.{Compared}
 
@@ -28,16 +28,34 @@ pub record ComparedLine (book : List ℕ) (u v : Word) (allowance : ℕ) (line :
   pub compared : Compared book u v allowance answer
   pub says : Line answer line
 
+-- the record at a position of the input asks for the comparison of u and v: it is whole, of kind 3, and its payload is four bytes of the allowance, two for the length of
+-- each word, and the letters of both
+pub record Asks (input : List ℕ) (at : ℕ) (u v : Word) (allowance end : ℕ) : Type 0 where
+  pub size : field input at ≡ comparisonLength + length u + length v
+  pub kind : field input (at + 2) ≡ comparisonKind
+  pub allowed : longField input (at + recordPrefix) ≡ allowance
+  pub first : field input (at + recordPrefix + 4) ≡ length u
+  pub second : field input (at + recordPrefix + 6) ≡ length v
+  pub letters : part input (at + recordPrefix + comparisonLength) end ≡ u ++ v
+  pub ends : end ≡ at + recordPrefix + comparisonLength + length u + length v
+  pub inside : end ≤ length input
+
+-- it is refused: by 1 where the input ends inside it, by 2 where it is of another kind, by 3 where its length does not fit what its payload says
+pub data Stops (input : List ℕ) (at : ℕ) : ℕ → Type 0 where
+  short : recordAt input at ≡ CutOff → Stops input at 1
+  kind : (kind from to : ℕ) → recordAt input at ≡ Whole kind from to → ¬ (kind ≡ comparisonKind) → Stops input at 2
+  misfit : (from to : ℕ) → recordAt input at ≡ Whole comparisonKind from to
+      → ¬ (to - from ≡ comparisonLength + field input (from + 4) + field input (from + 6)) → Stops input at 3
+
 -- the lines of the records from a position of the input on, under the book before them
 pub data Lines (book input : List ℕ) : ℕ → List ℕ → Type 0 where
   -- behind the last record there is none
   none : {at : ℕ} → length input ≤ at → Lines book input at []
-  -- a record that is refused, by 1, 2 or 3, has a line, and it is the last
-  stops : {at : ℕ} {line : List ℕ} (r : Refusal) → at < length input → requestAt input at ≡ Requests.Refused r → Line (refusal r) line → Lines book input at line
+  -- a record that is refused has a line, with its first byte as the place, and it is the last
+  stops : {at : ℕ} {line : List ℕ} (n : ℕ) → at < length input → Stops input at n → Line (refused n at) line → Lines book input at line
   -- a record that asks for a comparison has its line, and then come those of the records behind it
-  compares : {at : ℕ} {lines : List ℕ} (allowance first second end : ℕ) (line rest : List ℕ) → at < length input
-      → requestAt input at ≡ Requests.Compare allowance first second end → ComparedLine book (part input first second) (part input second end) allowance line
-      → Lines book input end rest → lines ≡ line ++ rest → Lines book input at lines
+  compares : {at : ℕ} {lines : List ℕ} (u v : Word) (allowance end : ℕ) (line rest : List ℕ) → Asks input at u v allowance end
+      → ComparedLine book u v allowance line → Lines book input end rest → lines ≡ line ++ rest → Lines book input at lines
 
 -- the book of an input: all records before the first of kind 3
 abbrev pub bookBefore : List ℕ → List ℕ
