@@ -1,6 +1,7 @@
 -- What is owed of the entries, said of their answers in the words of the papers: of the check and of the cut sheet (demand 2), of the comparison (demand 3) and of
 -- the least word (document 01, "The least equal run").
--- Demand 1 (safety, refusals, lent buffers) has no record here: every function's check and the equalities with specs/Entries.antt are its statement.
+-- Demand 1 (safety, refusals, lent buffers) has no record here: every function's check and the equalities with specs/Entries.antt are its statement; that a refusal
+-- keeps every lent byte is also said in words, in specs/Keeping.antt.
 use Prim.Native.Nat.{ℕ, _+_, _*_, _<_, _≤_}
 use mathlib.Core.Bool.{Bool}
 use mathlib.Core.List.{List, [], _++_}
