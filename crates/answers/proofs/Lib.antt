@@ -1,3 +1,4 @@
+-- The demands on the check, the sheet, the comparison and the least word; a law for each way that an entry can go.
 pub mod Laws
 pub mod Loaded
 pub mod Theorems

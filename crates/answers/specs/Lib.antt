@@ -1,3 +1,4 @@
+-- What each entry answers and leaves in its lent buffers, in the specification's numbers; what is owed of that.
 pub mod Answers
 pub mod Entries
 pub mod Parts

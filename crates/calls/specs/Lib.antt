@@ -1,1 +1,2 @@
+-- How many of the first bytes of a round's three buffers are lent.
 pub mod Places

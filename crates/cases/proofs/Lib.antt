@@ -1,1 +1,2 @@
+-- What is kept of the buffer of lines from one read to the next.
 pub mod Laws

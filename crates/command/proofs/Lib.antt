@@ -1,1 +1,2 @@
+-- The program's reading and writing stay within their buffers.
 pub mod Laws

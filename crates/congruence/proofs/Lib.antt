@@ -1,3 +1,4 @@
+-- The rows decide congruence: what chains leave in place, that each row is right, and how soon the rounds end.
 pub mod Heads
 pub mod RowTests
 pub mod Places

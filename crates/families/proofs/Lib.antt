@@ -1,3 +1,4 @@
+-- One family of two, the links from the last word down, and that the table keeps all else.
 pub mod Kept
 pub mod Naming
 pub mod Joining

@@ -1,3 +1,4 @@
+-- What is owed of held books, of changes, of tickets, of proposals and of postings holds.
 pub mod Buffers
 pub mod Effects
 pub mod Steps

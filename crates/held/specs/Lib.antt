@@ -1,3 +1,4 @@
+-- What a held book and a ticket are; what loading, changing, proposing and posting give; what is owed of these.
 pub mod Held
 pub mod Changes
 pub mod Asked

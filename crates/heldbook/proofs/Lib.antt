@@ -1,1 +1,2 @@
+-- A law for each way that loading a held book and posting a ticket can go.
 pub mod Laws

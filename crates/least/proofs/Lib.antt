@@ -1,3 +1,4 @@
+-- The walk tells possible prefixes, each round writes a part of the least word, and the rounds end: the theorems.
 pub mod Examples
 pub mod Order
 pub mod Marks

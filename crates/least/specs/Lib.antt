@@ -1,3 +1,4 @@
+-- Dictionary order, least words, the walk for possible prefixes, the rounds that write least words, the theorems.
 pub mod Order
 pub mod Least
 pub mod Possible

@@ -1,3 +1,4 @@
+-- What is computed of pieces, C(4), cuts and numbers agrees with the words; and what C(4) gives by position, `Rigid`.
 pub mod Rigid
 pub mod Places
 pub mod Occurrences

@@ -1,3 +1,4 @@
+-- Pieces, C(4), cuts and numbers of pieces, in words and as they are computed; refusal 8; what is shown of these.
 pub mod Pieces
 pub mod Cuts
 pub mod Counts

@@ -1,3 +1,4 @@
+-- A round of the least word, with a clean relation prefix and without: a law for each way that it can go.
 pub mod Laws
 pub mod Telling
 pub mod Standing

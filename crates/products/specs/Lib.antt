@@ -1,1 +1,2 @@
+-- The number of pieces of a relation word, by the table of longest pieces.
 pub mod Products

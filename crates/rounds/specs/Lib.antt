@@ -1,1 +1,2 @@
+-- What the single round leaves in its three lent buffers.
 pub mod Writing

@@ -1,1 +1,2 @@
+-- What is asked before a new book takes the place of the held one, and what is answered.
 pub mod Settling

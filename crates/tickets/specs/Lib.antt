@@ -1,1 +1,2 @@
+-- What the writing of a ticket asks.
 pub mod Tickets

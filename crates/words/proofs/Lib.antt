@@ -1,3 +1,4 @@
+-- Laws of words, of their parts and common prefixes and suffixes, of searches; distinct words and families are right.
 pub mod Tests
 pub mod Picks
 pub mod Lists

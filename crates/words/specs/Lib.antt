@@ -1,3 +1,4 @@
+-- Words, bounded searches, relations and their words, distinct words and the families that relations make of them.
 pub mod Search
 pub mod Words
 pub mod Relations

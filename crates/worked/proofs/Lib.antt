@@ -1,2 +1,3 @@
+-- The tables of changes, proposals and postings hold, by computation.
 pub mod Changes
 pub mod Tickets
