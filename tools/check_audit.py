@@ -365,10 +365,10 @@ def starred(tree):
 
 
 def table_of(tree, heading):
-    """The numbers in the first column of a table of the specification, behind a heading."""
+    """The rows of a table of the specification, behind a heading, that begin with a number; one whose second cell says "not used" does not count."""
     text = tree.read("docs/SPECIFICATION.md")
     behind = text[text.find(f"\n{heading}\n") + 1 :]
-    return len(re.findall(r"^\| \d+ \|", re.split(r"\n#+ ", behind)[0], re.M))
+    return len(re.findall(r"^\| \d+ \|(?! not used \|)", re.split(r"\n#+ ", behind)[0], re.M))
 
 
 # the rows under "What is counted": what stands in the first cell, and how it is counted
@@ -379,7 +379,7 @@ COUNTS = {
     "public entries of held books: the same of `crates/heldbook/src/lib.rt`": lambda tree: len(entries(tree, "heldbook")),
     "C functions of `crates/vanecitron/src/lib.rt`": lambda tree: tree.read("crates/vanecitron/src/lib.rt").count('\npub extern "C" fn '),
     "rows of a round, in the specification": lambda tree: table_of(tree, "### The rows"),
-    "refusals, in the specification": lambda tree: table_of(tree, "## Refusals by number"),
+    "refusals that occur: the rows of the specification's table but those that are not used": lambda tree: table_of(tree, "## Refusals by number"),
     "cases of the table `starred`": starred,
     "calls in `crates/cases/stdin`": lambda tree: len(tree.calls()),
     "of them, of the reader and not of an entry": lambda tree: tree.calls().count("read"),

@@ -22,7 +22,7 @@ COUNTED = """| crates, in `crates.txt` | 6 |
 | public entries of held books: the same of `crates/heldbook/src/lib.rt` | 2 |
 | C functions of `crates/vanecitron/src/lib.rt` | 1 |
 | rows of a round, in the specification | 2 |
-| refusals, in the specification | 1 |
+| refusals that occur: the rows of the specification's table but those that are not used | 1 |
 | cases of the table `starred` | 2 |
 | calls in `crates/cases/stdin` | 3 |
 | of them, of the reader and not of an entry | 2 |
@@ -93,7 +93,7 @@ FILES = {
     "host/vectors/program/r1-1.in": "",
     "host/vectors/program/r1-2.in": "",
     "host/difftest/tests/gate.rs": "fn helper() {}\n#[test]\nfn chains() {}\n",
-    "docs/SPECIFICATION.md": "# S\n\n## Book bytes\n\n### The rows\n\n| row | x |\n|---|---|\n| 1 | a |\n| 2 | b |\n| | c |\n\n## Refusals by number\n\n| no. | w |\n|---|---|\n| 1 | s |\n",
+    "docs/SPECIFICATION.md": "# S\n\n## Book bytes\n\n### The rows\n\n| row | x |\n|---|---|\n| 1 | a |\n| 2 | b |\n| | c |\n\n## Refusals by number\n\n| no. | w |\n|---|---|\n| 1 | s |\n| 2 | not used | |\n",
     "docs/DECISIONS.md": "| crate | holds | kind |\n|---|---|---|\n| `format` | a | b |\n| `congruence` | a | b |\n| `entries` | a | b |\n| `removing` | a | b |\n| `heldbook` | a | b |\n| `vanecitron` | a | b |\n\nOne has 1 calls of the entries and 2 of the reader.\n",
     "README.md": "There are 3 must-fail edits.\n",
     "docs/AUDIT.md": PAGE,
