@@ -3,9 +3,10 @@
  * a run once a front is taken off it?
  * A book can be held in a buffer of the caller's and changed there, rule by rule, and a change can be proposed before it is made.
  *
- * The functions of the archive are proved against their contracts (crates/vanecitron, over crates/entries and crates/heldbook; docs/AUDIT.md says what that
- * means). This header is written by hand: host/limits.py compares its numbers, words and structs with those of the proved sources. The functions that
- * are `static inline` here and in vanecitron_book.h are plain C, outside the proof.
+ * The functions of the archive are proved against their contracts (crates/vanecitron, over crates/entries,
+ * crates/removing and crates/heldbook; docs/AUDIT.md says what that means). This header is written by hand:
+ * host/limits.py compares its numbers, words and structs with those of the proved sources. The functions that are
+ * `static inline` here and in vanecitron_book.h are plain C, outside the proof.
  * The words are those of docs/SPECIFICATION.md, which "the specification" means below: a step is a byte below the book's number of letters, a run is
  * an array of steps, a rule has two sides, which are runs, and a book is a list of records in bytes ("Book bytes"); vanecitron_book.h writes them.
  *
@@ -17,11 +18,12 @@
  *
  * Calls
  *   Calls are reentrant: any number of threads may call any functions at the same time, as long as no buffer that one call writes is used by another.
- *   Every call checks its book again, since nothing is kept between calls: under a microsecond for a book of one rule with sides of 4 steps, 3
- *   microseconds for one with sides of 64, and 0.8 milliseconds for a full book, 32 such rules (docs/DECISIONS.md, "Cost grows"). vanecitron_program
- *   checks its book once for all comparisons of its input: give it many pairs of runs at a time where that matters. A change of a held book costs one
- *   check, that of the new book, which gives its sheet too; the old book is read, and not checked again. A proposal costs one check as well, and so does
- *   a posting, which makes it again.
+ *   Every call that takes a book checks it again, since nothing is kept between calls: under a microsecond for a book
+ *   of one rule with sides of 4 steps, 3 microseconds for one with sides of 64, and 0.8 milliseconds for a full book,
+ *   32 such rules (docs/DECISIONS.md, "Cost grows"). vanecitron_program checks its book once for all comparisons of its
+ *   input: give it many pairs of runs at a time where that matters. A change of a held book costs one check, that of
+ *   the new book, which gives its sheet too; the old book is read, and not checked again. A proposal costs one check as
+ *   well, and so does a posting, which makes it again.
  *   No measured call needs more than VANECITRON_STACK bytes of stack; a call gives them back when it returns. This is measured, not proved:
  *   host/stack calls each function on a painted stack, with the memcpy and memset of the C library there, and host/test fails where a call needs more.
  *   The calls take every row of a round and meet every kind of refusal, with books, runs, marks and inputs at their limits.
@@ -105,7 +107,8 @@ extern "C" {
    for every one. */
 #define VANECITRON_LEAST_MOST 262144u
 
-/* The most changes that a held book takes from loading. Then it is worn: every further change is refused by 17, until a book is loaded there anew. */
+/* The most changes that a held book takes from loading. Then it is worn: every further change is refused, by 17 if by
+   nothing else, until a book is loaded there anew. */
 #define VANECITRON_CHANGES_MOST 60000u
 
 /* The kinds of change that a ticket says; see vanecitron_propose_add. */
@@ -275,7 +278,7 @@ vanecitron_check_result vanecitron_cut_sheet(const uint8_t *book, size_t book_le
 /*
  * Makes one round from u, v and the front mark p (the specification, "Exchanges and rounds"): it ends, or writes the next u, v and p at the start of the
  * three lent buffers, which have at least VANECITRON_NEXT_RUN, VANECITRON_NEXT_RUN and VANECITRON_NEXT_MARK bytes. A comparison begins with p empty.
- * Refusals 1 to 10, 12.
+ * Refusals 1 to 6, 8 to 10, 12.
  */
 vanecitron_round_result vanecitron_round(
     const uint8_t *book, size_t book_length,
@@ -287,13 +290,14 @@ vanecitron_round_result vanecitron_round(
     uint8_t *next_p, size_t next_p_length);
 
 /*
- * Compares two runs: VANECITRON_SAME exactly when a chain of exchanges joins them, VANECITRON_DIFFERENT exactly when none does, with the number of
- * rounds that were needed. VANECITRON_SPENT exactly when the two runs need more rounds than the allowance.
+ * Compares two runs. Under an accepted book and of runs within the limits it is VANECITRON_SPENT exactly when the two
+ * runs need more rounds than the allowance; else VANECITRON_SAME exactly when a chain of exchanges joins them, and
+ * VANECITRON_DIFFERENT exactly when none does, with the number of rounds that were needed.
  *
  * An allowance that is never spent: the rounds are at most (k + 2) times the number of steps of u, where k is the longest Z of the
- * cut sheet (0 without rules). vanecitron_ample_allowance reckons it. It is at most 66 times 4096, which fits. The rounds are also at most (k + 1)
+ * cut sheet (0 without rules). vanecitron_ample_allowance reckons it. It is at most 65 times 4096, which fits. The rounds are also at most (k + 1)
  * times the number of steps of the shorter run. Both are proved.
- * Refusals 1 to 11.
+ * Refusals 1 to 6, 8 to 11.
  */
 vanecitron_compare_result vanecitron_compare(
     const uint8_t *book, size_t book_length,
@@ -309,7 +313,7 @@ vanecitron_compare_result vanecitron_compare(
  * It is written into `buffer` from `offset` on, and its length is the answer; the bytes before and behind it are as they were. What follows the offset
  * has room for it, or the call is refused; VANECITRON_LEAST_MOST bytes are always enough. An offset equal to the buffer's length is fine for the empty
  * run, which is the least run of itself alone. Time grows with the number of steps, beside the check of the book.
- * Refusals 1 to 10, 14. Those of the run have the number 0 in their places.
+ * Refusals 1 to 6, 8 to 10, 14. Those of the run have the number 0 in their places.
  */
 vanecitron_least_result vanecitron_least(
     const uint8_t *book, size_t book_length,
@@ -327,8 +331,9 @@ vanecitron_least_result vanecitron_least(
  *
  * It is written into `buffer` from `offset` on, and its length is the answer; room and offset are as of vanecitron_least, by the length of w. An offset equal
  * to the buffer's length is fine where w is empty, which is where a chain joins p to u. Time grows with the number of steps, beside the check of the book.
- * p may have VANECITRON_ROUND_MARK steps, as the front mark of a round. No piece has so many: a longer p is refused by 9, and one of just so many by 18.
- * Refusals 1 to 10; then 18, 19, 14. In the places of 9 and 10 u has the number 0 and p has 2.
+ * p may have VANECITRON_ROUND_MARK steps, as the front mark of a round. No piece has so many: a longer p is refused by
+ * 9, and one of just so many, if by nothing before it, by 18.
+ * Refusals 1 to 6, 8 to 10; then 18, 19, 14. In the places of 9 and 10 u has the number 0 and p has 2.
  */
 vanecitron_least_result vanecitron_front(
     const uint8_t *book, size_t book_length,
@@ -413,8 +418,9 @@ vanecitron_check_result vanecitron_propose_withdraw(
     uint8_t *ticket, size_t ticket_length);
 
 /*
- * Posts a ticket: makes its change, where the held book has had none since the ticket was given. It then answers, changes and writes what vanecitron_add or
- * vanecitron_withdraw would; all their checks are made again, that of the sheet's room by the buffer that is lent here.
+ * Posts a ticket: makes its change, where the held book has had none since the ticket was given. It then answers, changes
+ * and writes what vanecitron_add or vanecitron_withdraw would, but that 17 comes first; all their checks are made again,
+ * that of the sheet's room by the buffer that is lent here.
  *
  * A ticket is stale, and refused by 16, after any change that was accepted since it was given, made directly or posted: its own is one, and a change that
  * was undone again counts as well. Of two tickets that were given with no change between, the first that is posted is good, and the other is then stale;
@@ -424,10 +430,11 @@ vanecitron_check_result vanecitron_propose_withdraw(
  * cannot be told apart from its own, and its change is made where the checks of that change accept it. Whoever keeps several held books keeps their
  * tickets apart.
  *
- * `ticket` may be of any length and any content, and none is malformed. Bytes that are not there are read as 0; every kind but VANECITRON_TICKET_ADDITION
- * is a withdrawal; an addition has the n bytes behind the fields, as far as they are there. Bytes that are all 0 are the addition of no bytes, which 1
- * refuses. So a ticket that was damaged or made up is refused, or is a change that the library would accept directly, and the book that is then held is
- * an accepted one.
+ * `ticket` may be of any length and any content, and none is malformed. Bytes that are not there are read as 0; every
+ * kind but VANECITRON_TICKET_ADDITION is a withdrawal; an addition has the n bytes behind the fields, as far as they
+ * are there. Bytes that are all 0 are the addition of no bytes with the count 0, refused by 16, or by 1 where the held
+ * book's count is 0 too. So a ticket that was damaged or made up is refused, or is a change that the library would
+ * accept directly, and the book that is then held is an accepted one.
  *
  * `held` and `sheet` are lent, and overlap neither each other nor the ticket.
  * Refusals 16, 17, then those of the change, in the order that "Results" gives. A refusal leaves the held book and the sheet as they were.

@@ -26,7 +26,7 @@ use Rattle.output.specs.Program.{programOf}
 use Rattle.output.specs.Size.{outputMost}
 use Rattle.answers.specs.Answers.{Answer, accepted, ended, next, wrote, refusal, ofComparison}
 
--- 1 to 8: a refusal of the book goes straight back
+-- 1 to 6 and 8: a refusal of the book goes straight back
 abbrev pub onLoaded : {A : Type 0} → BookReading → (Refusal → A) → (Presentation → A) → A
 onLoaded (BookReading.refused r) stop proceed = stop r
 onLoaded (BookReading.read presentation) stop proceed = proceed presentation

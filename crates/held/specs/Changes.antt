@@ -22,7 +22,7 @@ use Rattle.held.specs.Held.{bookIn, changesAfter, worn, holding, takenUp
 pub data LoadOutcome : Type 0 where
   after : Answer → List ℕ → LoadOutcome
 
--- loading a book: 1 to 8 of its bytes, then 12 of the buffer, else they are held, with no change counted
+-- loading a book: 1 to 6 and 8 of its bytes, then 12 of the buffer, else they are held, with no change counted
 unfoldable pub loadOf : List ℕ → List ℕ → LoadOutcome
 loadOf book held =
     onLoaded (loadBook book) (λ r. LoadOutcome.after (refusal r) held) (λ presentation.
