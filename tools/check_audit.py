@@ -365,7 +365,7 @@ def starred(tree):
 
 
 def table_of(tree, heading):
-    """The rows of a table of the specification, behind a heading, that begin with a number; one whose second cell says "not used" does not count."""
+    """The rows behind a heading of the specification that begin with a number, but for those "not used"."""
     text = tree.read("docs/SPECIFICATION.md")
     behind = text[text.find(f"\n{heading}\n") + 1 :]
     return len(re.findall(r"^\| \d+ \|(?! not used \|)", re.split(r"\n#+ ", behind)[0], re.M))

@@ -294,9 +294,9 @@ vanecitron_round_result vanecitron_round(
  * runs need more rounds than the allowance; else VANECITRON_SAME exactly when a chain of exchanges joins them, and
  * VANECITRON_DIFFERENT exactly when none does, with the number of rounds that were needed.
  *
- * An allowance that is never spent: the rounds are at most (k + 2) times the number of steps of u, where k is the longest Z of the
- * cut sheet (0 without rules). vanecitron_ample_allowance reckons it. It is at most 65 times 4096, which fits. The rounds are also at most (k + 1)
- * times the number of steps of the shorter run. Both are proved.
+ * An allowance that is never spent: the rounds are at most (k + 2) times the number of steps of u, where k is the
+ * longest Z of the cut sheet (0 without rules). vanecitron_ample_allowance reckons it. It is at most 65 times 4096,
+ * which fits. The rounds are also at most (k + 1) times the number of steps of the shorter run. Both are proved.
  * Refusals 1 to 6, 8 to 11.
  */
 vanecitron_compare_result vanecitron_compare(
@@ -418,9 +418,9 @@ vanecitron_check_result vanecitron_propose_withdraw(
     uint8_t *ticket, size_t ticket_length);
 
 /*
- * Posts a ticket: makes its change, where the held book has had none since the ticket was given. It then answers, changes
- * and writes what vanecitron_add or vanecitron_withdraw would, but that 17 comes first; all their checks are made again,
- * that of the sheet's room by the buffer that is lent here.
+ * Posts a ticket: makes its change, where the held book has had none since the ticket was given. It then answers,
+ * changes and writes what vanecitron_add or vanecitron_withdraw would, but that 17 comes first; all their checks are
+ * made again, that of the sheet's room by the buffer that is lent here.
  *
  * A ticket is stale, and refused by 16, after any change that was accepted since it was given, made directly or posted: its own is one, and a change that
  * was undone again counts as well. Of two tickets that were given with no change between, the first that is posted is good, and the other is then stale;

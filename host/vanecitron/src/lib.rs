@@ -97,7 +97,8 @@ pub const INPUT: usize = 60_000;
 pub const OUTPUT: usize = 110_022;
 /// The least size of the buffer lent for a held book, whatever its rules.
 pub const HELD: usize = 4_297;
-/// The most changes that a held book takes from loading. Then it is worn: further ones are refused by 17, until a book is loaded anew.
+/// The most changes that a held book takes from loading. Then it is worn: further ones are refused, by 17 if by nothing
+/// else, until a book is loaded anew.
 pub const CHANGES_MOST: u64 = 60_000;
 /// The least size of the buffer lent for a ticket, whatever its change.
 pub const TICKET: usize = 140;
