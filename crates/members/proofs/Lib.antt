@@ -1,4 +1,4 @@
--- The first member by dictionary order, the one that is chosen, the one that carries the next word: a law each way.
+-- The member that comes first, the one that is chosen, the one that carries the next word: a law for each way on.
 pub mod Ranks
 pub mod Members
 pub mod Best

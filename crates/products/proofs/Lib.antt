@@ -1,2 +1,2 @@
--- The loop that takes the longest piece each time ends with the smallest number of pieces, or tells that there is none.
+-- The loop that takes the longest piece each time gives the number of pieces, or none: a law for each way on.
 pub mod Numbering
