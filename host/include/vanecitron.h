@@ -268,7 +268,7 @@ vanecitron_check_result vanecitron_check(const uint8_t *book, size_t book_length
  *   VANECITRON_SHEET_Z       the length of Z, its longest end that is a piece;
  *   VANECITRON_SHEET_PIECES  the smallest number of pieces whose product the side is, or VANECITRON_NO_PRODUCT.
  * The number says how far the side is from trouble: C(4) asks for 4 or more, so that an accepted book has no smaller one. VANECITRON_NO_PRODUCT says
- * that the side is no product of pieces at all: it has a step that stands nowhere else in the sides. Any other number is at most 64.
+ * that the side is no product of pieces at all: it has a step that stands nowhere else in the distinct sides. Any other number is at most 64.
  *
  * `sheet` is lent and has at least VANECITRON_SHEET(rules) bytes; VANECITRON_SHEET_MOST is enough for every book.
  * Refusals 1 to 6, 8, 12.
@@ -308,7 +308,7 @@ vanecitron_compare_result vanecitron_compare(
 /*
  * Writes the least run of a run (the specification, "The least equal run"): of all runs that a chain of exchanges joins to it, the first in dictionary
  * order. A proper front comes before the longer run; else the first steps that differ decide: 32 to 63 come first in rising order, then 0 to 31.
- * Two runs have the same least run exactly when a chain joins them, so that it names them all: what is filed under it is found under any of them.
+ * Two runs have the same least run exactly when a chain joins them, so that it names them all: what is filed under it is found from any of them.
  *
  * It is written into `buffer` from `offset` on, and its length is the answer; the bytes before and behind it are as they were. What follows the offset
  * has room for it, or the call is refused; VANECITRON_LEAST_MOST bytes are always enough. An offset equal to the buffer's length is fine for the empty

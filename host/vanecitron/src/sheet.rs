@@ -35,7 +35,7 @@ pub struct Cut {
 pub enum PieceCount {
     /// so many pieces and no fewer; on the sheet it is this number, which is from 4 to [`SIDE`](crate::SIDE) in an accepted book
     Pieces(u8),
-    /// no product of pieces at all: a step of the side stands nowhere else in the sides; on the sheet it is 255
+    /// no product of pieces at all: a step of the side stands nowhere else in the distinct sides; on the sheet it is 255
     NoProduct,
 }
 
