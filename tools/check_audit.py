@@ -29,6 +29,9 @@ import sys
 import tarfile
 import tempfile
 
+sys.path.insert(0, str(pathlib.Path(__file__).resolve().parent))
+import definitions  # noqa: E402
+
 PAGE = "docs/AUDIT.md"
 TABLES = "From the specification to the tree"
 LIST = "The definitions to read"
@@ -319,6 +322,21 @@ def listed_definitions(tree, page):
                 yield group.names[0][1][0], f"{file} is not listed under \"{LIST}\"", []
 
 
+def made_definitions(tree, page):
+    """The list itself is the one that tools/definitions.py makes, and no crate of code is in it. A tree without that tool has a list of its own."""
+    if not (tree.root / "tools/definitions.py").exists():
+        return
+    if definitions.BEGIN not in page.text:
+        yield None, f"no line {definitions.BEGIN}", []
+        return
+    made, _, code = definitions.table(tree.root)
+    begin, end = definitions.part_of(page.text)
+    if page.text[begin:end].strip("\n") != made:
+        yield begin, "the list of definitions is not the one that tools/definitions.py makes", [(begin, end, f"\n{made}\n\n")]
+    for crate in code:
+        yield begin, f"crate {crate}, which has code, is among the definitions to read", []
+
+
 def paths(tree, page):
     for m in QUOTED.finditer(page.prose):
         if re.fullmatch(PATH, m[1]) and not any(list((tree.root / base).glob(m[1].rstrip("/").removeprefix("./"))) for base in ("", "crates") if (tree.root / base).is_dir()):
@@ -490,7 +508,7 @@ def assumptions(tree, page):
 # --- the command ---
 
 OF_TREE = {
-    PAGE: [names_with_places, names_without_places, listed_definitions, paths, groups_of_cases, headings, quotes, counts, stated, promises, axioms],
+    PAGE: [names_with_places, names_without_places, made_definitions, listed_definitions, paths, groups_of_cases, headings, quotes, counts, stated, promises, axioms],
     "docs/DECISIONS.md": [crates_in_tables, stated],
     "README.md": [stated],
 }

@@ -9,18 +9,18 @@ use lib.ListN.{length}
 use Rattle.words.specs.Words.{Word}
 use Rattle.words.specs.Relations.{relationWords}
 use Rattle.words.specs.Families.{wordsOf, familyOf}
-use Rattle.writing.specs.Writing.{over}
+use Rattle.words.specs.Writing.{over}
 use Rattle.congruence.specs.Rows.{Next, round}
 use Rattle.congruence.specs.Rows.Next.{end, go}
 use Rattle.least.specs.Writing.{Found, found, absent}
-use Rattle.leastword.specs.Writing.{leastFor}
+use Rattle.asked.specs.Least.{leastFor}
 use Rattle.refusals.specs.declared.Refusal.the-variants.{Narrow}
 use Rattle.format.specs.Book.{BookReading}
-use Rattle.presentation.specs.Loading.{loadBook}
-use Rattle.given.specs.declared.Given.{Given}
-use Rattle.given.specs.declared.Given.the-variants as Givens
-use Rattle.given.specs.Given.{onGiven, oneOf}
-use Rattle.sheet.specs.Sheet.{cutSheet}
+use Rattle.loading.specs.Loading.{loadBook}
+use Rattle.asked.specs.declared.Given.{Given}
+use Rattle.asked.specs.declared.Given.the-variants as Givens
+use Rattle.asked.specs.Given.{onGiven, oneOf}
+use Rattle.loading.specs.Sheet.{cutSheet}
 use Rattle.output.specs.Size.{outputMost}
 use Rattle.answers.specs.Answers.{Answer, accepted, ended, refused, refusal}
 use Rattle.answers.specs.Entries.{SheetOutcome, sheetOf, RoundOutcome, askedOf, writing, loadedRound, roundOf, WordOutcome, lacksSpace, placedAt, foundAt, loadedLeast, leastOf, OutputOutcome, outputOf}

@@ -11,7 +11,7 @@ use lib.ListN.{length, getD}
 use mir.Val.{Fits}
 use mir.Syntax.{w64}
 use Rattle.words.specs.Words.{Word}
-use Rattle.writing.specs.Writing.{over}
+use Rattle.words.specs.Writing.{over}
 use Rattle.writing.proofs.Writing.{written-zero}
 use Rattle.words.specs.Relations.{relationWords}
 use Rattle.words.specs.Families.{wordOfSide, wordsOf, familyOf}
@@ -33,17 +33,18 @@ use Rattle.rounds.specs.Writing as Writing
 use Rattle.rounds.specs.Writing.{writtenBy, Lent}
 use Rattle.presentation.specs.Loading.{Holding, Memory, BookLoaded}
 use Rattle.presentation.proofs.Laws.{load-refused}
-use Rattle.given.specs.declared.Given.{Given}
-use Rattle.given.specs.declared.Given.the-variants as Givens
-use Rattle.given.specs.Given.{givenOf, onGiven, tripleOf}
+use Rattle.asked.specs.declared.Given.{Given}
+use Rattle.asked.specs.declared.Given.the-variants as Givens
+use Rattle.asked.specs.Given.{givenOf, onGiven, tripleOf}
 use Rattle.given.proofs.Laws.{fine-short, fine-both}
 use Rattle.rounds.specs.declared.RoundLengths.{RoundLengths}
 use Rattle.rounds.specs.declared.RoundLengths.the-variants as Lengths
-use Rattle.comparison.specs.declared.Comparison.{Comparison}
-use Rattle.comparison.specs.declared.Comparison.the-variants as Comparisons
+use Rattle.asked.specs.declared.Comparison.{Comparison}
+use Rattle.asked.specs.declared.Comparison.the-variants as Comparisons
 use Rattle.moves.specs.State.{Ready}
-use Rattle.comparison.specs.Comparing.{comparisonOf}
-use Rattle.sheet.specs.Sheet.{cutSheet, sheetBytes, SheetRoom}
+use Rattle.asked.specs.Comparing.{comparisonOf}
+use Rattle.sheet.specs.Sheet.{sheetBytes, SheetRoom}
+use Rattle.loading.specs.Sheet.{cutSheet}
 use Rattle.sheet.proofs.Laws.{side-in, sheet-cut}
 use Rattle.answers.specs.declared.Verdict.the-variants as Verdicts
 use Rattle.answers.specs.declared.Round.{Round}

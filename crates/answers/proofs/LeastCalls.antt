@@ -10,15 +10,16 @@ use lib.Dec.{ltb}
 use lib.ListN.{length, take, drop, replicate, length-replicate, length-drop, drop-of-length-le}
 use lib.Seq.{take-all}
 use Rattle.words.specs.Words.{Word}
-use Rattle.writing.specs.Writing.{over}
+use Rattle.words.specs.Writing.{over}
 use Rattle.layout.specs.Layout.{wordsIn}
 use Rattle.layout.specs.Families.{familyBy}
 use Rattle.limits.specs.Limits.{comparedMost}
 use Rattle.refusals.specs.declared.Refusal.{Refusal}
 use Rattle.refusals.specs.declared.Refusal.the-variants.{NoSpace, NoPrefix}
-use Rattle.given.specs.declared.Given.{Given}
-use Rattle.given.specs.declared.Given.the-variants as Givens
-use Rattle.given.specs.Given.{oneOf, Widened}
+use Rattle.asked.specs.declared.Given.{Given}
+use Rattle.asked.specs.declared.Given.the-variants as Givens
+use Rattle.given.specs.Given.{Widened}
+use Rattle.asked.specs.Given.{oneOf}
 use Rattle.given.proofs.Laws.{fine-short, fine-known}
 use Rattle.overlap.specs.Pieces.{IsPiece, empty}
 use Rattle.least.specs.Writing.{Found, found, absent}
@@ -26,7 +27,8 @@ use Rattle.moves.specs.declared.Mark.{Mark}
 use Rattle.moves.specs.State.{placedMark, MarkFits}
 use Rattle.leastword.specs.declared.Counted.{Counted}
 use Rattle.leastword.specs.declared.Counted.the-variants as Counts
-use Rattle.leastword.specs.Writing.{leastFrom, Asked, countedOf, PutFound}
+use Rattle.leastword.specs.Writing.{Asked, countedOf, PutFound}
+use Rattle.asked.specs.Least.{leastFrom}
 use Rattle.leastword.proofs.Rounds.{least-found}
 use Rattle.answers.specs.declared.WrittenWord.the-variants as WrittenWords
 use Rattle.answers.specs.Answers.{wrote, ofWrittenWord}

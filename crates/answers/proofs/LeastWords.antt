@@ -25,13 +25,13 @@ use Rattle.least.proofs.Theorem.{least-words-decide}
 use Rattle.limits.specs.Limits.{comparedMost, sideMost}
 use Rattle.refusals.specs.declared.Refusal.the-variants.{NoSpace}
 use Rattle.format.specs.Book.{Presentation, BookReading}
-use Rattle.presentation.specs.Loading.{loadBook}
-use Rattle.given.specs.declared.Given.the-variants as Givens
-use Rattle.given.specs.Given.{givenOf, oneOf, pairOf}
+use Rattle.loading.specs.Loading.{loadBook}
+use Rattle.asked.specs.declared.Given.the-variants as Givens
+use Rattle.asked.specs.Given.{givenOf, oneOf, pairOf}
 use Rattle.given.proofs.Laws.{fine-short, fine-both, fine-again}
-use Rattle.writing.specs.Writing.{over}
+use Rattle.words.specs.Writing.{over}
 use Rattle.writing.proofs.Writing.{over-prefix, over-behind, over-kept}
-use Rattle.leastword.specs.Writing.{leastFor}
+use Rattle.asked.specs.Least.{leastFor}
 use Rattle.leastword.proofs.Rounds.{longest-bound}
 use Rattle.answers.specs.Answers.{Answer, same, different, wrote, refused, refusal}
 use Rattle.answers.specs.Entries.{WordOutcome, compareOf, lacksSpace, placedAt, loadedLeast, leastOf}

@@ -17,7 +17,7 @@ use Rattle.limits.specs.Limits.{sideMost}
 use Rattle.format.specs.Book.{Presentation, BookReading, readBook}
 use Rattle.format.specs.Bytes.{Within, AllWithin, none, more}
 use Rattle.format.proofs.Readings.{read-within}
-use Rattle.presentation.specs.Loading.{loadBook, byVerdict}
+use Rattle.loading.specs.Loading.{loadBook, byVerdict}
 
 -- a loaded book meets C(4)
 by-verdict-c4 : (p q : Presentation) (v : Verdict) → judge (relationWords (q .relations)) ≡ v → byVerdict q v ≡ BookReading.read p → C4 (wordsOf (p .relations))

@@ -19,11 +19,11 @@ use Rattle.refusals.specs.declared.Refusal.the-variants.{Short, Kind, Length}
 use Rattle.refusals.specs.Refusals.{numberAndPlace}
 use Rattle.format.specs.Book.{Presentation, BookReading, field, recordAt, differs}
 use Rattle.format.proofs.Readings.{passed, equal-of, whole-at, passed-whole}
-use Rattle.presentation.specs.Loading.{loadBook}
-use Rattle.comparison.specs.declared.Comparison.{Comparison}
-use Rattle.comparison.specs.declared.Comparison.the-variants as Comparisons
-use Rattle.comparison.specs.Comparing.{comparisonOf}
-use Rattle.lines.specs.Lines.{lineOf}
+use Rattle.loading.specs.Loading.{loadBook}
+use Rattle.asked.specs.declared.Comparison.{Comparison}
+use Rattle.asked.specs.declared.Comparison.the-variants as Comparisons
+use Rattle.asked.specs.Comparing.{comparisonOf}
+use Rattle.spelling.specs.Lines.{lineOf}
 use Rattle.output.specs.declared.Request.{Request}
 use Rattle.output.specs.declared.Request.the-variants as Requests
 use Rattle.output.specs.Requests.{longField, fieldsOf, requestAt}

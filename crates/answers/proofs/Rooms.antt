@@ -5,7 +5,7 @@ use borrow.Author.Needs.{needs}
 use borrow.Author.Tests.{lt-ltb, le-ltb}
 use Rattle.refusals.specs.declared.Refusal.the-variants.{Narrow}
 use Rattle.limits.specs.Limits.{nextRoom, markMost}
-use Rattle.given.specs.declared.Given.the-variants as Givens
+use Rattle.asked.specs.declared.Given.the-variants as Givens
 use Rattle.answers.specs.Entries.{roomOf}
 
 module _ (roomU roomV roomP : ℕ) where

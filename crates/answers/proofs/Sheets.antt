@@ -20,9 +20,9 @@ use Rattle.overlap.proofs.Facts.{length-x, length-z}
 use Rattle.overlap.proofs.Maximal.{x-maximal, z-maximal, cut-whole, length-y, y-has-letters, y-is-no-piece}
 use Rattle.overlap.proofs.Theorems.{counts-fewest, numbers-decide, numbers-small}
 use Rattle.limits.specs.Limits.{sideMost, sheetX, sheetY, sheetZ, sheetPieces, sheetColumns}
-use Rattle.sheet.specs.Sheet.{cutRow, cutBytes, cutSheet}
+use Rattle.loading.specs.Sheet.{cutRow, cutBytes, cutSheet}
 use Rattle.words.proofs.Relations.{length-words}
-use Rattle.writing.specs.Writing.{over}
+use Rattle.words.specs.Writing.{over}
 use Rattle.writing.proofs.Writing.{over-prefix, over-behind, over-kept}
 use Rattle.answers.specs.Entries.{sheetOf}
 use Rattle.answers.specs.Demands.{Reports, CutsReported}

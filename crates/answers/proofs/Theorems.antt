@@ -18,10 +18,10 @@ use Rattle.congruence.specs.Rounds.{compareUnder}
 use Rattle.congruence.specs.Theorem.{Decision}
 use Rattle.congruence.proofs.Theorem.{rows-decide}
 use Rattle.format.specs.Book.{Presentation, BookReading, readBook}
-use Rattle.presentation.specs.Loading.{loadBook}
-use Rattle.given.specs.declared.Given.the-variants as Givens
-use Rattle.given.specs.Given.{pairOf}
-use Rattle.comparison.specs.Comparing.{answerOf, comparisonOf}
+use Rattle.loading.specs.Loading.{loadBook}
+use Rattle.asked.specs.declared.Given.the-variants as Givens
+use Rattle.asked.specs.Given.{pairOf}
+use Rattle.asked.specs.Comparing.{answerOf, comparisonOf}
 use Rattle.answers.specs.Answers.{Answer, accepted, same, different, refused}
 use Rattle.answers.specs.Entries.{checkOf, compareOf}
 use Rattle.answers.specs.Demands.{Acceptance, Decides, Compared}

@@ -22,9 +22,9 @@ use Rattle.least.specs.Order.{houseRank}
 use Rattle.least.specs.Least.{LeastWord}
 use Rattle.limits.specs.Limits.{sideMost, leastMost, sheetX, sheetY, sheetZ, sheetPieces, sheetColumns}
 use Rattle.format.specs.Book.{Presentation, BookReading, readBook}
-use Rattle.presentation.specs.Loading.{loadBook}
-use Rattle.given.specs.declared.Given.the-variants as Givens
-use Rattle.given.specs.Given.{oneOf, pairOf}
+use Rattle.loading.specs.Loading.{loadBook}
+use Rattle.asked.specs.declared.Given.the-variants as Givens
+use Rattle.asked.specs.Given.{oneOf, pairOf}
 use Rattle.answers.specs.Answers.{Answer, accepted, same, different, wrote, refused}
 use Rattle.answers.specs.Entries.{checkOf, SheetOutcome, sheetOf, compareOf, WordOutcome, leastOf}
 

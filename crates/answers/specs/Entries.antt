@@ -5,7 +5,7 @@ use mathlib.Core.List.{List, _++_}
 use lib.Dec.{ltb}
 use lib.ListN.{length, take, drop}
 use Rattle.words.specs.Words.{Word}
-use Rattle.writing.specs.Writing.{over}
+use Rattle.words.specs.Writing.{over}
 use Rattle.words.specs.Relations.{relationWords}
 use Rattle.words.specs.Families.{wordsOf, familyOf}
 use Rattle.congruence.specs.Rows.{Next, round}
@@ -14,14 +14,14 @@ use Rattle.refusals.specs.declared.Refusal.{Refusal}
 use Rattle.refusals.specs.declared.Refusal.the-variants.{Narrow, NoSpace, NoPrefix}
 use Rattle.limits.specs.Limits.{nextRoom, markMost, sheetColumns}
 use Rattle.format.specs.Book.{Presentation, BookReading}
-use Rattle.presentation.specs.Loading.{loadBook}
-use Rattle.given.specs.declared.Given.{Given}
-use Rattle.given.specs.declared.Given.the-variants as Givens
-use Rattle.given.specs.Given.{onGiven, oneOf, tripleOf}
-use Rattle.sheet.specs.Sheet.{cutSheet}
-use Rattle.comparison.specs.Comparing.{comparisonOf}
+use Rattle.loading.specs.Loading.{loadBook}
+use Rattle.asked.specs.declared.Given.{Given}
+use Rattle.asked.specs.declared.Given.the-variants as Givens
+use Rattle.asked.specs.Given.{onGiven, oneOf, tripleOf}
+use Rattle.loading.specs.Sheet.{cutSheet}
+use Rattle.asked.specs.Comparing.{comparisonOf}
 use Rattle.least.specs.Writing.{Found, found, absent}
-use Rattle.leastword.specs.Writing.{leastFor}
+use Rattle.asked.specs.Least.{leastFor}
 use Rattle.output.specs.Program.{programOf}
 use Rattle.output.specs.Size.{outputMost}
 use Rattle.answers.specs.Answers.{Answer, accepted, ended, next, wrote, refusal, ofComparison}

@@ -13,11 +13,12 @@ use Rattle.moves.specs.State.{Ready, placedMark}
 use Rattle.layout.specs.Layout.{wordsIn}
 use Rattle.layout.specs.Families.{familyBy}
 use Rattle.leastword.specs.declared.Counted.the-variants as Counts
-use Rattle.leastword.specs.Writing.{leastFrom, Asked, countedOf}
+use Rattle.leastword.specs.Writing.{Asked, countedOf}
+use Rattle.asked.specs.Least.{leastFrom}
 use Rattle.rounds.specs.declared.RoundLengths.{RoundLengths}
 use Rattle.rounds.specs.declared.RoundLengths.the-variants as Lengths
 use Rattle.sheet.specs.Sheet.{sheetBytes, SideIn}
-use Rattle.writing.specs.Writing.{over}
+use Rattle.words.specs.Writing.{over}
 use Rattle.answers.specs.declared.Round.{Round}
 use Rattle.answers.specs.declared.Round.the-variants as Rounds
 use Rattle.answers.specs.Answers.{accepted, refusal}

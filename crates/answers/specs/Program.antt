@@ -8,7 +8,7 @@ use Rattle.words.specs.Words.{Word, part}
 use Rattle.limits.specs.declared.Record.the-variants.{Whole, CutOff}
 use Rattle.limits.specs.Limits.{recordPrefix, comparisonKind, comparisonLength, inputMost}
 use Rattle.format.specs.Book.{field, recordAt}
-use Rattle.lines.specs.Lines.{lineOf, pairLineOf}
+use Rattle.spelling.specs.Lines.{lineOf, pairLineOf}
 use Rattle.output.specs.Requests.{longField}
 use Rattle.output.specs.Program.{refusedText, bookText, sameText, differentText, bookEnd, programOf}
 use Rattle.answers.specs.Answers.{Answer, accepted, same, different, refused}

@@ -2,7 +2,7 @@
 // filled with aa before a call; `touched` stands before an answer that came with a change of a byte which it must keep.
 ghost use Rattle.fields.specs.Places.{Filled};
 ghost use Rattle.calls.specs.Places.{Lent};
-use comparison::Comparison;
+use asked::Comparison;
 use entries::Round;
 use entries::Verdict;
 use entries::WrittenWord;

@@ -13,7 +13,7 @@ use mir.Val.{Fits}
 use mir.Syntax.{w64}
 use Rattle.output.specs.Program.{programOf}
 use Rattle.output.specs.Size.{outputMost}
-use Rattle.writing.specs.Writing.{over}
+use Rattle.words.specs.Writing.{over}
 use Rattle.answers.specs.declared.Printed.{Printed}
 use Rattle.answers.specs.declared.Printed.the-variants.{Wrote}
 use Rattle.answers.specs.Answers.{wrote, ofPrinted}

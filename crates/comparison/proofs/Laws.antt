@@ -16,9 +16,10 @@ use Rattle.layout.specs.Layout.{wordsIn}
 use Rattle.layout.specs.Families.{familyBy}
 use Rattle.refusals.specs.declared.Refusal.{Refusal}
 use Rattle.refusals.specs.declared.Refusal.the-variants.{Spent}
-use Rattle.given.specs.declared.Given.{Given}
-use Rattle.given.specs.declared.Given.the-variants as Givens
-use Rattle.given.specs.Given.{givenOf, pairOf, Widened}
+use Rattle.asked.specs.declared.Given.{Given}
+use Rattle.asked.specs.declared.Given.the-variants as Givens
+use Rattle.given.specs.Given.{Widened}
+use Rattle.asked.specs.Given.{givenOf, pairOf}
 use Rattle.given.proofs.Laws.{fine-short, fine-both}
 use Rattle.limits.specs.Limits.{comparedMost}
 use Rattle.moves.specs.declared.State.{State}
@@ -27,11 +28,11 @@ use Rattle.moves.specs.declared.Move.the-variants as Moves
 use Rattle.moves.specs.State.{placedWord, placedMark, Fitting, StateReady, MoveFits, RoundMade}
 use Rattle.comparison.specs.declared.Progress.{Progress}
 use Rattle.comparison.specs.declared.Progress.the-variants.{Ended, Paused}
-use Rattle.comparison.specs.declared.Comparison.{Comparison}
-use Rattle.comparison.specs.declared.Comparison.the-variants.{Same, Different, Refused}
+use Rattle.asked.specs.declared.Comparison.{Comparison}
+use Rattle.asked.specs.declared.Comparison.the-variants.{Same, Different, Refused}
 use Rattle.comparison.specs.Rounds.{MadeRounds, ended, paused, roundsFrom, answered, roundsOf, Progressed}
 use Rattle.comparison.specs.Widening.{ReadyToWiden, Widenable}
-use Rattle.comparison.specs.Comparing.{answerOf, comparisonOf}
+use Rattle.asked.specs.Comparing.{answerOf, comparisonOf}
 
 -- some rounds from a state
 module _ (text table : List ℕ) (n : ℕ) (first second : Word) where

@@ -5,8 +5,9 @@ ghost use Rattle.layout.specs.Families.{familyBy};
 ghost use Rattle.moves.specs.State.{Ready, Fitting, StateReady};
 ghost use Rattle.comparison.specs.Rounds.{Progressed};
 ghost use Rattle.comparison.specs.Widening.{ReadyToWiden, Widenable};
-ghost use Rattle.comparison.specs.Comparing.{comparisonOf, answerOf};
-use given::Given;
+ghost use Rattle.asked.specs.Comparing.{comparisonOf, answerOf};
+use asked::Comparison;
+use asked::Given;
 use given::widen_word;
 use limits::Word;
 use moves::Mark;
@@ -20,13 +21,6 @@ use refusals::Refusal;
 pub enum Progress {
     Ended(bool, u32),
     Paused(State, u32),
-}
-
-// A comparison's answer: the words are congruent ('same') or not ('different'), with the count of rounds, or it is refused.
-pub enum Comparison {
-    Same(u32),
-    Different(u32),
-    Refused(Refusal),
 }
 
 // At most `budget` rounds from a state; where another one is due then, the state comes back.

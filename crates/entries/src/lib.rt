@@ -9,7 +9,7 @@ pub use answers::Printed;
 pub use answers::Round;
 pub use answers::Verdict;
 pub use answers::WrittenWord;
-use comparison::Comparison;
+use asked::Comparison;
 use format::Reading;
 use layout::Table;
 use layout::Text;

@@ -11,7 +11,8 @@ use Rattle.words.specs.Words.{part}
 use Rattle.words.specs.Relations.{Relation}
 use Rattle.limits.specs.declared.Record.the-variants.{Whole}
 use Rattle.limits.specs.Limits.{lettersMost, relationsMost, outside}
-use Rattle.letters.specs.Letters.{firstUnknown, unknownIn}
+use Rattle.words.specs.Letters.{unknownIn}
+use Rattle.words.specs.Letters.{firstUnknown}
 use Rattle.letters.proofs.Letters.{of-known, unknown-append}
 use Rattle.format.specs.declared.HeadReading.the-variants as Heads
 use Rattle.format.specs.declared.RelationReading.the-variants as Relations

@@ -1,6 +1,6 @@
 -- The worked examples hold, by computation.
 use mathlib.Core.Path.{refl}
-use Rattle.letters.specs.Letters.{firstUnknown}
+use Rattle.words.specs.Letters.{firstUnknown}
 use Rattle.format.specs.Book.{recordAt, headAt, fieldsAt, relationAt, relationsFrom, readBook}
 use Rattle.format.specs.Examples.{Hold, none, more, examples, times}
 

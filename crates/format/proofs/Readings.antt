@@ -15,7 +15,8 @@ use Rattle.limits.specs.declared.Record.{Record}
 use Rattle.limits.specs.declared.Record.the-variants.{Whole, CutOff}
 use Rattle.limits.specs.Limits.{lettersMost, relationsMost, sideMost, outside}
 use Rattle.refusals.specs.declared.Refusal.{Refusal}
-use Rattle.letters.specs.Letters.{firstUnknown, unknownIn}
+use Rattle.words.specs.Letters.{unknownIn}
+use Rattle.words.specs.Letters.{firstUnknown}
 use Rattle.letters.proofs.Letters.{known-of}
 use Rattle.format.specs.declared.HeadReading.{HeadReading}
 use Rattle.format.specs.declared.HeadReading.the-variants as Heads

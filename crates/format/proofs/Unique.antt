@@ -15,7 +15,7 @@ use Rattle.words.specs.Relations.{Relation}
 use Rattle.words.proofs.Parts.{part-length}
 use Rattle.limits.specs.declared.Record.the-variants.{Whole}
 use Rattle.limits.specs.Limits.{relationsMost, outside}
-use Rattle.letters.specs.Letters.{unknownIn}
+use Rattle.words.specs.Letters.{unknownIn}
 use Rattle.format.specs.declared.HeadReading.{HeadReading}
 use Rattle.format.specs.declared.HeadReading.the-variants as Heads
 use Rattle.format.specs.declared.RelationReading.{RelationReading}

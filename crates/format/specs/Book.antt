@@ -13,7 +13,7 @@ use Rattle.limits.specs.declared.Record.the-variants.{Whole, CutOff}
 use Rattle.limits.specs.Limits.{recordPrefix, headKind, headPayload, headRecord, lettersFewest, lettersMost, relationKind, relationFixedPayload, sideFewest, sideMost, relationsMost, outside}
 use Rattle.refusals.specs.declared.Refusal.{Refusal}
 use Rattle.refusals.specs.declared.Refusal.the-variants.{Short, Kind, Length, Range, UnknownLetter, TooMany}
-use Rattle.letters.specs.Letters.{unknownIn}
+use Rattle.words.specs.Letters.{unknownIn}
 use Rattle.format.specs.declared.HeadReading.{HeadReading}
 use Rattle.format.specs.declared.HeadReading.the-variants as Heads
 use Rattle.format.specs.declared.RelationReading.{RelationReading}

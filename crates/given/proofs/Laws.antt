@@ -11,7 +11,7 @@ use lib.ListN.{length, getD}
 use mir.Val.{Fits}
 use mir.Syntax.{w16}
 use Rattle.words.specs.Words.{Word}
-use Rattle.writing.specs.Writing.{written}
+use Rattle.words.specs.Writing.{written}
 use Rattle.writing.proofs.Writing.{written-length, written-taken}
 use Rattle.refusals.specs.declared.Refusal.{Refusal}
 use Rattle.refusals.specs.declared.Refusal.the-variants.{Long, Stranger}
@@ -19,11 +19,12 @@ use Rattle.limits.specs.declared.MadeWord.{MadeWord}
 use Rattle.limits.specs.declared.MadeWord.the-variants as Made
 use Rattle.limits.specs.declared.Word.{Word as Record}
 use Rattle.limits.specs.Limits.{comparedMost, roundMost, markMost, wordOf}
-use Rattle.letters.specs.Letters.{firstUnknown}
+use Rattle.words.specs.Letters.{firstUnknown}
 use Rattle.letters.proofs.Letters.{known-of}
-use Rattle.given.specs.declared.Given.{Given}
-use Rattle.given.specs.declared.Given.the-variants.{Fine, Refused}
-use Rattle.given.specs.Given.{givenOf, onGiven, oneOf, markedOf, pairOf, tripleOf, Widened}
+use Rattle.asked.specs.declared.Given.{Given}
+use Rattle.asked.specs.declared.Given.the-variants.{Fine, Refused}
+use Rattle.given.specs.Given.{Widened}
+use Rattle.asked.specs.Given.{givenOf, onGiven, oneOf, markedOf, pairOf, tripleOf}
 
 -- what the word's constructor answers
 module _ (most n : ℕ) where

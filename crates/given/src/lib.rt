@@ -3,19 +3,15 @@ ghost use mathlib.Core.Path.{_≡_};
 ghost use Prim.Native.Nat.{_≤_};
 ghost use lib.ListN.{length};
 ghost use Rattle.limits.specs.Limits.{markMost};
-ghost use Rattle.given.specs.Given.{givenOf, oneOf, markedOf, pairOf, tripleOf, Widened};
+ghost use Rattle.given.specs.Given.{Widened};
+ghost use Rattle.asked.specs.Given.{givenOf, oneOf, markedOf, pairOf, tripleOf};
+use asked::Given;
 use limits::MadeWord;
 use limits::Word;
 use refusals::Refusal;
 
 // The letters of an array into which short words are widened. Longer ones get an array of the most letters, whose making takes as long as a short call.
 pub const SHORT: usize = 256;
-
-// A given word is fine, or refused.
-pub enum Given {
-    Fine,
-    Refused(Refusal),
-}
 
 // One given word, by its number and the most letters that it may have. A position in it has two bytes, and 65,535 is no limit of the papers.
 fn check_word(number: u8, most: usize, letters: u8, word: &[u8]) -> Given

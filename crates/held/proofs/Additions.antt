@@ -11,7 +11,7 @@ use lib.Dec.{ltb}
 use lib.ListN.{length}
 use Rattle.words.specs.Relations.{relationWords}
 use Rattle.overlap.specs.Verdict.{Verdict, judge}
-use Rattle.writing.specs.Writing.{over}
+use Rattle.words.specs.Writing.{over}
 use Rattle.limits.specs.declared.Record.the-variants.{Whole}
 use Rattle.limits.specs.Limits.{sheetColumns, relationKind, relationsMost, changesMost}
 use Rattle.refusals.specs.declared.Refusal.{Refusal}
@@ -26,8 +26,8 @@ use Rattle.format.proofs.Bytes.{read-bytes}
 use Rattle.format.proofs.Unique.{adding-bytes}
 use Rattle.format.proofs.Additions.{addition-bytes, additions-read}
 use Rattle.format.proofs.Refused.{RecordRefusal, RelationUpto, addition-upto}
-use Rattle.presentation.specs.Loading.{loadBook}
-use Rattle.sheet.specs.Sheet.{cutSheet}
+use Rattle.loading.specs.Loading.{loadBook}
+use Rattle.loading.specs.Sheet.{cutSheet}
 use Rattle.answers.specs.Answers.{Answer, accepted, refused, refusal}
 use Rattle.answers.specs.Entries.{SheetOutcome, sheetOf}
 use Rattle.held.specs.Held.{bookIn, changesTold, changesAfter, worn, holding}

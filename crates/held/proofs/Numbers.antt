@@ -13,7 +13,7 @@ use Rattle.format.specs.declared.RelationReading.the-variants as Relations
 use Rattle.format.specs.Book.{Presentation, adding, BookReading, read, refused, additionAt, relationIn, onRelation, readBook}
 use Rattle.format.specs.Bytes.{bookBytes}
 use Rattle.format.proofs.Refused.{RecordRefusal, RelationUpto, addition-upto, BookUpto, book-upto}
-use Rattle.presentation.specs.Loading.{byVerdict, byReading, loadBook}
+use Rattle.loading.specs.Loading.{byVerdict, byReading, loadBook}
 use Rattle.answers.specs.Entries.{onLoaded}
 use Rattle.held.specs.Held.{bookIn, takenUp}
 use Rattle.held.specs.Changes.{Change, addition, withdrawal, changed, changedIn, Effect, refuses, leads, settled, effectOf}

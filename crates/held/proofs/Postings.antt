@@ -9,14 +9,14 @@ use native.Mathlib.Omega.{arith}
 use borrow.Author.Tests.{le-ltb, lt-leb, eq-eqb, ne-eqb}
 use lib.Dec.{ltb}
 use lib.ListN.{length}
-use Rattle.writing.specs.Writing.{over}
+use Rattle.words.specs.Writing.{over}
 use Rattle.limits.specs.Limits.{sheetColumns, changesMost, ticketRoom}
 use Rattle.refusals.specs.declared.Refusal.{Refusal}
 use Rattle.refusals.specs.declared.Refusal.the-variants.{Narrow, StaleTicket, BookWorn}
 use Rattle.refusals.specs.Refusals.{numberAndPlace}
 use Rattle.format.specs.Bytes.{bookBytes}
 use Rattle.format.proofs.Readings.{passed}
-use Rattle.presentation.specs.Loading.{loadBook}
+use Rattle.loading.specs.Loading.{loadBook}
 use Rattle.answers.specs.Answers.{accepted, refused, refusal}
 use Rattle.held.specs.Held.{changesTold, changesAfter, worn, heldBytes, holding}
 use Rattle.held.specs.Changes.{LoadOutcome, loadOf, Change, Effect, refuses, leads, settled, effectOf, firstly, lastly, ChangeOutcome, made, changeOf}

@@ -8,7 +8,7 @@ use lib.Dec.{leb, ltb}
 use lib.ListN.{length}
 use Rattle.words.specs.Relations.{relationWords}
 use Rattle.overlap.specs.Verdict.{Verdict, judge}
-use Rattle.writing.specs.Writing.{over}
+use Rattle.words.specs.Writing.{over}
 use Rattle.limits.specs.Limits.{sheetColumns, heldRoom}
 use Rattle.refusals.specs.declared.Refusal.{Refusal}
 use Rattle.refusals.specs.declared.Refusal.the-variants.{Narrow}
@@ -20,8 +20,8 @@ use Rattle.format.proofs.Readings.{passed, read-within}
 use Rattle.format.proofs.Bytes.{read-bytes}
 use Rattle.format.proofs.Unique.{without-within, adding-within}
 use Rattle.format.proofs.Additions.{addition-within, addition-few}
-use Rattle.presentation.specs.Loading.{byVerdict, loadBook}
-use Rattle.sheet.specs.Sheet.{cutSheet}
+use Rattle.loading.specs.Loading.{byVerdict, loadBook}
+use Rattle.loading.specs.Sheet.{cutSheet}
 use Rattle.answers.specs.Answers.{accepted}
 use Rattle.answers.specs.Entries.{onLoaded}
 use Rattle.held.specs.Held.{bookIn, changesAfter, holding, takenUp}

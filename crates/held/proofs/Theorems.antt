@@ -11,7 +11,7 @@ use Rattle.words.specs.Relations.{relationWords}
 use Rattle.words.proofs.Relations.{withdrawn-sides, added-sides}
 use Rattle.overlap.specs.Verdict.{Verdict, judge}
 use Rattle.overlap.proofs.Fewer.{fewer-accepted}
-use Rattle.writing.specs.Writing.{over}
+use Rattle.words.specs.Writing.{over}
 use Rattle.limits.specs.Limits.{sheetColumns, heldRoom, heldBuffer}
 use Rattle.refusals.specs.declared.Refusal.the-variants.{Narrow, NoSuchRelation, BookWorn}
 use Rattle.format.specs.Book.{Presentation, adding, without, BookReading, read, relationIn}
@@ -20,8 +20,8 @@ use Rattle.format.proofs.Lengths.{bytes-few}
 use Rattle.format.proofs.Bytes.{read-bytes}
 use Rattle.format.proofs.Unique.{bytes-unique, without-within, without-length}
 use Rattle.format.proofs.Additions.{without-last}
-use Rattle.presentation.specs.Loading.{loadBook}
-use Rattle.sheet.specs.Sheet.{cutSheet}
+use Rattle.loading.specs.Loading.{loadBook}
+use Rattle.loading.specs.Sheet.{cutSheet}
 use Rattle.answers.specs.Answers.{accepted, refused, refusal}
 use Rattle.answers.specs.Entries.{SheetOutcome, sheetOf}
 use Rattle.held.specs.Held.{bookIn, changesAfter, worn, holding}

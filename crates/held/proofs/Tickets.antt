@@ -9,7 +9,7 @@ use borrow.Author.Tests.{leb-false}
 use lib.Dec.{leb, ltb}
 use lib.ListN.{length, drop}
 use lib.Seq.{take-at}
-use Rattle.writing.specs.Writing.{over}
+use Rattle.words.specs.Writing.{over}
 use Rattle.limits.specs.Limits.{heldPrefix, heldChanges, ticketRoom, additionKind, withdrawalKind}
 use Rattle.format.specs.Book.{Presentation, read}
 use Rattle.format.specs.Bytes.{AreBytes}

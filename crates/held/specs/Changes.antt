@@ -6,14 +6,14 @@ use mathlib.Core.List.{List}
 use lib.Dec.{ltb, leb}
 use lib.ListN.{length}
 use Rattle.words.specs.Relations.{relationWords}
-use Rattle.writing.specs.Writing.{over}
+use Rattle.words.specs.Writing.{over}
 use Rattle.limits.specs.Limits.{sheetColumns, heldRoom, heldBuffer}
 use Rattle.refusals.specs.declared.Refusal.{Refusal}
 use Rattle.refusals.specs.declared.Refusal.the-variants.{Narrow, NoSuchRelation, BookWorn}
 use Rattle.format.specs.Book.{Presentation, adding, without, BookReading, read, refused, additionAt, relationIn, onRelation}
 use Rattle.format.specs.Bytes.{bookBytes}
-use Rattle.presentation.specs.Loading.{loadBook}
-use Rattle.sheet.specs.Sheet.{cutSheet}
+use Rattle.loading.specs.Loading.{loadBook}
+use Rattle.loading.specs.Sheet.{cutSheet}
 use Rattle.answers.specs.Answers.{Answer, accepted, refusal}
 use Rattle.answers.specs.Entries.{onLoaded}
 use Rattle.held.specs.Held.{bookIn, changesAfter, worn, holding, takenUp}

@@ -4,12 +4,12 @@ use mathlib.Core.List.{List, [], _∷_}
 use mathlib.Core.Path.{_≡_}
 use lib.ListN.{length}
 use Rattle.words.specs.Relations.{relationWords}
-use Rattle.writing.specs.Writing.{over}
+use Rattle.words.specs.Writing.{over}
 use Rattle.limits.specs.Limits.{sheetColumns, heldRoom, changesMost}
 use Rattle.format.specs.Book.{Presentation, without, read}
 use Rattle.format.specs.Bytes.{AreBytes, bookBytes, Within}
-use Rattle.presentation.specs.Loading.{loadBook}
-use Rattle.sheet.specs.Sheet.{cutSheet}
+use Rattle.loading.specs.Loading.{loadBook}
+use Rattle.loading.specs.Sheet.{cutSheet}
 use Rattle.answers.specs.Answers.{accepted, refused}
 use Rattle.answers.specs.Entries.{SheetOutcome, sheetOf}
 use Rattle.held.specs.Held.{bookIn, changesIn, changesTold, changesAfter, heldBytes, holding}

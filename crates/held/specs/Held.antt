@@ -5,7 +5,7 @@ use mathlib.Core.Bool.{Bool, cond}
 use mathlib.Core.List.{List, _++_}
 use lib.Dec.{ltb, leb}
 use lib.ListN.{length, take, drop}
-use Rattle.writing.specs.Writing.{over}
+use Rattle.words.specs.Writing.{over}
 use Rattle.limits.specs.Limits.{heldLengthAt, heldChangesAt, heldPrefix, heldRoom, changesMost, heldBuffer}
 use Rattle.refusals.specs.declared.Refusal.the-variants.{Narrow}
 use Rattle.format.specs.Book.{BookReading, refused, field, readBook}

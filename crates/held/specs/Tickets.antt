@@ -5,7 +5,7 @@ use mathlib.Core.Bool.{Bool, cond}
 use mathlib.Core.List.{List, _++_}
 use lib.Dec.{eqb, ltb}
 use lib.ListN.{length, take, drop}
-use Rattle.writing.specs.Writing.{over}
+use Rattle.words.specs.Writing.{over}
 use Rattle.limits.specs.Limits.{ticketChangesAt, ticketKindAt, ticketNumberAt, ticketPrefix, ticketRoom, ticketBuffer, additionKind, withdrawalKind}
 use Rattle.refusals.specs.declared.Refusal.the-variants.{Narrow, StaleTicket, BookWorn}
 use Rattle.format.specs.Book.{field, differs}

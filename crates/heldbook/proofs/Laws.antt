@@ -15,7 +15,7 @@ use Rattle.format.specs.Book.{Presentation, read}
 use Rattle.format.specs.Bytes.{AreBytes}
 use Rattle.format.proofs.Unique.{bytes-unique}
 use Rattle.format.proofs.Lengths.{bytes-few}
-use Rattle.presentation.specs.Loading.{loadBook}
+use Rattle.loading.specs.Loading.{loadBook}
 use Rattle.answers.specs.declared.Verdict.{Verdict}
 use Rattle.answers.specs.declared.Verdict.the-variants as Verdicts
 use Rattle.answers.specs.Answers.{accepted, ofVerdict}

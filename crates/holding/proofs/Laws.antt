@@ -11,7 +11,7 @@ use lib.ListN.{length, take, drop, set, length-set, length-take, length-drop, ta
 use lib.Seq.{take-append-seam}
 use mir.Syntax.{w64}
 use mir.Val.{Fits}
-use Rattle.writing.specs.Writing.{written}
+use Rattle.words.specs.Writing.{written}
 use Rattle.writing.proofs.Writing.{written-length, written-zero, written-behind, written-one}
 use Rattle.limits.specs.Limits.{heldLengthAt, heldChangesAt, heldPrefix, heldRoom, heldBuffer}
 use Rattle.refusals.specs.declared.Refusal.the-variants.{Narrow}

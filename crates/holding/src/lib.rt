@@ -2,7 +2,7 @@
 ghost use mathlib.Core.Path.{_≡_};
 ghost use Prim.Native.Nat.{_+_, _≤_};
 ghost use lib.ListN.{length};
-ghost use Rattle.writing.specs.Writing.{written};
+ghost use Rattle.words.specs.Writing.{written};
 ghost use Rattle.format.specs.Book.{readBook, readingOf};
 ghost use Rattle.format.specs.Bytes.{fieldBytes};
 ghost use Rattle.held.specs.Held.{bookIn, bookStart, changesTold, holding, takenUp};

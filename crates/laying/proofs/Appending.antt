@@ -12,7 +12,7 @@ use lib.Seq.{getD-at, take-take, take-append-seam, getD-set-same, getD-set-other
 use mir.Syntax.{w16}
 use mir.Val.{Fits}
 use Rattle.words.specs.Words.{Word, part}
-use Rattle.writing.specs.Writing.{written}
+use Rattle.words.specs.Writing.{written}
 use Rattle.writing.proofs.Writing.{written-length, written-before, written-in, written-there, written-behind, written-one}
 use Rattle.layout.specs.Places.{wordMost, textRoom, tableRoom, lettersBound, fenceOf, startCell, endCell}
 use Rattle.layout.specs.Layout.{startOf, endOf, wordsIn, Laid}

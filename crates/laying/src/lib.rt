@@ -7,7 +7,7 @@ ghost use lib.Dec.{eqb};
 ghost use lib.ListN.{length, getD};
 ghost use Rattle.words.specs.Words.{isPrefix, sameWord};
 ghost use Rattle.words.specs.Families.{placeOf};
-ghost use Rattle.writing.specs.Writing.{written};
+ghost use Rattle.words.specs.Writing.{written};
 ghost use Rattle.layout.specs.Layout.{Laid, KnownWord, wordsIn};
 ghost use Rattle.laying.specs.Appending.{WordRoom, Appended};
 ghost use Rattle.laying.specs.Sides.{isWordAt, SideRoom, SideAppended};

@@ -10,7 +10,8 @@ use mir.Val.{Fits}
 use mir.Syntax.{w64}
 use Rattle.words.specs.Words.{Word, part}
 use Rattle.words.proofs.Parts.{part-length}
-use Rattle.writing.specs.Writing.{written, Bytes, Narrowing}
+use Rattle.writing.specs.Writing.{Bytes, Narrowing}
+use Rattle.words.specs.Writing.{written}
 use Rattle.writing.proofs.Writing.{written-length}
 use Rattle.limits.specs.Limits.{sideMost}
 use Rattle.parts.specs.declared.Source.{Source}

@@ -12,7 +12,7 @@ use Rattle.overlap.proofs.Facts.{rigid-of-c4}
 use Rattle.congruence.proofs.Chains.{Chain}
 use Rattle.congruence.proofs.Chains.Chain.{stop}
 use Rattle.congruence.proofs.ShapeNoPrefix.{no-prefix-nil}
-use Rattle.writing.specs.Writing.{written}
+use Rattle.words.specs.Writing.{written}
 use Rattle.writing.proofs.Writing.{written-zero, written-behind}
 use Rattle.limits.specs.Limits.{sideMost}
 use Rattle.layout.specs.Layout.{wordsIn}
@@ -34,7 +34,8 @@ use Rattle.parts.specs.declared.Stage.{Stage}
 use Rattle.parts.specs.declared.Stage.the-variants as Stages
 use Rattle.parts.specs.State.{sourceWord, LeastFits, LeastReady, weight, StageStands, Goes, PartMade}
 use Rattle.leastword.specs.declared.Counted.the-variants as Counts
-use Rattle.leastword.specs.Writing.{leastFor, leastFrom, Asked, writtenMost, Puttable, Put, PutFound}
+use Rattle.leastword.specs.Writing.{Asked, writtenMost, Puttable, Put, PutFound}
+use Rattle.asked.specs.Least.{leastFor, leastFrom}
 use Rattle.leastword.proofs.Letters.{source-short}
 
 -- what is left of the rounds after one of them

@@ -1,29 +1,21 @@
--- The least word of a given word, behind a piece or behind nothing, and what writing it into a lent buffer leaves there.
+-- What writing the least word of a given word, behind a piece or behind nothing, into a lent buffer asks, and what it leaves there.
 use Prim.Native.Nat.{ℕ, _+_, _*_, _≤_}
-use mathlib.Core.List.{List, []}
+use mathlib.Core.List.{List}
 use mathlib.Core.Path.{_≡_}
 use lib.ListN.{length}
 use Rattle.words.specs.Words.{Word}
-use Rattle.writing.specs.Writing.{written, over, Bytes}
+use Rattle.writing.specs.Writing.{Bytes}
+use Rattle.words.specs.Writing.{written, over}
 use Rattle.overlap.specs.Pieces.{IsPiece}
 use Rattle.limits.specs.Limits.{sideMost, comparedMost}
 use Rattle.layout.specs.Layout.{wordsIn}
-use Rattle.least.specs.Order.{houseRank}
-use Rattle.least.specs.Writing.{Found, found, absent, wordOf, leastBehind}
+use Rattle.least.specs.Writing.{Found, found, absent}
 use Rattle.moves.specs.declared.Mark.{Mark}
 use Rattle.moves.specs.State.{Ready, placedMark, MarkFits}
 use Rattle.parts.specs.declared.Source.{Source}
 use Rattle.parts.specs.State.{LettersLow, SourceFits}
 use Rattle.leastword.specs.declared.Counted.{Counted}
 use Rattle.leastword.specs.declared.Counted.the-variants as Counts
-
--- the least congruent word of u under relation words B in families, letters by the house table: what the rounds write from the empty mark
-unfoldable pub leastFor : List Word → (ℕ → ℕ) → Word → Word
-leastFor B family u = wordOf (leastBehind B family houseRank [] u)
-
--- the least word behind a piece p: what the rounds write from the mark p, or that there is none
-abbrev pub leastFrom : List Word → (ℕ → ℕ) → Word → Word → Found
-leastFrom B family p u = leastBehind B family houseRank p u
 
 -- a word of which the least word behind a mark can be asked: within the limit, of letters that a head can have, under a checked presentation, of which the mark
 -- is a piece that lies in the text

@@ -11,7 +11,8 @@ use lib.Dec.{ltb}
 use lib.ListN.{length, getD, drop, drop-of-length-le}
 use lib.Seq.{drop-cons}
 use Rattle.words.specs.Words.{Word}
-use Rattle.letters.specs.Letters.{firstUnknown, largest}
+use Rattle.letters.specs.Letters.{largest}
+use Rattle.words.specs.Letters.{firstUnknown}
 
 -- the letters passed are known
 pub record Passed (letters : ℕ) (word : List ℕ) (i : ℕ) : Type 0 where

@@ -1,21 +1,9 @@
--- The letters of a word that are not below a number of letters.
-use Prim.Native.Nat.{ℕ, suc, max}
-use mathlib.Core.Bool.{Bool, cond}
+-- The largest letter of a word, which tells whether all are below a number of letters.
+use Prim.Native.Nat.{ℕ, max}
 use mathlib.Core.List.{[], _∷_}
-use lib.Dec.{ltb}
-use lib.ListN.{length}
 use Rattle.words.specs.Words.{Word}
-
--- the position of the first letter that is not below the number of letters, or the word's length
-unfoldable pub firstUnknown : ℕ → Word → ℕ
-firstUnknown letters [] = 0
-firstUnknown letters (x ∷ w) = cond (ltb x letters) (suc (firstUnknown letters w)) 0
 
 -- the largest letter, or 0 of the empty word
 unfoldable pub largest : Word → ℕ
 largest [] = 0
 largest (x ∷ w) = max x (largest w)
-
--- some letter of the word is not below the number of letters
-abbrev pub unknownIn : ℕ → Word → Bool
-unknownIn letters w = ltb (firstUnknown letters w) (length w)

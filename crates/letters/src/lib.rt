@@ -1,6 +1,7 @@
 // Letters that a head does not have (document 01: unknown steps and strangers), looked for in a word.
 ghost use mathlib.Core.Path.{_≡_};
-ghost use Rattle.letters.specs.Letters.{firstUnknown, largest};
+ghost use Rattle.letters.specs.Letters.{largest};
+ghost use Rattle.words.specs.Letters.{firstUnknown};
 use numbers::larger;
 
 // The largest letter of a word, or 0 of the empty one. The loop has no way out but its end, so that the compiler takes many letters in a turn.

@@ -1,3 +1,2 @@
 -- Numbers in decimal, lines of text, and what writing one at a place of a buffer leaves there.
-pub mod Decimal
 pub mod Lines

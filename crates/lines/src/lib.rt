@@ -3,13 +3,9 @@ ghost use mathlib.Core.List.{[], _∷_};
 ghost use mathlib.Core.Path.{_≡_};
 ghost use Prim.Native.Nat.{_+_, _≤_};
 ghost use lib.ListN.{length};
-ghost use Rattle.lines.specs.Decimal.{FuelSuffices, digitCount, decimal};
-ghost use Rattle.lines.specs.Lines.{WrittenTo, numbered, lineOf, pairLineOf};
-
-// No number needs a larger limit than the definition of its digits gives it.
-pub fn fuel_suffices()
-    ensures { λ _. ⌜ FuelSuffices ⌝ }
-{}
+ghost use Rattle.spelling.specs.Decimal.{digitCount, decimal};
+ghost use Rattle.spelling.specs.Lines.{numbered, lineOf, pairLineOf};
+ghost use Rattle.lines.specs.Lines.{WrittenTo};
 
 // How many decimal digits n has.
 fn digit_count(n: u64) -> usize

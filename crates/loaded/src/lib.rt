@@ -8,7 +8,7 @@ ghost use Rattle.answers.specs.Entries.{SheetOutcome, RoundOutcome, loadedRound
 ghost use Rattle.answers.specs.Parts.{SheetReady, acceptedSheet, answeredRound};
 use answers::Round;
 use answers::Verdict;
-use given::Given;
+use asked::Given;
 use limits::Sheet;
 use limits::Word;
 use refusals::Refusal;

@@ -11,13 +11,13 @@ use Rattle.overlap.specs.Verdict.{judge, firstLooseSide}
 use Rattle.congruence.specs.Rows.{hasRelationPrefixAt, hasRelationPrefixBetween, clean, cleanRelationPrefix, active, marked, markedByAny, begun, memberOf, isOther, firstOther, firstActive, tailMember, row1, row2, row4, row5, row6, row7, row8, makes, fitting, firstRow, round}
 use Rattle.congruence.specs.Rounds.{answerFrom}
 use Rattle.limits.specs.Limits.{inputMost}
-use Rattle.letters.specs.Letters.{firstUnknown}
+use Rattle.words.specs.Letters.{firstUnknown}
 use Rattle.format.specs.Book.{recordAt, headAt, fieldsAt, relationAt, relationsFrom, readBook}
-use Rattle.presentation.specs.Loading.{loadBook}
-use Rattle.given.specs.Given.{givenOf, pairOf}
-use Rattle.comparison.specs.Comparing.{answerOf, comparisonOf}
-use Rattle.lines.specs.Decimal.{digitsOf, countUpTo, decimal}
-use Rattle.lines.specs.Lines.{numbered, lineOf, pairLineOf}
+use Rattle.loading.specs.Loading.{loadBook}
+use Rattle.asked.specs.Given.{givenOf, pairOf}
+use Rattle.asked.specs.Comparing.{answerOf, comparisonOf}
+use Rattle.spelling.specs.Decimal.{digitsOf, countUpTo, decimal}
+use Rattle.spelling.specs.Lines.{numbered, lineOf, pairLineOf}
 use Rattle.output.specs.Requests.{fieldsOf, requestAt}
 use Rattle.output.specs.Program.{refusedLine, bookEndFrom, linesFrom, programOf}
 use Rattle.output.specs.Examples.{Hold, none, more, examples, HeavyFirst}

@@ -9,7 +9,7 @@ use lib.Dec.{leb}
 use lib.ListN.{length}
 use Rattle.words.specs.Words.{Word, part}
 use Rattle.format.specs.Book.{field}
-use Rattle.comparison.specs.Comparing.{comparisonOf}
+use Rattle.asked.specs.Comparing.{comparisonOf}
 use Rattle.output.specs.declared.Request.{Request}
 use Rattle.output.specs.declared.Request.the-variants.{Compare, Refused}
 use Rattle.output.specs.Requests.{requestAt}

@@ -12,11 +12,12 @@ use Rattle.layout.specs.Layout.{wordsIn}
 use Rattle.layout.specs.Places.{countCell}
 use Rattle.layout.specs.Families.{countOf, familyBy}
 use Rattle.refusals.specs.declared.Refusal.{Refusal}
-use Rattle.comparison.specs.declared.Comparison.{Comparison}
+use Rattle.asked.specs.declared.Comparison.{Comparison}
 use Rattle.moves.specs.State.{Ready}
-use Rattle.comparison.specs.Comparing.{comparisonOf}
-use Rattle.writing.specs.Writing.{written}
-use Rattle.lines.specs.Lines.{WrittenTo, lineOf}
+use Rattle.asked.specs.Comparing.{comparisonOf}
+use Rattle.words.specs.Writing.{written}
+use Rattle.spelling.specs.Lines.{lineOf}
+use Rattle.lines.specs.Lines.{WrittenTo}
 use Rattle.lines.proofs.Laws.{put-both, room-first, room-second}
 use Rattle.output.specs.declared.Request.{Request}
 use Rattle.output.specs.declared.Request.the-variants.{Compare, Refused}

@@ -21,22 +21,22 @@ use Rattle.limits.specs.Limits.{inputMost, relationsMost, comparisonKind, compa
 use Rattle.refusals.specs.declared.Refusal.{Refusal}
 use Rattle.refusals.specs.declared.Refusal.the-variants.{Short, Kind, Length, Range, UnknownLetter, TooMany, Loose, Long, Stranger, Spent, Narrow, Heavy, NoSpace, NoSuchRelation, StaleTicket, BookWorn, NotPiece, NoPrefix}
 use Rattle.refusals.specs.Refusals.{numberAndPlace}
-use Rattle.letters.specs.Letters.{firstUnknown}
+use Rattle.words.specs.Letters.{firstUnknown}
 use Rattle.format.specs.Book.{Presentation, BookReading, field, recordAt, differs, onWhole, readBook}
 use Rattle.format.specs.Bytes.{AreBytes}
 use Rattle.format.proofs.Readings.{read-within}
 use Rattle.format.proofs.Refused.{RecordRefusal, refusal-place, BookUpto, book-upto}
-use Rattle.presentation.specs.Loading.{byVerdict, byReading, loadBook}
+use Rattle.loading.specs.Loading.{byVerdict, byReading, loadBook}
 use Rattle.words.proofs.Relations.{length-words}
-use Rattle.given.specs.declared.Given.{Given}
-use Rattle.given.specs.declared.Given.the-variants as Givens
-use Rattle.given.specs.Given.{givenOf, onGiven, pairOf}
-use Rattle.comparison.specs.declared.Comparison.{Comparison}
-use Rattle.comparison.specs.declared.Comparison.the-variants.{Same, Different, Refused}
-use Rattle.comparison.specs.Comparing.{byAnswer, answerOf, comparisonOf}
-use Rattle.lines.specs.Decimal.{digitCount}
-use Rattle.lines.specs.Lines.{numbered, lineOf, pairLineOf}
-use Rattle.lines.proofs.Laws.{count-small, count-below, length-decimal}
+use Rattle.asked.specs.declared.Given.{Given}
+use Rattle.asked.specs.declared.Given.the-variants as Givens
+use Rattle.asked.specs.Given.{givenOf, onGiven, pairOf}
+use Rattle.asked.specs.declared.Comparison.{Comparison}
+use Rattle.asked.specs.declared.Comparison.the-variants.{Same, Different, Refused}
+use Rattle.asked.specs.Comparing.{byAnswer, answerOf, comparisonOf}
+use Rattle.spelling.specs.Decimal.{digitCount}
+use Rattle.spelling.specs.Lines.{numbered, lineOf, pairLineOf}
+use Rattle.spelling.proofs.Decimal.{count-small, count-below, length-decimal}
 use Rattle.output.specs.declared.Request.{Request}
 use Rattle.output.specs.declared.Request.the-variants as Requests
 use Rattle.output.specs.Requests.{longField, fieldsOf, requestAt}

@@ -19,7 +19,8 @@ use Rattle.limits.specs.declared.MadeInput.{MadeInput}
 use Rattle.limits.specs.declared.MadeInput.the-variants as Inputs
 use Rattle.limits.specs.Limits.{inputMost, inputOf}
 use Rattle.format.specs.Book.{BookReading}
-use Rattle.presentation.specs.Loading.{loadBook, Holding, BookLoaded}
+use Rattle.presentation.specs.Loading.{Holding, BookLoaded}
+use Rattle.loading.specs.Loading.{loadBook}
 use Rattle.presentation.proofs.Laws.{load-refused}
 use Rattle.lines.specs.Lines.{WrittenTo}
 use Rattle.output.specs.Program.{refusedLine, bookEnd, byLoading, loadedOutput, programOf}

@@ -7,9 +7,10 @@ use lib.ListN.{length}
 use Rattle.refusals.specs.declared.Refusal.{Refusal}
 use Rattle.refusals.specs.declared.Numbered.{Numbered}
 use Rattle.refusals.specs.Refusals.{numberAndPlace}
-use Rattle.comparison.specs.declared.Comparison.{Comparison}
-use Rattle.comparison.specs.declared.Comparison.the-variants.{Same, Different, Refused}
-use Rattle.lines.specs.Lines.{WrittenTo, lineOf, pairLineOf}
+use Rattle.asked.specs.declared.Comparison.{Comparison}
+use Rattle.asked.specs.declared.Comparison.the-variants.{Same, Different, Refused}
+use Rattle.spelling.specs.Lines.{lineOf, pairLineOf}
+use Rattle.lines.specs.Lines.{WrittenTo}
 use Rattle.output.specs.Program.{refusedText, sameText, differentText, refusedLine, comparisonLine}
 
 -- a refusal, by its number and its place

@@ -12,11 +12,11 @@ use Rattle.refusals.specs.declared.Refusal.{Refusal}
 use Rattle.refusals.specs.declared.Refusal.the-variants.{Heavy}
 use Rattle.refusals.specs.Refusals.{numberAndPlace}
 use Rattle.format.specs.Book.{BookReading, field}
-use Rattle.presentation.specs.Loading.{loadBook}
-use Rattle.comparison.specs.declared.Comparison.{Comparison}
-use Rattle.comparison.specs.declared.Comparison.the-variants.{Same, Different, Refused}
-use Rattle.comparison.specs.Comparing.{comparisonOf}
-use Rattle.lines.specs.Lines.{lineOf, pairLineOf}
+use Rattle.loading.specs.Loading.{loadBook}
+use Rattle.asked.specs.declared.Comparison.{Comparison}
+use Rattle.asked.specs.declared.Comparison.the-variants.{Same, Different, Refused}
+use Rattle.asked.specs.Comparing.{comparisonOf}
+use Rattle.spelling.specs.Lines.{lineOf, pairLineOf}
 use Rattle.output.specs.declared.Request.{Request}
 use Rattle.output.specs.declared.Request.the-variants as Requests
 use Rattle.output.specs.Requests.{requestAt}

@@ -5,7 +5,7 @@ use lib.ListN.{length}
 use Rattle.layout.specs.Layout.{wordsIn}
 use Rattle.layout.specs.Families.{countOf, familyBy}
 use Rattle.moves.specs.State.{Ready}
-use Rattle.lines.specs.Lines.{lineOf}
+use Rattle.spelling.specs.Lines.{lineOf}
 use Rattle.output.specs.Program.{bookText, linesFrom, loadedOutput}
 
 -- the lines of the comparison records from a position on, under the relation words of a checked presentation

@@ -17,7 +17,8 @@ use Rattle.layout.specs.Places.{textRoom}
 use Rattle.layout.specs.Layout.{Laid, wordsIn, startOf}
 use Rattle.layout.proofs.Placed.{words-length, start-bound}
 use Rattle.layout.proofs.Whole.{words-take, whole-inside, whole-long, whole-laid, whole-ends, whole-words, whole-bytes}
-use Rattle.writing.specs.Writing.{written, Narrowing}
+use Rattle.writing.specs.Writing.{Narrowing}
+use Rattle.words.specs.Writing.{written}
 use Rattle.writing.proofs.Writing.{written-length, written-taken}
 use Rattle.longest.specs.Longest.{Tabled}
 use Rattle.loose.specs.Pieces.{Fenced, AllInTables, Measurable, Measured}

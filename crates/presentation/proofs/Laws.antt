@@ -33,7 +33,8 @@ use Rattle.pieces.specs.declared.Judged.{Judged}
 use Rattle.pieces.specs.declared.Judged.the-variants as Judges
 use Rattle.pieces.specs.Judging.{judgedOf}
 use Rattle.pieces.proofs.Verdicts.{none-loose, lowest-loose}
-use Rattle.presentation.specs.Loading.{byVerdict, loadBook, Unchecked, WordsChecked, WordsKept, firstSide, byJudged, Holding, Memory, BookLoaded, PiecesKept}
+use Rattle.presentation.specs.Loading.{Unchecked, WordsChecked, WordsKept, firstSide, byJudged, Holding, Memory, BookLoaded, PiecesKept}
+use Rattle.loading.specs.Loading.{byVerdict, loadBook}
 
 -- where some number passes, the least one does
 least-below : (n : ℕ) (p : ℕ → Bool) (k : ℕ) → k < n → p k ≡ true → least n p < n

@@ -1,4 +1,4 @@
--- What loading a book gives: reading (refusals 1 to 6), then 8 over the whole book (document 01, "Refusals by number").
+-- What the arrays of a loaded book hold, and what the steps of loading it promise of them.
 use Prim.Native.Nat.{ℕ, _*_, _<_, _≤_}
 use mathlib.Core.List.{List}
 use mathlib.Core.Path.{_≡_}
@@ -7,7 +7,6 @@ use lib.ListN.{length}
 use Rattle.words.specs.Search.{least}
 use Rattle.words.specs.Relations.{relationWords}
 use Rattle.words.specs.Families.{sideWords, familiesAfter, wordsOf, familiesOf}
-use Rattle.overlap.specs.Verdict.{Verdict, judge}
 use Rattle.limits.specs.Limits.{relationsMost}
 use Rattle.layout.specs.Places.{wordsMost, textRoom, tableRoom}
 use Rattle.layout.specs.Layout.{Laid, wordsIn}
@@ -18,21 +17,9 @@ use Rattle.pieces.specs.Judging.{judgedOf, PiecesTabled}
 use Rattle.refusals.specs.declared.Refusal.the-variants.{Loose}
 use Rattle.format.specs.declared.Reading.{Reading}
 use Rattle.format.specs.declared.Reading.the-variants.{Read, Refused}
-use Rattle.format.specs.Book.{Presentation, BookReading, read, refused, readBook, readingOf}
+use Rattle.format.specs.Book.{Presentation, read, readingOf}
 use Rattle.format.specs.Bytes.{Within}
-
--- 8, by the verdict on the sides
-abbrev pub byVerdict : Presentation → Verdict → BookReading
-byVerdict presentation Verdict.accepted = read presentation
-byVerdict presentation (Verdict.loose side) = refused (Loose side)
-
-abbrev pub byReading : BookReading → BookReading
-byReading (BookReading.read presentation) = byVerdict presentation (judge (relationWords (presentation .relations)))
-byReading (BookReading.refused r) = refused r
-
--- the presentation of an accepted book's bytes, or the refusal
-unfoldable pub loadBook : List ℕ → BookReading
-loadBook book = byReading (readBook book)
+use Rattle.loading.specs.Loading.{loadBook}
 
 -- the words of so many relations are laid, and each side has the number of one of them
 pub record Unchecked (text table : List ℕ) (relations : ℕ) : Type 0 where

@@ -10,7 +10,7 @@ use lib.Dec.{ltb}
 use lib.ListN.{length, getD, take}
 use mir.Syntax.{w8}
 use mir.Val.{Fits}
-use Rattle.writing.specs.Writing.{over}
+use Rattle.words.specs.Writing.{over}
 use Rattle.limits.specs.Limits.{heldPrefix, ticketRoom, ticketBuffer}
 use Rattle.refusals.specs.declared.Refusal.{Refusal}
 use Rattle.refusals.specs.declared.Refusal.the-variants.{Narrow}

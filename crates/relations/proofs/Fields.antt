@@ -21,7 +21,8 @@ use Rattle.limits.specs.declared.MadeRelation.the-variants as MadeRelations
 use Rattle.limits.specs.Limits.{headOf, relationOf, outside}
 use Rattle.numbers.specs.Widths.{Widened}
 use Rattle.refusals.specs.declared.Refusal.the-variants.{Short, Kind, Length, Range, UnknownLetter, TooMany}
-use Rattle.letters.specs.Letters.{firstUnknown, unknownIn}
+use Rattle.words.specs.Letters.{unknownIn}
+use Rattle.words.specs.Letters.{firstUnknown}
 use Rattle.format.specs.declared.HeadReading.the-variants as Heads
 use Rattle.format.specs.declared.RelationReading.{RelationReading}
 use Rattle.format.specs.declared.RelationReading.the-variants as Relations

@@ -3,7 +3,7 @@
 ghost use mathlib.Core.Path.{_≡_};
 ghost use Rattle.words.specs.Words.{part};
 ghost use Rattle.limits.specs.Limits.{lettersMost};
-ghost use Rattle.letters.specs.Letters.{unknownIn};
+ghost use Rattle.words.specs.Letters.{unknownIn};
 ghost use Rattle.format.specs.Book.{headAt, fieldsAt, relationAt};
 ghost use Rattle.records.specs.Reads.{Payload};
 use format::HeadReading;

@@ -8,12 +8,12 @@ use Rattle.words.specs.Families.{wordsOf, familyOf}
 use Rattle.overlap.specs.Cuts.{isPiece}
 use Rattle.refusals.specs.declared.Refusal.the-variants.{NotPiece}
 use Rattle.format.specs.Book.{BookReading}
-use Rattle.presentation.specs.Loading.{loadBook}
-use Rattle.given.specs.declared.Given.{Given}
-use Rattle.given.specs.declared.Given.the-variants as Givens
-use Rattle.given.specs.Given.{onGiven, markedOf}
+use Rattle.loading.specs.Loading.{loadBook}
+use Rattle.asked.specs.declared.Given.{Given}
+use Rattle.asked.specs.declared.Given.the-variants as Givens
+use Rattle.asked.specs.Given.{onGiven, markedOf}
 use Rattle.least.specs.Writing.{Found}
-use Rattle.leastword.specs.Writing.{leastFrom}
+use Rattle.asked.specs.Least.{leastFrom}
 use Rattle.answers.specs.Answers.{refused, refusal}
 use Rattle.answers.specs.Entries.{WordOutcome, foundAt}
 use Rattle.answers.proofs.Keeping.{found-keeps}

@@ -22,13 +22,13 @@ use Rattle.least.specs.Theorem.{longestWord, Written}
 use Rattle.least.proofs.Order.{house-injective}
 use Rattle.least.proofs.Theorem.{rounds-write-least, least-unique}
 use Rattle.limits.specs.Limits.{sideMost, comparedMost}
-use Rattle.writing.specs.Writing.{over}
+use Rattle.words.specs.Writing.{over}
 use Rattle.format.specs.Book.{Presentation, BookReading}
-use Rattle.presentation.specs.Loading.{loadBook}
-use Rattle.given.specs.declared.Given.the-variants as Givens
-use Rattle.given.specs.Given.{markedOf}
+use Rattle.loading.specs.Loading.{loadBook}
+use Rattle.asked.specs.declared.Given.the-variants as Givens
+use Rattle.asked.specs.Given.{markedOf}
 use Rattle.given.proofs.Laws.{fine-short, fine-marked}
-use Rattle.leastword.specs.Writing.{leastFrom}
+use Rattle.asked.specs.Least.{leastFrom}
 use Rattle.leastword.proofs.Rounds.{longest-bound}
 use Rattle.answers.specs.Answers.{wrote, refused}
 use Rattle.answers.specs.Entries.{WordOutcome, lacksSpace, placedAt, foundAt}

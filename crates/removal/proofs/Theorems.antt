@@ -21,9 +21,9 @@ use Rattle.least.specs.Writing.{Found, found, absent}
 use Rattle.least.specs.Theorem.{Written}
 use Rattle.limits.specs.Limits.{sideMost}
 use Rattle.format.specs.Book.{Presentation, BookReading}
-use Rattle.presentation.specs.Loading.{loadBook}
+use Rattle.loading.specs.Loading.{loadBook}
 use Rattle.given.proofs.Laws.{marked-nothing}
-use Rattle.leastword.specs.Writing.{leastFor}
+use Rattle.asked.specs.Least.{leastFor}
 use Rattle.leastword.proofs.Rounds.{least-found}
 use Rattle.answers.specs.Entries.{foundAt, placedAt, loadedLeast, leastOf}
 use Rattle.answers.proofs.Loaded.{loaded-c4, loaded-short}

@@ -5,8 +5,8 @@ use mathlib.Core.Path.{_≡_}
 use Rattle.words.specs.Words.{Word}
 use Rattle.limits.specs.Limits.{markMost}
 use Rattle.pieces.specs.Judging.{PiecesTabled}
-use Rattle.given.specs.declared.Given.the-variants as Givens
-use Rattle.given.specs.Given.{givenOf, markedOf}
+use Rattle.asked.specs.declared.Given.the-variants as Givens
+use Rattle.asked.specs.Given.{givenOf, markedOf}
 use Rattle.answers.specs.Parts.{LeastLoaded}
 
 -- a checked presentation of so many letters, with the table of its longest pieces

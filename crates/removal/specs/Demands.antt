@@ -13,9 +13,9 @@ use Rattle.least.specs.Order.{houseRank, AtMost}
 use Rattle.least.specs.Least.{LeastBehind}
 use Rattle.limits.specs.Limits.{sideMost, leastMost}
 use Rattle.format.specs.Book.{Presentation, BookReading}
-use Rattle.presentation.specs.Loading.{loadBook}
-use Rattle.given.specs.declared.Given.the-variants as Givens
-use Rattle.given.specs.Given.{markedOf}
+use Rattle.loading.specs.Loading.{loadBook}
+use Rattle.asked.specs.declared.Given.the-variants as Givens
+use Rattle.asked.specs.Given.{markedOf}
 use Rattle.answers.specs.Answers.{refused}
 use Rattle.answers.specs.Entries.{WordOutcome, leastOf}
 use Rattle.answers.specs.Demands.{Placed}

@@ -6,9 +6,9 @@ use Rattle.words.specs.Words.{Word}
 use Rattle.words.specs.Families.{wordsOf, familyOf}
 use Rattle.overlap.specs.Cuts.{isPiece}
 use Rattle.refusals.specs.declared.Refusal.the-variants.{NotPiece}
-use Rattle.presentation.specs.Loading.{loadBook}
-use Rattle.given.specs.Given.{onGiven, markedOf}
-use Rattle.leastword.specs.Writing.{leastFrom}
+use Rattle.loading.specs.Loading.{loadBook}
+use Rattle.asked.specs.Given.{onGiven, markedOf}
+use Rattle.asked.specs.Least.{leastFrom}
 use Rattle.answers.specs.Answers.{refusal}
 use Rattle.answers.specs.Entries.{onLoaded, WordOutcome, foundAt}
 

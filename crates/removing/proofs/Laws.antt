@@ -20,16 +20,18 @@ use Rattle.format.specs.declared.Reading.{Reading}
 use Rattle.format.specs.declared.Reading.the-variants.{Read, Refused}
 use Rattle.presentation.specs.Loading.{PiecesKept}
 use Rattle.presentation.proofs.Laws.{load-refused}
-use Rattle.given.specs.declared.Given.{Given}
-use Rattle.given.specs.declared.Given.the-variants as Givens
-use Rattle.given.specs.Given.{markedOf, Widened}
+use Rattle.asked.specs.declared.Given.{Given}
+use Rattle.asked.specs.declared.Given.the-variants as Givens
+use Rattle.given.specs.Given.{Widened}
+use Rattle.asked.specs.Given.{markedOf}
 use Rattle.given.proofs.Laws.{fine-short, fine-known, fine-marked}
 use Rattle.moves.specs.declared.Mark.{Mark}
 use Rattle.moves.specs.State.{placedMark}
 use Rattle.occurrence.specs.declared.Place.{Place}
 use Rattle.occurrence.specs.declared.Place.the-variants.{At, Nowhere}
 use Rattle.occurrence.specs.Standing.{Sought, PieceSought}
-use Rattle.leastword.specs.Writing.{leastFrom, Asked}
+use Rattle.leastword.specs.Writing.{Asked}
+use Rattle.asked.specs.Least.{leastFrom}
 use Rattle.answers.specs.declared.WrittenWord.the-variants as WrittenWords
 use Rattle.answers.specs.Answers.{ofWrittenWord}
 use Rattle.answers.specs.Entries.{WordOutcome, foundAt}

@@ -9,7 +9,7 @@ use lib.ListN.{length, take, drop, length-append, length-drop}
 use lib.Seq.{length-take-le, take-all}
 use mir.Syntax.{w64}
 use mir.Val.{Fits}
-use Rattle.writing.specs.Writing.{written}
+use Rattle.words.specs.Writing.{written}
 use Rattle.writing.proofs.Writing.{written-length, written-behind, written-taken}
 use Rattle.format.specs.Book.{relationStart}
 use Rattle.records.specs.Reads.{Starts}

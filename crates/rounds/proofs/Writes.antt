@@ -19,7 +19,8 @@ use Rattle.layout.specs.Layout.{wordsIn, startOf, Laid}
 use Rattle.layout.specs.Families.{familyBy}
 use Rattle.layout.proofs.Whole.{whole-inside, whole-long, whole-words, whole-bytes, whole-checked}
 use Rattle.given.specs.Given.{Widened}
-use Rattle.writing.specs.Writing.{written, Bytes, Narrowing}
+use Rattle.writing.specs.Writing.{Bytes, Narrowing}
+use Rattle.words.specs.Writing.{written}
 use Rattle.writing.proofs.Writing.{written-zero, written-length, written-behind, bytes-drop, bytes-take}
 use Rattle.changes.specs.declared.Change.{Change}
 use Rattle.changes.specs.declared.Plan.{Plan}

@@ -4,7 +4,8 @@ use mathlib.Core.List.{List}
 use mathlib.Core.Path.{_≡_}
 use lib.ListN.{length}
 use Rattle.words.specs.Words.{Word}
-use Rattle.writing.specs.Writing.{over, Bytes}
+use Rattle.writing.specs.Writing.{Bytes}
+use Rattle.words.specs.Writing.{over}
 use Rattle.congruence.specs.Rows.{Next}
 use Rattle.congruence.specs.Rows.Next.{end, go}
 use Rattle.limits.specs.Limits.{roundMost, nextRoom, markMost}

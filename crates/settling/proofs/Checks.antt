@@ -6,7 +6,7 @@ use native.Mathlib.Omega.{arith}
 use lib.ListN.{length}
 use Rattle.refusals.specs.declared.Refusal.{Refusal}
 use Rattle.format.specs.Book.{Presentation, BookReading, read, refused}
-use Rattle.presentation.specs.Loading.{loadBook}
+use Rattle.loading.specs.Loading.{loadBook}
 use Rattle.answers.specs.declared.Verdict.{Verdict}
 use Rattle.answers.specs.declared.Verdict.the-variants as Verdicts
 use Rattle.answers.specs.Answers.{accepted, refusal, ofVerdict}

@@ -11,13 +11,13 @@ use lib.ListN.{length, take, length-take}
 use mir.Syntax.{w64}
 use mir.Val.{Fits}
 use Rattle.words.specs.Relations.{relationWords}
-use Rattle.writing.specs.Writing.{over}
+use Rattle.words.specs.Writing.{over}
 use Rattle.limits.specs.Limits.{sheetColumns, changesMost}
 use Rattle.refusals.specs.declared.Refusal.{Refusal}
 use Rattle.refusals.specs.declared.Refusal.the-variants.{Narrow, BookWorn}
 use Rattle.format.specs.Book.{Presentation, BookReading, read}
-use Rattle.presentation.specs.Loading.{loadBook}
-use Rattle.sheet.specs.Sheet.{cutSheet}
+use Rattle.loading.specs.Loading.{loadBook}
+use Rattle.loading.specs.Sheet.{cutSheet}
 use Rattle.answers.specs.declared.Verdict.{Verdict}
 use Rattle.answers.specs.declared.Verdict.the-variants as Verdicts
 use Rattle.answers.specs.Answers.{accepted, refusal, ofVerdict}

@@ -19,9 +19,10 @@ use Rattle.layout.specs.Families.{sideWordOf, sidesIn}
 use Rattle.layout.proofs.Placed.{words-length, word-length}
 use Rattle.layout.proofs.CutPlaces.{cuts-inside, xy-long}
 use Rattle.layout.proofs.Cells.{side-at}
-use Rattle.writing.specs.Writing.{written, over}
+use Rattle.words.specs.Writing.{written, over}
 use Rattle.writing.proofs.Writing.{written-zero, written-length, written-behind}
-use Rattle.sheet.specs.Sheet.{cutBytes, cutSheet, cutRow, xAt, yAt, zAt, rowAt, sheetBytes, CutsIn, SideIn, RowRoom, SheetRoom}
+use Rattle.sheet.specs.Sheet.{xAt, yAt, zAt, rowAt, sheetBytes, CutsIn, SideIn, RowRoom, SheetRoom}
+use Rattle.loading.specs.Sheet.{cutBytes, cutSheet, cutRow}
 
 -- the number of pieces of a short word is a byte
 number-byte : (B : List Word) (i : ℕ) → len B i < 256 → number (pieceCount B i) < 256

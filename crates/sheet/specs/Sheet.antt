@@ -1,28 +1,11 @@
--- The cut sheet (document 01, "The cut sheet"): by the cuts and numbers of pieces of the sides' words, and by the numbers of a table.
+-- The cut sheet (document 01, "The cut sheet") by the numbers of a table, and what writing it asks.
 use Prim.Native.Nat.{ℕ, zero, suc, _+_, _*_, _-_, _≤_, _<_}
 use mathlib.Core.List.{List, [], _∷_, _++_}
-use lib.ListN.{length, getD}
-use Rattle.words.specs.Words.{Word}
-use Rattle.words.specs.Families.{distinctWords, sideWords}
-use Rattle.overlap.specs.Cuts.{xlen, ylen, zlen}
-use Rattle.overlap.specs.Counts.{number, pieceCount}
+use lib.ListN.{length}
 use Rattle.limits.specs.Limits.{sheetColumns}
 use Rattle.layout.specs.Places.{wordsMost, wordMost, piecesCell, endCell, sideCell}
 use Rattle.layout.specs.Layout.{startOf, xEndOf, zStartOf, piecesOf, endOf}
 use Rattle.layout.specs.Families.{sideWordOf}
-
--- the row of relation word i: the lengths of X, Y, Z and the number of pieces
-abbrev pub cutRow : List Word → ℕ → List ℕ
-cutRow B i = xlen B i ∷ ylen B i ∷ zlen B i ∷ number (pieceCount B i) ∷ []
-
--- the rows of the first m sides in order, each that of its word; `S` lists the number of each side's word
-unfoldable pub cutBytes : List Word → List ℕ → ℕ → List ℕ
-cutBytes B S zero = []
-cutBytes B S (suc m) = cutBytes B S m ++ cutRow B (getD S m 0)
-
--- the sheet of all sides
-abbrev pub cutSheet : List Word → List ℕ
-cutSheet sides = cutBytes (distinctWords sides) (sideWords sides) (length sides)
 
 -- the lengths by the table's positions
 abbrev pub xAt : List ℕ → ℕ → ℕ

@@ -1,7 +1,7 @@
 // The cut sheet: for each side in order the lengths of X, Y and Z of its word and their number of pieces, one byte each (document 01, "The cut sheet").
 ghost use Prim.Native.Nat.{_+_, _-_, _*_, _<_, _≤_};
 ghost use mathlib.Core.Path.{_≡_};
-ghost use Rattle.writing.specs.Writing.{written, over};
+ghost use Rattle.words.specs.Writing.{written, over};
 ghost use Rattle.limits.specs.Limits.{sheetColumns};
 ghost use Rattle.layout.specs.Layout.{piecesOf};
 ghost use Rattle.layout.specs.Families.{sideWordOf};

@@ -1,6 +1,7 @@
 // What is shown of the definitions, each theorem the contract of a function that does nothing, so that it is found here and the check holds it fast. What a theorem says stands in the
-// specs of the crate that its heading names, and its proof in the proofs there. Crates `output`, `lines` and `worked` have theorems of their own.
+// specs of the crate that its heading names, and its proof in the proofs there. Crates `output` and `worked` have theorems of their own.
 ghost use Rattle.words.specs.Families.{DistinctWordsRight, FamiliesRight};
+ghost use Rattle.words.specs.WorkedLists.{ListsHold};
 ghost use Rattle.overlap.specs.Theorems.{TestsPieces, WordsTested, VerdictsRight, AcceptsC4, CountsFewest, NumbersDecide, NumbersSmall, LoneLetters, CutsMaximal, CutsGood, PiecesClosed, FewerKeepC4};
 ghost use Rattle.overlap.specs.Examples.{NumbersHold};
 ghost use Rattle.congruence.specs.Theorem.{RowsDecide, PairsUnchanged, MembersCongruent, ComparisonShape};
@@ -10,6 +11,10 @@ ghost use Rattle.least.specs.Examples.{WorkedHold};
 ghost use Rattle.format.specs.Book.{FuelSuffices};
 ghost use Rattle.format.specs.Bytes.{ReadBytes, ReadWithin, BytesUnique, BytesFew, AdditionsRead};
 ghost use Rattle.format.specs.Examples.{Hold, examples};
+ghost use Rattle.loading.specs.Examples.{LoadedHold};
+ghost use Rattle.asked.specs.Examples.{AskedHold};
+ghost use Rattle.spelling.specs.Decimal.{FuelSuffices as DigitsSuffice};
+ghost use Rattle.spelling.specs.Examples.{SpellingsHold};
 ghost use Rattle.answers.specs.Demands.{Acceptance, CutsReported, LeastWritten, LeastDecides};
 ghost use Rattle.answers.specs.Keeping.{RefusalsKeep};
 ghost use Rattle.answers.specs.Program.{ProgramCompares};
@@ -28,6 +33,11 @@ pub fn distinct_words_are_right()
 // Two words are of one family exactly when a chain of relations joins them.
 pub fn families_are_right()
     ensures { λ _. ⌜ FamiliesRight ⌝ }
+{}
+
+// The first unknown letters, and the lists written over others, that were worked out by hand.
+pub fn worked_lists_hold()
+    ensures { λ _. ⌜ ListsHold ⌝ }
 {}
 
 // --- Pieces, C(4), cuts and numbers of pieces (crate `overlap`; document 003, section 1). ---
@@ -182,6 +192,28 @@ pub fn bytes_are_few()
 // A relation that is given apart from its book is read as if its bytes stood at the book's end.
 pub fn additions_are_read()
     ensures { λ _. ⌜ AdditionsRead ⌝ }
+{}
+
+// --- What a book is loaded as, what is asked of it, and how answers are spelled (crates `loading`, `asked` and `spelling`). ---
+
+// The books that were worked out by hand are accepted with their sheets, or refused.
+pub fn worked_books_hold()
+    ensures { λ _. ⌜ LoadedHold ⌝ }
+{}
+
+// The refusals of given words, the comparisons and the least words under book Q that were worked out by hand.
+pub fn worked_questions_hold()
+    ensures { λ _. ⌜ AskedHold ⌝ }
+{}
+
+// The numbers and lines that were worked out by hand.
+pub fn worked_spellings_hold()
+    ensures { λ _. ⌜ SpellingsHold ⌝ }
+{}
+
+// No number needs a larger limit than the definition of its digits gives it.
+pub fn digits_suffice()
+    ensures { λ _. ⌜ DigitsSuffice ⌝ }
 {}
 
 // --- What the entries answer (crate `answers`). ---

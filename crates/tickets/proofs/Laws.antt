@@ -9,7 +9,7 @@ use borrow.Author.Tests.{eq-eqb, ne-eqb}
 use lib.ListN.{length, take, drop, length-take, length-drop, List·getD-eq-default}
 use mir.Syntax.{w64}
 use mir.Val.{Fits}
-use Rattle.writing.specs.Writing.{written, over}
+use Rattle.words.specs.Writing.{written, over}
 use Rattle.writing.proofs.Writing.{over-kept, written-zero, written-behind}
 use Rattle.limits.specs.Limits.{ticketChangesAt, ticketKindAt, ticketNumberAt, ticketPrefix, additionKind, withdrawalKind}
 use Rattle.format.specs.Book.{byte, field}

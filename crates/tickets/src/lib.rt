@@ -1,7 +1,7 @@
 // Tickets: what one of any bytes says, and the writing of one.
 ghost use mathlib.Core.Path.{_≡_};
 ghost use Prim.Native.Nat.{_≤_};
-ghost use Rattle.writing.specs.Writing.{over};
+ghost use Rattle.words.specs.Writing.{over};
 ghost use Rattle.limits.specs.Limits.{ticketNumberAt};
 ghost use Rattle.format.specs.Book.{byte, field};
 ghost use Rattle.held.specs.Asked.{changeAsked};

@@ -20,7 +20,7 @@ use results::RoundResult;
 pub extern "C" fn vanecitron_version() -> u32
     ensures { λ r. ⌜ r ≡ version ⌝ }
 {
-    results::version_number()
+    returning::version_number()
 }
 
 // The check of a book.
@@ -28,7 +28,7 @@ pub extern "C" fn vanecitron_version() -> u32
 pub extern "C" fn vanecitron_check(book: &[u8]) -> CheckResult
     ensures { λ r. ⌜ r ≡ checkResult (checkOf (now (book .entry))) ⌝ }
 {
-    results::of_verdict(entries::check_book(book))
+    returning::of_verdict(entries::check_book(book))
 }
 
 // The cut sheet of a book, in a lent buffer.
@@ -36,7 +36,7 @@ pub extern "C" fn vanecitron_check(book: &[u8]) -> CheckResult
 pub extern "C" fn vanecitron_cut_sheet(book: &[u8], sheet: &mut [u8]) -> CheckResult
     ensures { λ r. ⌜ SheetNumbers.after r (now (sheet .exit)) ≡ sheetNumbers (sheetOf (now (book .entry)) (now (sheet .entry))) ⌝ }
 {
-    results::of_verdict(entries::cut_sheet(book, sheet))
+    returning::of_verdict(entries::cut_sheet(book, sheet))
 }
 
 // One round, with the next u, v and p in three lent buffers.
@@ -52,7 +52,7 @@ pub extern "C" fn vanecitron_round(
 ) -> RoundResult
     ensures { λ r. ⌜ RoundNumbers.after r (now (nu .exit)) (now (nv .exit)) (now (np .exit)) ≡ roundNumbers (roundOf (now (book .entry)) (now (u .entry)) (now (v .entry)) (now (p .entry)) (now (nu .entry)) (now (nv .entry)) (now (np .entry))) ⌝ }
 {
-    results::of_round(entries::single_round(book, u, v, p, nu, nv, np))
+    returning::of_round(entries::single_round(book, u, v, p, nu, nv, np))
 }
 
 // The comparison of two words.
@@ -65,7 +65,7 @@ pub extern "C" fn vanecitron_compare(
 ) -> CompareResult
     ensures { λ r. ⌜ ComparedNumbers (now (book .entry)) (now (u .entry)) (now (v .entry)) allowance r ⌝ }
 {
-    results::of_comparison(entries::compare(book, u, v, allowance))
+    returning::of_comparison(entries::compare(book, u, v, allowance))
 }
 
 // The least congruent word of a word, in a lent buffer from an offset on.
@@ -78,7 +78,7 @@ pub extern "C" fn vanecitron_least(
 ) -> LeastResult
     ensures { λ r. ⌜ LeastNumbered (now (book .entry)) (now (u .entry)) (now (buffer .entry)) offset r (now (buffer .exit)) ⌝ }
 {
-    results::of_least(entries::least_word(book, u, buffer, offset))
+    returning::of_least(entries::least_word(book, u, buffer, offset))
 }
 
 // The least word behind a piece with which it is congruent to a word, in a lent buffer from an offset on.
@@ -92,7 +92,7 @@ pub extern "C" fn vanecitron_front(
 ) -> LeastResult
     ensures { λ r. ⌜ RemovalNumbered (now (book .entry)) (now (u .entry)) (now (p .entry)) (now (buffer .entry)) offset r (now (buffer .exit)) ⌝ }
 {
-    results::of_least(removing::remove_prefix(book, u, p, buffer, offset))
+    returning::of_least(removing::remove_prefix(book, u, p, buffer, offset))
 }
 
 // The whole program: input bytes to output bytes, in a lent buffer.
@@ -100,7 +100,7 @@ pub extern "C" fn vanecitron_front(
 pub extern "C" fn vanecitron_program(input: &[u8], output: &mut [u8]) -> ProgramResult
     ensures { λ r. ⌜ ProgramNumbers.after r (now (output .exit)) ≡ programNumbers (outputOf (now (input .entry)) (now (output .entry))) ⌝ }
 {
-    results::of_printed(entries::print_program(input, output))
+    returning::of_printed(entries::print_program(input, output))
 }
 
 // The loading of a book into the lent buffer of a held book.
@@ -108,7 +108,7 @@ pub extern "C" fn vanecitron_program(input: &[u8], output: &mut [u8]) -> Program
 pub extern "C" fn vanecitron_load(book: &[u8], held: &mut [u8]) -> CheckResult
     ensures { λ r. ⌜ LoadNumbers.after r (now (held .exit)) ≡ loadNumbers (loadOf (now (book .entry)) (now (held .entry))) ⌝ }
 {
-    results::of_verdict(heldbook::load_held(book, held))
+    returning::of_verdict(heldbook::load_held(book, held))
 }
 
 // The addition of a relation to a held book, with the new sheet in a lent buffer.
@@ -116,7 +116,7 @@ pub extern "C" fn vanecitron_load(book: &[u8], held: &mut [u8]) -> CheckResult
 pub extern "C" fn vanecitron_add(held: &mut [u8], bytes: &[u8], sheet: &mut [u8]) -> CheckResult
     ensures { λ r. ⌜ ChangeNumbers.after r (now (held .exit)) (now (sheet .exit)) ≡ changeNumbers (changeOf (addition (now (bytes .entry))) (now (held .entry)) (now (sheet .entry))) ⌝ }
 {
-    results::of_verdict(heldbook::add_relation(held, bytes, sheet))
+    returning::of_verdict(heldbook::add_relation(held, bytes, sheet))
 }
 
 // The withdrawal of a relation from a held book, with the new sheet in a lent buffer.
@@ -124,7 +124,7 @@ pub extern "C" fn vanecitron_add(held: &mut [u8], bytes: &[u8], sheet: &mut [u8]
 pub extern "C" fn vanecitron_withdraw(held: &mut [u8], i: usize, sheet: &mut [u8]) -> CheckResult
     ensures { λ r. ⌜ ChangeNumbers.after r (now (held .exit)) (now (sheet .exit)) ≡ changeNumbers (changeOf (withdrawal i) (now (held .entry)) (now (sheet .entry))) ⌝ }
 {
-    results::of_verdict(heldbook::withdraw_relation(held, i, sheet))
+    returning::of_verdict(heldbook::withdraw_relation(held, i, sheet))
 }
 
 // The proposal of an addition, with the sheet that it would lead to and a ticket in two lent buffers.
@@ -137,7 +137,7 @@ pub extern "C" fn vanecitron_propose_add(
 ) -> CheckResult
     ensures { λ r. ⌜ ProposalNumbers.after r (now (sheet .exit)) (now (ticket .exit)) ≡ proposalNumbers (proposeOf (addition (now (bytes .entry))) (now (held .entry)) (now (sheet .entry)) (now (ticket .entry))) ⌝ }
 {
-    results::of_verdict(heldbook::propose_addition(held, bytes, sheet, ticket))
+    returning::of_verdict(heldbook::propose_addition(held, bytes, sheet, ticket))
 }
 
 // The proposal of a withdrawal, likewise.
@@ -150,7 +150,7 @@ pub extern "C" fn vanecitron_propose_withdraw(
 ) -> CheckResult
     ensures { λ r. ⌜ ProposalNumbers.after r (now (sheet .exit)) (now (ticket .exit)) ≡ proposalNumbers (proposeOf (withdrawal i) (now (held .entry)) (now (sheet .entry)) (now (ticket .entry))) ⌝ }
 {
-    results::of_verdict(heldbook::propose_withdrawal(held, i, sheet, ticket))
+    returning::of_verdict(heldbook::propose_withdrawal(held, i, sheet, ticket))
 }
 
 // The posting of a ticket, with the new sheet in a lent buffer.
@@ -158,7 +158,7 @@ pub extern "C" fn vanecitron_propose_withdraw(
 pub extern "C" fn vanecitron_post(held: &mut [u8], ticket: &[u8], sheet: &mut [u8]) -> CheckResult
     ensures { λ r. ⌜ ChangeNumbers.after r (now (held .exit)) (now (sheet .exit)) ≡ changeNumbers (postOf (now (ticket .entry)) (now (held .entry)) (now (sheet .entry))) ⌝ }
 {
-    results::of_verdict(heldbook::post_ticket(held, ticket, sheet))
+    returning::of_verdict(heldbook::post_ticket(held, ticket, sheet))
 }
 
 // The book of a held book, as a place in its buffer and a length, with the count of changes: a C function returns no part of a slice.
@@ -167,7 +167,7 @@ pub extern "C" fn vanecitron_held_book(held: &[u8]) -> HeldResult
     ensures { λ r. ⌜ r ≡ heldResult (bookStart (now (held .entry))) (length (bookIn (now (held .entry)))) (changesTold (now (held .entry))) ⌝ }
 {
     let book = heldbook::book_of(held);
-    results::of_held(
+    returning::of_held(
         heldbook::book_start(held),
         book.len(),
         heldbook::changes_of(held),

@@ -11,3 +11,4 @@ pub mod Commons
 pub mod CommonSuffixes
 pub mod Distinct
 pub mod Families
+pub mod WorkedLists

@@ -3,3 +3,6 @@ pub mod Search
 pub mod Words
 pub mod Relations
 pub mod Families
+pub mod Letters
+pub mod Writing
+pub mod WorkedLists

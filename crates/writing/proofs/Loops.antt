@@ -7,7 +7,8 @@ use native.Mathlib.Numerals.{add-one}
 use borrow.Author.Needs.{needs}
 use lib.ListN.{length, getD, set, length-set}
 use lib.Seq.{paste, paste-zero, paste-suc}
-use Rattle.writing.specs.Writing.{written, Narrowing}
+use Rattle.writing.specs.Writing.{Narrowing}
+use Rattle.words.specs.Writing.{written}
 use Rattle.writing.proofs.Writing.{pasted}
 
 -- i elements of s are written from place `at` of d on, which is now b

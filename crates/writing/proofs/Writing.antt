@@ -7,7 +7,8 @@ use native.Mathlib.Numerals.{add-one}
 use native.Mathlib.Nat.{add-assoc}
 use lib.ListN.{length, getD, take, drop, set, length-append, length-drop, List·getD-append}
 use lib.Seq.{length-take-le, getD-take, getD-append-add, getD-drop, take-at, drop-at, drop-drop, drop-append-add, take-append-seam, set-split, paste, take-length}
-use Rattle.writing.specs.Writing.{written, over, Bytes}
+use Rattle.writing.specs.Writing.{Bytes}
+use Rattle.words.specs.Writing.{written, over}
 
 -- place 0 is the start
 pub written-zero : (s d : List ℕ) → written 0 s d ≡ over s d

@@ -3,7 +3,8 @@
 ghost use mathlib.Core.Path.{_≡_};
 ghost use Prim.Native.Nat.{_+_, _<_, _≤_};
 ghost use lib.ListN.{length};
-ghost use Rattle.writing.specs.Writing.{written, Narrowing};
+ghost use Rattle.writing.specs.Writing.{Narrowing};
+ghost use Rattle.words.specs.Writing.{written};
 
 // Writes bytes.
 pub fn put_bytes(s: &[u8], out: &mut [u8], at: usize)

@@ -1,0 +1,2 @@
+-- That the worked examples of loading hold.
+pub mod Examples
