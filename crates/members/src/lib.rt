@@ -25,6 +25,9 @@ impl House {
 
     // The letters of the cleaning steps, which come first, are those from this one on.
     pub const CLEANING: u16 = 32;
+
+    // So many they are, and the ranks of the others follow theirs.
+    pub const FIRST: u16 = House::RANKS - House::CLEANING;
 }
 
 // The rank of a letter in the house table.
@@ -32,7 +35,7 @@ fn rank(letter: u16) -> u16
     ensures { λ r. ⌜ r ≡ houseRank letter ⌝ }
 {
     if letter < House::RANKS {
-        return (letter + (House::RANKS - House::CLEANING)) % House::RANKS;
+        return (letter + House::FIRST) % House::RANKS;
     }
     letter
 }
