@@ -9,6 +9,7 @@ use Rattle.words.specs.Search.{anyBelow}
 use Rattle.words.specs.Words.{Word}
 use Rattle.words.specs.Relations.{Relation, relationWords}
 use Rattle.words.specs.Families.{wordOfSide, wordsOf, familyOf}
+use Rattle.words.specs.Examples.{rule}
 use Rattle.overlap.specs.Cuts.{len, pieceAt, xlen, ylen, zlen}
 use Rattle.overlap.specs.Verdict.{Verdict, judge}
 use Rattle.congruence.specs.Rounds.{CompareAnswer, compareUnder}
@@ -46,10 +47,6 @@ Holds (compared relations u v answer) = compareUnder (wordsOf relations) (family
 abbrev pub All : List Case → Type 0
 All [] = Unit {0}
 All (c ∷ cs) = Holds c × All cs
-
--- a relation by its two sides
-abbrev pub rule : Word → Word → Relation
-rule left right = record { left = left; right = right }
 
 -- book Q: abdc = cadb
 abbrev pub bookQ : List Relation

@@ -5,7 +5,8 @@ use mathlib.Core.Path.{_≡_}
 use Rattle.words.specs.Words.{Word}
 use Rattle.words.specs.Relations.{Relation}
 use Rattle.words.specs.Families.{wordsOf, familyOf}
-use Rattle.congruence.specs.Starred.{rule, bookQ}
+use Rattle.words.specs.Examples.{rule}
+use Rattle.congruence.specs.Starred.{bookQ}
 use Rattle.least.specs.Order.{houseRank}
 use Rattle.least.specs.Writing.{Found, found, absent, leastBehind}
 

@@ -2,6 +2,7 @@
 // specs of the crate that its heading names, and its proof in the proofs there. Crates `output` and `worked` have theorems of their own.
 ghost use Rattle.words.specs.Families.{DistinctWordsRight, FamiliesRight};
 ghost use Rattle.words.specs.WorkedLists.{ListsHold};
+ghost use Rattle.words.specs.Examples.{WordsHold};
 ghost use Rattle.overlap.specs.Theorems.{TestsPieces, WordsTested, VerdictsRight, AcceptsC4, CountsFewest, NumbersDecide, NumbersSmall, LoneLetters, CutsMaximal, CutsGood, PiecesClosed, FewerKeepC4};
 ghost use Rattle.overlap.specs.Examples.{NumbersHold};
 ghost use Rattle.congruence.specs.Theorem.{RowsDecide, PairsUnchanged, MembersCongruent, ComparisonShape};
@@ -38,6 +39,11 @@ pub fn families_are_right()
 // The first unknown letters, and the lists written over others, that were worked out by hand.
 pub fn worked_lists_hold()
     ensures { λ _. ⌜ ListsHold ⌝ }
+{}
+
+// The distinct words and families that were worked out by hand.
+pub fn worked_words_hold()
+    ensures { λ _. ⌜ WordsHold ⌝ }
 {}
 
 // --- Pieces, C(4), cuts and numbers of pieces (crate `overlap`; document 003, section 1). ---

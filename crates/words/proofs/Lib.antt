@@ -12,3 +12,4 @@ pub mod CommonSuffixes
 pub mod Distinct
 pub mod Families
 pub mod WorkedLists
+pub mod Examples

@@ -6,3 +6,4 @@ pub mod Families
 pub mod Letters
 pub mod Writing
 pub mod WorkedLists
+pub mod Examples
