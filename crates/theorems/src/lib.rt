@@ -41,7 +41,7 @@ pub fn worked_lists_hold()
     ensures { λ _. ⌜ ListsHold ⌝ }
 {}
 
-// The distinct words and families that were worked out by hand.
+// The distinct words, families and common suffixes that were worked out by hand.
 pub fn worked_words_hold()
     ensures { λ _. ⌜ WordsHold ⌝ }
 {}
