@@ -13,4 +13,4 @@ use Rattle.least.specs.Examples.{WorkedHold}
 
 pub worked-hold : WorkedHold
 unfolding relationWords placeOf including includingAll distinctWords placesIn sideWords numbersBelow merged familiesAfter familiesOf sameWord twin pieceAt xlen zlen zmost greatest least anyBelow isPrefix commonSuffix hasRelationPrefixAt hasRelationPrefixBetween clean cleanRelationPrefix active before houseRank marked markedByAny possibleWithin possible cleanBefore firstMember chosenMember carrier letterPart wholePart otherPart memberPart writePart leastWithin leastBehind
-worked-hold = (refl, (refl, (refl, (refl, (refl, (refl, (refl, (refl, (refl, (refl, (refl, (refl, (refl, (refl, (refl, (refl, (refl, (refl, tt))))))))))))))))))
+worked-hold = (refl, (refl, (refl, (refl, (refl, (refl, (refl, (refl, (refl, (refl, (refl, (refl, (refl, (refl, (refl, (refl, (refl, (refl, (refl, (refl, tt))))))))))))))))))))

@@ -45,6 +45,14 @@ bookThree = rule (0 ∷ 3 ∷ []) (2 ∷ []) ∷ rule (2 ∷ []) (0 ∷ 4 ∷ 0 
 abbrev pub bookLetters : List Relation
 bookLetters = rule (2 ∷ []) (4 ∷ []) ∷ rule (3 ∷ []) (2 ∷ []) ∷ []
 
+-- dg = he, ek = m, where g, h, k, m are 6, 7, 10, 12: whether e is possible depends on the letter behind
+abbrev pub bookWalk : List Relation
+bookWalk = rule (3 ∷ 6 ∷ []) (7 ∷ 4 ∷ []) ∷ rule (4 ∷ 10 ∷ []) (12 ∷ []) ∷ []
+
+-- ae = bde, dh = dek, where h, k are 7, 10: behind b, d begins another relation word
+abbrev pub bookEnds : List Relation
+bookEnds = rule (0 ∷ 4 ∷ []) (1 ∷ 3 ∷ 4 ∷ []) ∷ rule (3 ∷ 7 ∷ []) (3 ∷ 4 ∷ 10 ∷ []) ∷ []
+
 abbrev pub worked : List Case
 worked =
     -- no relations: the word itself; a mark that it begins with, and one that it does not
@@ -75,6 +83,10 @@ worked =
     ∷ least bookThree (0 ∷ []) (2 ∷ 3 ∷ []) (found (3 ∷ 3 ∷ []))
     -- c = e, d = c: every d and every e becomes c
     ∷ least bookLetters [] (4 ∷ 3 ∷ []) (found (2 ∷ 2 ∷ []))
+    -- dg = he, ek = m: hm, hek and dgk are one class
+    ∷ least bookWalk [] (7 ∷ 12 ∷ []) (found (3 ∷ 6 ∷ 10 ∷ []))
+    -- ae = bde, dh = dek: bdh, bdek and aek are one class
+    ∷ least bookEnds [] (1 ∷ 3 ∷ 7 ∷ []) (found (0 ∷ 4 ∷ 10 ∷ []))
     ∷ []
 
 abbrev pub WorkedHold : Type 0
