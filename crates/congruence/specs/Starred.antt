@@ -1,5 +1,5 @@
 -- The starred bench cases of document 01 and cases of relations that share a word, as one table; that the definitions give all of them is one theorem
--- (proofs/Starred.antt). The letters a, b, c, d, e are 0, 1, 2, 3, 4.
+-- (proofs/Starred.antt). The letters a, b, c, d, e, f, g are 0, 1, 2, 3, 4, 5, 6.
 use Prim.Native.Nat.{ℕ, zero, suc, _+_, _-_}
 use mathlib.Core.Bool.{Bool, true, false, _&&_}
 use mathlib.Core.List.{List, [], _∷_}
@@ -93,6 +93,10 @@ starred =
     ∷ compared (rule (0 ∷ 3 ∷ 0 ∷ []) (2 ∷ 0 ∷ []) ∷ []) (0 ∷ 3 ∷ 2 ∷ 0 ∷ []) (2 ∷ 2 ∷ 0 ∷ []) (same 3)
     -- c = e, d = c with e, d: same 1; two relations make them one family
     ∷ compared (rule (2 ∷ []) (4 ∷ []) ∷ rule (3 ∷ []) (2 ∷ []) ∷ []) (4 ∷ []) (3 ∷ []) (same 1)
+    -- abc = fc, be = g with abe, ag: same 2; ab begins abe, but be begins before its end, so that it is no clean front
+    ∷ compared (rule (0 ∷ 1 ∷ 2 ∷ []) (5 ∷ 2 ∷ []) ∷ rule (1 ∷ 4 ∷ []) (6 ∷ []) ∷ []) (0 ∷ 1 ∷ 4 ∷ []) (0 ∷ 6 ∷ []) (same 2)
+    -- ad = c, c = aea with aeac, aeac: same 2; c is not active for the tail a, since it begins behind it, so that row 4 goes on with the empty tail of ad
+    ∷ compared (rule (0 ∷ 3 ∷ []) (2 ∷ []) ∷ rule (2 ∷ []) (0 ∷ 4 ∷ 0 ∷ []) ∷ []) (0 ∷ 4 ∷ 0 ∷ 2 ∷ []) (0 ∷ 4 ∷ 0 ∷ 2 ∷ []) (same 2)
     ∷ []
 
 -- every starred case holds
