@@ -97,6 +97,10 @@ starred =
     ∷ compared (rule (0 ∷ 1 ∷ 2 ∷ []) (5 ∷ 2 ∷ []) ∷ rule (1 ∷ 4 ∷ []) (6 ∷ []) ∷ []) (0 ∷ 1 ∷ 4 ∷ []) (0 ∷ 6 ∷ []) (same 2)
     -- ad = c, c = aea with aeac, aeac: same 2; c is not active for the tail a, since it begins behind it, so that row 4 goes on with the empty tail of ad
     ∷ compared (rule (0 ∷ 3 ∷ []) (2 ∷ []) ∷ rule (2 ∷ []) (0 ∷ 4 ∷ 0 ∷ []) ∷ []) (0 ∷ 4 ∷ 0 ∷ 2 ∷ []) (0 ∷ 4 ∷ 0 ∷ 2 ∷ []) (same 2)
+    -- ac = bc, ch = k, where h, k are 7, 10, with ak, bk: same 2; row 8 leaves the mark c, which is the X of ch, and a tail of no member
+    ∷ compared (rule (0 ∷ 2 ∷ []) (1 ∷ 2 ∷ []) ∷ rule (2 ∷ 7 ∷ []) (10 ∷ []) ∷ []) (0 ∷ 10 ∷ []) (1 ∷ 10 ∷ []) (same 2)
+    -- a = b, c = d with a, c: different 0; c is a member of another family
+    ∷ compared (rule (0 ∷ []) (1 ∷ []) ∷ rule (2 ∷ []) (3 ∷ []) ∷ []) (0 ∷ []) (2 ∷ []) (different 0)
     ∷ []
 
 -- every starred case holds

@@ -12,3 +12,4 @@ pub mod Reaching
 pub mod Counts
 pub mod Theorems
 pub mod Examples
+pub mod Books

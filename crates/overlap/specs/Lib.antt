@@ -6,3 +6,4 @@ pub mod Maximal
 pub mod Verdict
 pub mod Theorems
 pub mod Examples
+pub mod Books

@@ -5,6 +5,7 @@ ghost use Rattle.words.specs.WorkedLists.{ListsHold};
 ghost use Rattle.words.specs.Examples.{WordsHold};
 ghost use Rattle.overlap.specs.Theorems.{TestsPieces, WordsTested, VerdictsRight, AcceptsC4, CountsFewest, NumbersDecide, NumbersSmall, LoneLetters, CutsMaximal, CutsGood, PiecesClosed, FewerKeepC4};
 ghost use Rattle.overlap.specs.Examples.{NumbersHold};
+ghost use Rattle.overlap.specs.Books.{BooksHold};
 ghost use Rattle.congruence.specs.Theorem.{RowsDecide, PairsUnchanged, MembersCongruent, ComparisonShape};
 ghost use Rattle.congruence.specs.Starred.{StarredHold};
 ghost use Rattle.least.specs.Theorem.{RoundsWriteLeast, LeastWordsDecide, WalkTellsPossible};
@@ -91,6 +92,11 @@ pub fn lone_letters_tell()
 // The numbers that were worked out by hand.
 pub fn worked_numbers_hold()
     ensures { λ _. ⌜ NumbersHold ⌝ }
+{}
+
+// The verdicts, cuts and pieces that were worked out by hand.
+pub fn worked_books_hold()
+    ensures { λ _. ⌜ BooksHold ⌝ }
 {}
 
 // X is the maximal piece prefix, and Z the maximal piece suffix.
@@ -203,7 +209,7 @@ pub fn additions_are_read()
 // --- What a book is loaded as, what is asked of it, and how answers are spelled (crates `loading`, `asked` and `spelling`). ---
 
 // The books that were worked out by hand are accepted with their sheets, or refused.
-pub fn worked_books_hold()
+pub fn loaded_books_hold()
     ensures { λ _. ⌜ LoadedHold ⌝ }
 {}
 
