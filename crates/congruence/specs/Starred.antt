@@ -1,4 +1,4 @@
--- The starred bench cases of document 01 and cases of relations that share a word, as one table; that the definitions give all of them is one theorem
+-- The starred bench cases of document 01 and further cases of the rows, most of them of relations that share a word, as one table; that the definitions give all of them is one theorem
 -- (proofs/Starred.antt). The letters a, b, c, d, e, f, g are 0, 1, 2, 3, 4, 5, 6.
 use Prim.Native.Nat.{ℕ, zero, suc, _+_, _-_}
 use mathlib.Core.Bool.{Bool, true, false, _&&_}
