@@ -1,14 +1,14 @@
--- A law for each way that dropping a letter without a plan can go.
-use Prim.Native.Nat.{ℕ, _+_, _-_, _≤_, _<_, min}
-use mathlib.Core.Bool.{Bool, true, false, true≢false}
+-- A law for each way that the first letters of a state can tell its row, and for row 2.
+use Prim.Native.Nat.{ℕ, _+_, _-_, _≤_, _<_}
+use mathlib.Core.Bool.{Bool, true, false}
 use mathlib.Core.List.{List, [], _∷_}
-use mathlib.Core.Path.{_≡_, refl, sym, ap, _∙_}
+use mathlib.Core.Path.{_≡_, refl, sym, ap, _∙_, subst}
 use mathlib.Core.Logic.{by-cases}
 use native.Mathlib.Omega.{arith}
 use native.Mathlib.Decide.{decLt}
 use borrow.Author.Needs.{needs}
 use borrow.Author.Tests.{leb-false, lt-ltb, le-ltb}
-use lib.Dec.{eqb, leb}
+use lib.Dec.{leb}
 use lib.ListN.{length, getD, drop, length-append, length-drop, List·getD-append}
 use lib.Seq.{getD-drop, getD-append-add}
 use Rattle.words.specs.Words.{Word, isEmpty, part}
@@ -17,16 +17,15 @@ use Rattle.layout.specs.Places.{tableRoom}
 use Rattle.layout.specs.Layout.{wordsIn}
 use Rattle.sites.specs.FirstLetters.{emptyList}
 use Rattle.sites.proofs.FirstLetters.{begins-none}
-use Rattle.changes.specs.declared.Plan.the-variants as Plans
-use Rattle.changes.specs.Changes.{cutBy}
-use Rattle.plans.specs.RowPlans.{dropOne}
-use Rattle.plans.proofs.Drops.{drop-plan}
+use Rattle.changes.specs.declared.Plan.{Plan}
+use Rattle.plans.specs.Plans.{PlansRound}
+use Rattle.plans.specs.RowPlans.{letterDrop, plan2}
+use Rattle.plans.proofs.Laws.{drop-letters}
+use Rattle.plans.proofs.Drops.{first-row-two, drop-plan}
 use Rattle.moves.specs.declared.PlacedWord.{PlacedWord}
-use Rattle.moves.specs.declared.Mark.{Mark}
 use Rattle.moves.specs.declared.State.{State}
-use Rattle.moves.specs.declared.Move.{Move}
-use Rattle.moves.specs.State.{placedWord, placedMark, WordFits, MarkFits, StateReady, Applicable, moveOf, RoundMade}
-use Rattle.moves.specs.Drops.{heldEmpty, HasLetter, markAllows, markLetters, DropsAtOnce}
+use Rattle.moves.specs.State.{placedWord, placedMark, WordFits, StateReady}
+use Rattle.moves.specs.Drops.{heldEmpty, HasLetter, DropDue, RowTold}
 use Rattle.moves.proofs.Laws.{move-applicable, move-made}
 
 -- whether a held word has a letter
@@ -67,42 +66,17 @@ module _ (text : List ℕ) (source : Word) (h : PlacedWord) (f : HasLetter text 
 
 pub ruleset firstLetters = (part-place, part-letter, rest-place, rest-letter, needs)
 
--- the mark
-empty-of : (w : Word) → length w ≡ 0 → isEmpty w ≡ true
-empty-of [] e = refl
-empty-of (x ∷ w) e = absurd (omega arith)
-
+-- the row that the first letters tell
 some-of : (w : Word) → 0 < length w → isEmpty w ≡ false
 some-of [] e = absurd (omega arith)
 some-of (x ∷ w) e = refl
 
-module _ (text : List ℕ) (m : Mark) (x : ℕ) (f : MarkFits text m) where
-  pub mark-place : m .at < m .to → m .at < length text
-  mark-place l = let i = f .inside in omega arith
-
-  pub mark-letter : m .at < m .to → eqb (getD text (m .at) 0) x ≡ markAllows text m x
-  unfolding markAllows
-  mark-letter l =
-      let k = part-length text (m .at) (m .to) (f .inside) in
-      let e : getD (placedMark text m) 0 0 ≡ getD text (m .at) 0 = part-at text (m .at) (m .to) 0 (omega arith) ∙ ap (λ n. getD text n 0) (omega arith) in
-      rw (some-of (placedMark text m) (omega arith), e)
-
-  pub mark-empty : m .to ≤ m .at → true ≡ markAllows text m x
-  unfolding markAllows
-  mark-empty l = let k = part-length text (m .at) (m .to) (f .inside) in rw (empty-of (placedMark text m) (omega arith))
-
-pub ruleset marksAllow = (mark-place, mark-letter, mark-empty, needs)
-
--- whether the round drops a letter at once
 module _ (text table : List ℕ) (n : ℕ) (first second : Word) (s : State) (p : StateReady text table n first second s) where
-  pub drops-not : DropsAtOnce text table n first second s false
-  drops-not = record { plan = λ e. absurd (true≢false (sym e)) }
+  pub told-nothing : RowTold text table n first second s 0
+  told-nothing = record { two = λ e. absurd (omega arith) }
 
   pub table-long : length table ≡ tableRoom
   table-long = p .fitting .ready .grouped .checked .indexed .room
-
-  pub mark-held : MarkFits text (s .mark)
-  mark-held = p .standing .mark
 
   held-some : (source : Word) (h : PlacedWord) → WordFits text (wordsIn text table n) source h → heldEmpty (length source) h ≡ false → isEmpty (placedWord text source h) ≡ false
   unfolding heldEmpty
@@ -122,53 +96,50 @@ module _ (text table : List ℕ) (n : ℕ) (first second : Word) (s : State) (p 
       pub has-v : HasLetter text second (s .v)
       has-v = record { inside = p .standing .v .inside; some = sym fv ∙ hv }
 
-      module _ (x y : ℕ) (ex : x ≡ getD (placedWord text first (s .u)) 0 0) (ey : y ≡ getD (placedWord text second (s .v)) 0 0) (e : x ≡ y) (m : Bool) (em : m ≡ markAllows text (s .mark) x) (hm : m ≡ true) where
-        mark-letters : markLetters (s .mark) ≡ min 1 (length (placedMark text (s .mark)))
-        unfolding markLetters
-        mark-letters =
-            let k = part-length text (s .mark .at) (s .mark .to) (p .standing .mark .inside) in
-            by-cases (decLt (s .mark .at) (s .mark .to)) (λ l. rw (lt-ltb _ _ l) (omega arith)) (λ l. rw (le-ltb (s .mark .at) (s .mark .to) (omega arith)) (omega arith))
+      pub told-two : (x : ℕ) → x ≡ getD (placedWord text first (s .u)) 0 0 → (r : Bool) → r ≡ emptyList table x → r ≡ true → RowTold text table n first second s 2
+      told-two x ex r er h =
+          record {
+            two = λ e.
+                record {
+                  ready = p;
+                  row =
+                      first-row-two text table n (p .fitting .ready .grouped .checked) (placedWord text first (s .u)) (placedWord text second (s .v)) (placedMark text (s .mark))
+                      (held-some first (s .u) (p .standing .u) (sym fu ∙ hu)) (held-some second (s .v) (p .standing .v) (sym fv ∙ hv))
+                      (rw ex at (begins-none text table n (p .fitting .ready .grouped .checked) x (sym er ∙ h)));
+                  u = has-u;
+                  v = has-v;
+                };
+          }
 
-        pub drops-so : (r : Bool) → r ≡ emptyList table x → DropsAtOnce text table n first second s r
-        unfolding markAllows
-        drops-so r er =
-            record {
-              plan = λ h.
-                  drop-plan text table n (p .fitting .ready .grouped .checked) (placedWord text first (s .u)) (placedWord text second (s .v)) (placedMark text (s .mark))
-                  (held-some first (s .u) (p .standing .u) (sym fu ∙ hu)) (held-some second (s .v) (p .standing .v) (sym fv ∙ hv)) (sym ex ∙ e ∙ ey) (rw ex at (sym em ∙ hm))
-                  (rw ex at (begins-none text table n (p .fitting .ready .grouped .checked) x (sym er ∙ h))) (markLetters (s .mark)) mark-letters;
-            }
+pub ruleset rowsTold = (told-nothing, table-long, has-u, has-v, told-two, needs)
 
-pub ruleset dropsAtOnce = (drops-not, table-long, mark-held, has-u, has-v, drops-so, needs)
+-- row 2
+module _ (text table : List ℕ) (n : ℕ) (first second : Word) (s : State) (d : DropDue text table n first second s) where
+  pub due-u : HasLetter text first (s .u)
+  due-u = d .u
 
--- the state after the drop
-module _ (s : State) (a : Applicable s (dropOne (markLetters (s .mark)))) where
-  pub drop-some : s .mark .at < s .mark .to → Applicable s (Plans.Go (record { from = 0; to = 0; cut = 1 }) (record { from = 0; to = 0; cut = 1 }) (record { from = 0; to = 0; cut = 1 }))
-  unfolding dropOne cutBy markLetters
-  drop-some l = rw (lt-ltb _ _ l) at a
+  pub due-v : HasLetter text second (s .v)
+  due-v = d .v
 
-  pub drop-none : s .mark .to ≤ s .mark .at → Applicable s (Plans.Go (record { from = 0; to = 0; cut = 1 }) (record { from = 0; to = 0; cut = 1 }) (record { from = 0; to = 0; cut = 0 }))
-  unfolding dropOne cutBy markLetters
-  drop-none l = rw (le-ltb _ _ l) at a
+  pub due-up : s .mark .at ≤ s .mark .to
+  due-up = d .ready .standing .mark .up
 
-pub dropped-some : (s : State) (r : Move) → s .mark .at < s .mark .to → r ≡ moveOf s (Plans.Go (record { from = 0; to = 0; cut = 1 }) (record { from = 0; to = 0; cut = 1 }) (record { from = 0; to = 0; cut = 1 }))
-    → r ≡ moveOf s (dropOne (markLetters (s .mark)))
-unfolding dropOne cutBy markLetters
-dropped-some s r l e = rw (lt-ltb _ _ l) e
+  pub due-inside : s .mark .to ≤ length text
+  due-inside = d .ready .standing .mark .inside
 
-pub dropped-none : (s : State) (r : Move) → s .mark .to ≤ s .mark .at → r ≡ moveOf s (Plans.Go (record { from = 0; to = 0; cut = 1 }) (record { from = 0; to = 0; cut = 1 }) (record { from = 0; to = 0; cut = 0 }))
-    → r ≡ moveOf s (dropOne (markLetters (s .mark)))
-unfolding dropOne cutBy markLetters
-dropped-none s r l e = rw (le-ltb _ _ l) e
+  module _ (x y : ℕ) (e : x ≡ getD (placedWord text first (s .u)) 0 0) (f : y ≡ getD (placedWord text second (s .v)) 0 0) (plan : Plan)
+      (g : plan ≡ letterDrop x y (placedMark text (s .mark))) where
+    pub due-plan : PlansRound text table n (placedWord text first (s .u)) (placedWord text second (s .v)) (placedMark text (s .mark)) plan
+    due-plan =
+        let u = placedWord text first (s .u) in
+        let v = placedWord text second (s .v) in
+        let p = placedMark text (s .mark) in
+        subst (PlansRound text table n u v p) (sym (drop-letters u v p x y e f plan g)) (drop-plan text table n u v p (d .row))
 
-pub ruleset droppings = (drop-some, drop-none, dropped-some, dropped-none, needs)
+pub ruleset droppings = (due-u, due-v, due-up, due-inside, due-plan, needs)
 
--- one round, dropped at once
-module _ (text table : List ℕ) (n : ℕ) (first second : Word) (s : State) (p : StateReady text table n first second s) (x : Bool) (d : DropsAtOnce text table n first second s x) (e : x ≡ true) where
-  pub drop-applicable : Applicable s (dropOne (markLetters (s .mark)))
-  drop-applicable = move-applicable text table n first second s p (dropOne (markLetters (s .mark))) (d .plan e)
+-- one round
+pub drop-due : (text table : List ℕ) (n : ℕ) (first second : Word) (s : State) (row : ℕ) → RowTold text table n first second s row → row ≡ 2 → DropDue text table n first second s
+drop-due text table n first second s row t e = t .two e
 
-  pub drop-made : (r : Move) → r ≡ moveOf s (dropOne (markLetters (s .mark))) → RoundMade text table n first second s r
-  drop-made r f = move-made text table n first second s p (dropOne (markLetters (s .mark))) (d .plan e) r f
-
-pub ruleset quickMoves = (drop-applicable, drop-made, move-applicable, move-made, needs)
+pub ruleset rounds = (drop-due, move-applicable, move-made, needs)

@@ -3,9 +3,8 @@
 ghost use mathlib.Core.Path.{_≡_};
 ghost use lib.ListN.{length, getD};
 ghost use Rattle.plans.specs.Plans.{PlansRound};
-ghost use Rattle.plans.specs.RowPlans.{dropOne};
-ghost use Rattle.moves.specs.State.{MarkFits, beyondOf, Movable, advancedOf, MarkMovable, advancedMark, placedWord, placedMark, StateReady, Applicable, moveOf, RoundMade};
-ghost use Rattle.moves.specs.Drops.{heldEmpty, HasLetter, markAllows, markLetters, DropsAtOnce};
+ghost use Rattle.moves.specs.State.{beyondOf, Movable, advancedOf, MarkMovable, advancedMark, placedWord, placedMark, StateReady, Applicable, moveOf, RoundMade};
+ghost use Rattle.moves.specs.Drops.{heldEmpty, HasLetter, RowTold, DropDue};
 use plans::Change;
 use plans::Plan;
 
@@ -153,76 +152,45 @@ pub fn first_letter(text: &[u16], given: &[u16], h: PlacedWord) -> u16
     given[from]
 }
 
-// Whether the front mark is empty or begins with x.
-fn mark_allows(text: &[u16], m: Mark, x: u16) -> bool
-    requires { ⌜ MarkFits (now text) m ⌝ }
-    ensures { λ r. ⌜ r ≡ markAllows (now (text .entry)) m x ⌝ }
-{
-    let at = m.at;
-    if at < m.to {
-        return text[at] == x;
-    }
-    true
-}
-
-// Whether the round drops a letter of each word and no relation word begins with it, so that none need be looked for.
-fn drops_at_once(
+// The first row that fits, where the first letters tell it: 2, where no relation word begins with u's. Else 0, which is no row: relation words have to be looked at.
+fn row_by_letters(
     text: &[u16],
     table: &[u16],
     n: usize,
     first: &[u16],
     second: &[u16],
     s: State,
-) -> bool
+) -> u8
     requires { ⌜ StateReady (now text) (now table) n (now first) (now second) s ⌝ }
-    ensures { λ r. ⌜ DropsAtOnce (now (text .entry)) (now (table .entry)) n (now (first .entry)) (now (second .entry)) s r ⌝ }
+    ensures { λ r. ⌜ RowTold (now (text .entry)) (now (table .entry)) n (now (first .entry)) (now (second .entry)) s r ⌝ }
 {
     if held_empty(first, s.u) {
-        return false;
+        return 0;
     }
     if held_empty(second, s.v) {
-        return false;
+        return 0;
     }
     let x = first_letter(text, first, s.u);
-    let y = first_letter(text, second, s.v);
-    if x == y {
-        if mark_allows(text, s.mark, x) {
-            return sites::begins_none(table, x);
-        }
-        return false;
+    if sites::begins_none(table, x) {
+        return 2;
     }
-    false
+    0
 }
 
-// The state without the first letter of each word, and of the mark if it has one.
-fn drop_letters(s: State) -> Move
-    requires { ⌜ Applicable s (dropOne (markLetters (s .mark))) ⌝ }
-    ensures { λ r. ⌜ r ≡ moveOf s (dropOne (markLetters (s .mark))) ⌝ }
+// What row 2 does, by the first letters of both words as they are held.
+fn drop_plan(text: &[u16], table: &[u16], n: usize, first: &[u16], second: &[u16], s: State) -> Plan
+    requires { ⌜ DropDue (now text) (now table) n (now first) (now second) s ⌝ }
+    ensures { λ r. ⌜ PlansRound (now (text .entry)) (now (table .entry)) n (placedWord (now (text .entry)) (now (first .entry)) (s .u)) (placedWord (now (text .entry)) (now (second .entry)) (s .v)) (placedMark (now (text .entry)) (s .mark)) r ⌝ }
 {
-    let one = Change {
-        from: 0,
-        to: 0,
-        cut: 1,
-    };
-    let mark = s.mark;
-    if mark.at < mark.to {
-        return carry_out(s, Plan::Go(one, one, one));
-    }
-    carry_out(
-        s,
-        Plan::Go(
-            one,
-            one,
-            Change {
-                from: 0,
-                to: 0,
-                cut: 0,
-            },
-        ),
-    )
+    let x = first_letter(text, first, s.u);
+    let y = first_letter(text, second, s.v);
+    let at = s.mark.at;
+    let to = s.mark.to;
+    plans::drop_by_letters(x, y, &text[at..to])
 }
 
-// One round.
+// One round. Most rounds are of row 2 and told by the first letters; of the others `plans::decide` finds the row and decides by it. Each arm carries out its own plan, so
+// that the cuts of row 2 stay three sums.
 pub fn make_move(
     text: &[u16],
     table: &[u16],
@@ -234,9 +202,9 @@ pub fn make_move(
     requires { ⌜ StateReady (now text) (now table) n (now first) (now second) s ⌝ }
     ensures { λ r. ⌜ RoundMade (now (text .entry)) (now (table .entry)) n (now (first .entry)) (now (second .entry)) s r ⌝ }
 {
-    if drops_at_once(text, table, n, first, second, s) {
-        return drop_letters(s);
+    let row = row_by_letters(text, table, n, first, second, s);
+    match row {
+        2 => carry_out(s, drop_plan(text, table, n, first, second, s)),
+        _ => carry_out(s, plan_of(text, table, n, first, second, s)),
     }
-    let plan = plan_of(text, table, n, first, second, s);
-    carry_out(s, plan)
 }

@@ -24,7 +24,7 @@ use Rattle.sites.specs.declared.Site.{Site}
 use Rattle.plans.specs.Plans.{applied, planned, Fit, MarkFit, Carries}
 use Rattle.plans.specs.Plans.PlanFit.{ends, goes}
 use Rattle.changes.specs.Changes.{cutBy, tailBy, putBoth, markAfter, plan6, plan7, plan8, restAt, sharedSuffix}
-use Rattle.plans.specs.RowPlans.{dropOne, markDrop, plan2, plan4, plan5, plan8Of}
+use Rattle.plans.specs.RowPlans.{dropOne, markDrop, letterDrop, plan2, plan4, plan5, plan8Of}
 use Rattle.sites.proofs.Sites.{Lies}
 use Rattle.sites.proofs.CleanPrefixes.{between-drop}
 
@@ -293,7 +293,7 @@ mark-drop (x ∷ p) = let e : min 1 (suc (length p)) ≡ 1 = omega arith in ap (
 
 -- row 2
 pub carried2 : (text : List ℕ) (B : List Word) (family : ℕ → ℕ) (i j : ℕ) (u v p : Word) → Fits B family i j u v p 2 → Carries text B u v p (plan2 u v p) (row2 u v p)
-unfolding plan2 markDrop dropOne row2 planned
+unfolding plan2 letterDrop markDrop dropOne row2 planned
 carried2 text B family i j u v p (fits2 a b l) =
     rw (cond-both (alike u v) (isEmpty p || alike p u) (dropOne (min 1 (length p))) (End false)) (by-test (alike u v && (isEmpty p || alike p u)))
   where

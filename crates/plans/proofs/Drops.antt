@@ -1,31 +1,39 @@
--- The plan of row 2 where no relation word begins with the first letter of u.
-use Prim.Native.Nat.{ℕ, min}
-use mathlib.Core.Bool.{true, false, _||_}
+-- Row 2 where no relation word begins with the first letter of u: it is the first that fits, and its plan is the round.
+use Prim.Native.Nat.{ℕ}
+use mathlib.Core.Bool.{false}
 use mathlib.Core.List.{List}
-use mathlib.Core.Path.{_≡_, sym, ap, _∙_}
+use mathlib.Core.Path.{_≡_, refl, sym}
 use native.Mathlib.Omega.{arith}
-use lib.ListN.{length, getD, drop}
+use borrow.Author.Tests.{le-leb}
+use lib.ListN.{length, getD}
 use Rattle.words.specs.Words.{Word, isEmpty}
-use Rattle.words.proofs.Lists.{some-letter}
 use Rattle.overlap.proofs.Facts.{rigid-of-c4}
-use Rattle.congruence.specs.Rows.{alike}
-use Rattle.congruence.proofs.Drops.{BeginsNone, round-drops}
+use Rattle.congruence.specs.Rows.{fitting, firstRow}
+use Rattle.congruence.proofs.Drops.{BeginsNone, no-clean-prefix}
 use Rattle.layout.specs.Layout.{wordsIn, Checked}
 use Rattle.layout.specs.Families.{familyBy}
-use Rattle.plans.specs.Plans.{planned, PlansRound}
-use Rattle.plans.specs.Plans.PlanFit.{goes}
-use Rattle.plans.specs.RowPlans.{dropOne}
-use Rattle.plans.proofs.Carried.{go-same, cut-fits, cut-mark, cut-applied, mark-drop}
+use Rattle.sites.specs.declared.Site.{Site}
+use Rattle.rows.specs.declared.Found.{Found}
+use Rattle.plans.specs.Plans.{PlansRound}
+use Rattle.plans.specs.RowPlans.{plan2}
+use Rattle.plans.proofs.Decisions.{by2}
 
-pub drop-plan : (text table : List ℕ) (n : ℕ) → Checked text table n → (u v p : Word) → isEmpty u ≡ false → isEmpty v ≡ false → getD u 0 0 ≡ getD v 0 0
-    → (isEmpty p || alike p u) ≡ true → BeginsNone (wordsIn text table n) (getD u 0 0) → (m : ℕ) → m ≡ min 1 (length p) → PlansRound text table n u v p (dropOne m)
-unfolding dropOne planned
-drop-plan text table n c u v p a b e k none m q =
-    let lu = some-letter u a in
-    let lv = some-letter v b in
-    record {
-      same =
-          go-same (cut-applied text 1 u) (cut-applied text 1 v) (cut-applied text m p ∙ ap (λ k. drop k p) q ∙ mark-drop p)
-          ∙ sym (round-drops (wordsIn text table n) (rigid-of-c4 (wordsIn text table n) (c .accepted)) u none (familyBy table n) v p a b e k);
-      fits = goes (cut-fits text (wordsIn text table n) u 1 (omega arith)) (cut-fits text (wordsIn text table n) v 1 (omega arith)) (cut-mark text (wordsIn text table n) p m (omega arith));
-    }
+pub first-row-two : (text table : List ℕ) (n : ℕ) → Checked text table n → (u v p : Word) → isEmpty u ≡ false → isEmpty v ≡ false
+    → BeginsNone (wordsIn text table n) (getD u 0 0) → firstRow (wordsIn text table n) (familyBy table n) u v p ≡ 2
+unfolding firstRow fitting
+first-row-two text table n c u v p a b none =
+    let B = wordsIn text table n in
+    rw (no-clean-prefix B (rigid-of-c4 B (c .accepted)) u none, a, b, le-leb (length B) (length B) (omega arith))
+
+-- a row of which no relation word is told
+second : Found
+second =
+    let nowhere : Site = record { start = 0; middle = 0; tail = 0; stop = 0 } in
+    record { row = 2; word = 0; own = nowhere; member = nowhere }
+
+pub drop-plan : (text table : List ℕ) (n : ℕ) (u v p : Word) → firstRow (wordsIn text table n) (familyBy table n) u v p ≡ 2
+    → PlansRound text table n u v p (plan2 u v p)
+unfolding second
+drop-plan text table n u v p e =
+    by2 text table n u v p second
+    (record { number = sym e; word = λ h. absurd (omega arith); own = λ h. absurd (omega arith); member = λ h. absurd (omega arith) }) (plan2 u v p) refl refl

@@ -29,7 +29,7 @@ use Rattle.changes.specs.declared.Plan.the-variants.{End, Go}
 use Rattle.changes.specs.Asked.{TailHas, SitesHave}
 use Rattle.changes.specs.Changes.{cutBy, putBoth, markAfter, restAt, plan8}
 use Rattle.plans.specs.Asked.{BothNonEmpty, WholeWords, TailsHave}
-use Rattle.plans.specs.RowPlans.{plan1, dropOne, markDrop, plan2, plan4, plan5, plan8Of}
+use Rattle.plans.specs.RowPlans.{plan1, dropOne, markDrop, letterDrop, plan2, plan4, plan5, plan8Of}
 use Rattle.sites.proofs.Laws.{tail-after}
 use Rattle.plans.proofs.Carried.{active-between}
 use Rattle.rows.proofs.Laws.{empty-right}
@@ -84,14 +84,19 @@ mark-unlike x (y ∷ p) h k = rw (ne-eqb y x k)
 
 pub ruleset markDrops = (mark-none, mark-there, mark-like, mark-unlike, needs)
 
-module _ (u v p : Word) (x y : ℕ) (e : x ≡ getD u 0 0) (f : y ≡ getD v 0 0) where
-  pub drop-unlike : (x ≡ y → ⊥) → End false ≡ plan2 u v p
-  unfolding plan2
-  drop-unlike d = let q : eqb (getD u 0 0) (getD v 0 0) ≡ false = rw (← e, ← f) (ne-eqb x y d) in rw q
+pub drop-unlike : (x y : ℕ) (p : Word) → (x ≡ y → ⊥) → End false ≡ letterDrop x y p
+unfolding letterDrop
+drop-unlike x y p d = rw (ne-eqb x y d)
 
-  pub drop-like : x ≡ y → (r : Plan) → r ≡ markDrop x p → r ≡ plan2 u v p
-  unfolding plan2
-  drop-like d r h = let q : eqb (getD u 0 0) (getD v 0 0) ≡ true = rw (← e, ← f) (eq-eqb x y d) in rw (q, ← e) h
+pub drop-like : (x y : ℕ) (p : Word) → x ≡ y → (r : Plan) → r ≡ markDrop x p → r ≡ letterDrop x y p
+unfolding letterDrop
+drop-like x y p d r h = rw (eq-eqb x y d) h
+
+pub ruleset alikeDrops = (drop-unlike, drop-like, needs)
+
+pub drop-letters : (u v p : Word) (x y : ℕ) → x ≡ getD u 0 0 → y ≡ getD v 0 0 → (r : Plan) → r ≡ letterDrop x y p → r ≡ plan2 u v p
+unfolding plan2
+drop-letters u v p x y e f r h = rw (← e, ← f) h
 
 pub some-left : (a b v : Word) → BothNonEmpty (a ++ b) v → 0 < length a + length b
 some-left a b v h = let s = h .someU in let l = length-append a b in omega arith
@@ -99,7 +104,7 @@ some-left a b v h = let s = h .someU in let l = length-append a b in omega arith
 pub some-right : (u a b : Word) → BothNonEmpty u (a ++ b) → 0 < length a + length b
 some-right u a b h = let s = h .someV in let l = length-append a b in omega arith
 
-pub ruleset letterDrops = (drop-unlike, drop-like, some-left, some-right, needs)
+pub ruleset letterDrops = (drop-letters, some-left, some-right, needs)
 
 -- row 4
 module _ (text table : List ℕ) (n i : ℕ) (s t : Site) (ua ub : Word) (h : WholeWords text table n i s t ua ub) where

@@ -6,7 +6,6 @@ use mathlib.Core.List.{List}
 use lib.Dec.{eqb}
 use lib.ListN.{length, getD}
 use Rattle.words.specs.Words.{Word, isEmpty}
-use Rattle.congruence.specs.Rows.{alike}
 use Rattle.sites.specs.declared.Site.{Site}
 use Rattle.changes.specs.declared.Plan.{Plan}
 use Rattle.changes.specs.declared.Plan.the-variants.{End, Go}
@@ -24,9 +23,13 @@ dropOne m = Go (cutBy 1) (cutBy 1) (cutBy m)
 unfoldable pub markDrop : ℕ → Word → Plan
 markDrop x p = cond (isEmpty p || eqb (getD p 0 0) x) (dropOne (min 1 (length p))) (End false)
 
+-- row 2, where u begins with x and v with y
+unfoldable pub letterDrop : ℕ → ℕ → Word → Plan
+letterDrop x y p = cond (eqb x y) (markDrop x p) (End false)
+
 -- row 2
 unfoldable pub plan2 : Word → Word → Word → Plan
-plan2 u v p = cond (alike u v) (markDrop (getD u 0 0) p) (End false)
+plan2 u v p = letterDrop (getD u 0 0) (getD v 0 0) p
 
 -- row 4, with the tail at z
 unfoldable pub plan4 : Site → Site → Site → ℕ → Plan

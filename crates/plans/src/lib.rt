@@ -12,7 +12,7 @@ ghost use Rattle.sites.specs.Sites.{siteOf, SiteInText, SitesInText};
 ghost use Rattle.changes.specs.Changes.{sharedSuffix};
 ghost use Rattle.plans.specs.Plans.{PlansRound};
 ghost use Rattle.plans.specs.Asked.{HeadClear, BothNonEmpty, WholeWords, TailsHave};
-ghost use Rattle.plans.specs.RowPlans.{plan1, dropOne, markDrop, plan2, plan4, plan5, plan8Of};
+ghost use Rattle.plans.specs.RowPlans.{plan1, dropOne, markDrop, letterDrop, plan2, plan4, plan5, plan8Of};
 pub use changes::Change;
 pub use changes::Plan;
 use sites::Site;
@@ -51,6 +51,16 @@ fn drop_mark(x: u16, p: &[u16]) -> Plan
     Plan::End(false)
 }
 
+// Row 2, where u begins with x and v with y.
+pub fn drop_by_letters(x: u16, y: u16, p: &[u16]) -> Plan
+    ensures { λ r. ⌜ r ≡ letterDrop x y (now (p .entry)) ⌝ }
+{
+    if x == y {
+        return drop_mark(x, p);
+    }
+    Plan::End(false)
+}
+
 // Row 2.
 fn drop_letters(ua: &[u16], ub: &[u16], va: &[u16], vb: &[u16], p: &[u16]) -> Plan
     requires { ⌜ BothNonEmpty (now ua ++ now ub) (now va ++ now vb) ⌝ }
@@ -58,10 +68,7 @@ fn drop_letters(ua: &[u16], ub: &[u16], va: &[u16], vb: &[u16], p: &[u16]) -> Pl
 {
     let x = joined::letter_at(ua, ub, 0);
     let y = joined::letter_at(va, vb, 0);
-    if x == y {
-        return drop_mark(x, p);
-    }
-    Plan::End(false)
+    drop_by_letters(x, y, p)
 }
 
 // Row 4, where relation word i lies at s and begins u, and the member at t begins v: the tail of a member takes the place of both. Whether the rest of u is active for

@@ -1,4 +1,4 @@
-use Rattle.moves.proofs.Drops.{quickMoves}
+use Rattle.moves.proofs.Drops.{rounds}
 use Rattle.moves.proofs.make_move.Statement.{statement}
 use Rattle.moves.proofs.make_move.Tie as tie
 
@@ -6,9 +6,10 @@ pub make-move-spec : {M : Type 1} → statement M
 make-move-spec =
     tie.close
     (tie.spec
-    (λ c κs. search quickMoves)
-    (λ c κs. search quickMoves)
-    (λ c. search quickMoves)
-    (λ c κs. search quickMoves)
-    (λ c κs. search quickMoves)
-    (λ c. search quickMoves))
+    (λ c κs. search rounds)
+    (λ c κs. search rounds)
+    (λ c κs. search rounds)
+    (λ c κs. search rounds)
+    (λ c κs. search rounds)
+    (λ c. search rounds)
+    (λ c. search rounds))

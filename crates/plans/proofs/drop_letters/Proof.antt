@@ -9,5 +9,4 @@ drop-letters-spec =
     (λ c κs. search letterDrops)
     (λ c κs. search letterDrops)
     (λ c κs. search letterDrops)
-    (λ c. search letterDrops)
     (λ c. search letterDrops))
