@@ -28,14 +28,17 @@ pub fn book_end(input: &[u8]) -> usize
 {
     let mut at = 0;
     while Record::PREFIX <= input.len() - at {
-        if field_at(input, at + 2) == ComparisonRecord::KIND {
-            return at;
+        let kind = field_at(input, at + 2);
+        match kind {
+            ComparisonRecord::KIND => return at,
+            _ => {
+                let record = record_at(input, at);
+                let Record::Whole(_, _, to) = record else {
+                    return input.len();
+                };
+                at = to;
+            }
         }
-        let record = record_at(input, at);
-        let Record::Whole(_, _, to) = record else {
-            return input.len();
-        };
-        at = to;
     }
     input.len()
 }
