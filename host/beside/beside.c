@@ -191,6 +191,25 @@ static uint8_t repeated_step(unsigned side, unsigned place)
     return place < at || at + 4 <= place ? 0 : own_step(side, place - at);
 }
 
+/* 31 rules of a step and of 64 steps that end alike, and a run of such steps, each of which is answered by 63 more: the most rounds, nearly all of row 2 */
+static void most_rounds(void)
+{
+    uint8_t step, side[VANECITRON_SIDE];
+    for (unsigned place = 1; place < VANECITRON_SIDE; place++) {
+        side[place] = (uint8_t)(62 + (place - 1) % 5 % 2);
+    }
+    book = vanecitron_book_begin(bytes, sizeof bytes, VANECITRON_LETTERS);
+    for (unsigned rule = 0; rule < 31; rule++) {
+        step = (uint8_t)(2 * rule);
+        side[0] = (uint8_t)(2 * rule + 1);
+        vanecitron_book_rule(&book, &step, 1, side, VANECITRON_SIDE);
+    }
+    u_length = v_length = VANECITRON_RUN;
+    for (size_t i = 0; i < VANECITRON_RUN; i++) {
+        u[i] = v[i] = (uint8_t)(2 * (i % 31));
+    }
+}
+
 int main(void)
 {
     int differ = 0;
@@ -208,5 +227,7 @@ int main(void)
     differ |= measure_all("a full book with long pieces, runs of 4,096");
     full_book(repeated_step);
     differ |= measure_all("a full book of one step over and over, runs of 4,096");
+    most_rounds();
+    differ |= measure_all("most rounds, runs of 4,096");
     return differ;
 }
