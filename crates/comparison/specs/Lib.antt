@@ -1,3 +1,3 @@
--- Rounds up to a given number, room for widened words, and what comparing two given words answers.
+-- Rounds up to a given number, and room for widened words.
 pub mod Rounds
 pub mod Widening

@@ -1,2 +1,2 @@
--- Refusals 9 and 10 of given words, one word behind the other.
+-- Where a given word stands once it is widened.
 pub mod Given

@@ -1,2 +1,2 @@
--- The least word of a given word, behind a piece or behind nothing, and what its writing leaves in a buffer.
+-- What writing the least word, behind a piece or behind nothing, asks and leaves in a buffer.
 pub mod Writing

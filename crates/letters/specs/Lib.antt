@@ -1,2 +1,2 @@
--- Letters that a book does not have: which is the first of a word.
+-- The largest letter of a word.
 pub mod Letters

@@ -1,2 +1,2 @@
--- Laws of decimals and of the loops that write text at a place of a buffer.
+-- Laws of the loops that write text at a place of a buffer.
 pub mod Laws

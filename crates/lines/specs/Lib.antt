@@ -1,2 +1,2 @@
--- Numbers in decimal, lines of text, and what writing one at a place of a buffer leaves there.
+-- What writing text at a place of a buffer leaves in it.
 pub mod Lines

@@ -1,2 +1,2 @@
--- What loading a book gives: refusals 1 to 6, then 8, or the checked book with its index and families.
+-- What the arrays of a loaded book hold, and what the steps of loading it promise of them.
 pub mod Loading

@@ -1,2 +1,2 @@
--- The cut sheet, by the cuts and numbers of pieces of the sides' words, and by the numbers of the table.
+-- The cut sheet by the numbers of the table, and what writing it asks.
 pub mod Sheet

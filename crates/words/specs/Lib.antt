@@ -1,4 +1,4 @@
--- Words, bounded searches, relations and their words, distinct words and the families that relations make of them.
+-- Words, bounded searches, relations, distinct words and families; unknown letters; lists written over others.
 pub mod Search
 pub mod Words
 pub mod Relations

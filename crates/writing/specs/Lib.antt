@@ -1,2 +1,2 @@
--- What writing at a place of a lent array leaves in it.
+-- What narrowing letters to bytes at a place of a lent array asks.
 pub mod Writing
