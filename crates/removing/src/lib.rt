@@ -46,10 +46,10 @@ fn remove_piece(
     ensures { λ r. ⌜ WordOutcome.after (ofWrittenWord r) (now (buffer .exit)) ≡ removedAt (wordsIn (now (text .entry)) (now (table .entry)) n) (familyBy (now (table .entry)) n) (now (u .entry)) (now (p .entry)) (now (buffer .entry)) offset ⌝ }
 {
     let place = find_prefix(text, table, longest, n, p);
-    match place {
-        Place::Nowhere => WrittenWord::Refused(Refusal::NotPiece),
-        Place::At(piece) => place_word(text, table, n, u, piece, buffer, offset),
-    }
+    let Place::At(piece) = place else {
+        return WrittenWord::Refused(Refusal::NotPiece);
+    };
+    place_word(text, table, n, u, piece, buffer, offset)
 }
 
 // The removal of a given prefix from a given word, which are checked first, under a loaded book of so many letters with the table of its longest pieces.
