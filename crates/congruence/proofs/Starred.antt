@@ -44,7 +44,7 @@ starred-hold = (
                               refl,
                               (
                                 (refl, (refl, refl, refl, (refl, refl, refl, (refl, refl, refl, (refl, refl, refl, tt))))),
-                                (refl, (refl, (refl, (refl, (refl, (refl, (refl, (refl, tt)))))))),
+                                (refl, (refl, (refl, (refl, (refl, (refl, (refl, (refl, (refl, tt))))))))),
                               ),
                             ),
                           ),

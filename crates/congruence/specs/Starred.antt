@@ -101,6 +101,8 @@ starred =
     ∷ compared (rule (0 ∷ 2 ∷ []) (1 ∷ 2 ∷ []) ∷ rule (2 ∷ 7 ∷ []) (10 ∷ []) ∷ []) (0 ∷ 10 ∷ []) (1 ∷ 10 ∷ []) (same 2)
     -- a = b, c = d with a, c: different 0; c is a member of another family
     ∷ compared (rule (0 ∷ []) (1 ∷ []) ∷ rule (2 ∷ []) (3 ∷ []) ∷ []) (0 ∷ []) (2 ∷ []) (different 0)
+    -- Q with abdabdc, cadbadb, the starred pair the other way round: same 3; row 6 puts the tail c of abdc, and not b, before adb
+    ∷ compared bookQ (0 ∷ 1 ∷ 3 ∷ 0 ∷ 1 ∷ 3 ∷ 2 ∷ []) (2 ∷ 0 ∷ 3 ∷ 1 ∷ 0 ∷ 3 ∷ 1 ∷ []) (same 3)
     ∷ []
 
 -- every starred case holds
