@@ -11,7 +11,7 @@ use lib.ListN.{length, take, drop, take-append-drop}
 use Rattle.words.specs.Words.{Word, part}
 use Rattle.words.proofs.Parts.{part-length, part-take, part-drop}
 use Rattle.words.specs.Families.{wordsOf, familyOf}
-use Rattle.limits.specs.Limits.{comparisonKind, comparisonLength, inputMost}
+use Rattle.limits.specs.Limits.{comparisonKind, comparisonFixedPayload, inputMost}
 use Rattle.limits.specs.declared.Record.{Record}
 use Rattle.limits.specs.declared.Record.the-variants.{Whole, CutOff}
 use Rattle.refusals.specs.declared.Refusal.{Refusal}
@@ -63,12 +63,12 @@ asks-of input at a first second end e =
     let o = passed-whole (recordAt input at) _ _ _ (other _) e in
     let w = whole-at input at (o .0) (o .1) (o .2) (o .3) in
     let b = passed (differs (o .0) comparisonKind) _ _ _ (other _) (o .4) in
-    let c = passed (differs (o .2 - o .1) (comparisonLength + field input (o .1 + 4) + field input (o .1 + 6))) _ _ _ (other _) (b .1) in
+    let c = passed (differs (o .2 - o .1) (comparisonFixedPayload + field input (o .1 + 4) + field input (o .1 + 6))) _ _ _ (other _) (b .1) in
     let k = equal-of (o .0) comparisonKind (b .0) in
-    let l = equal-of (o .2 - o .1) (comparisonLength + field input (o .1 + 4) + field input (o .1 + 6)) (c .0) in
+    let l = equal-of (o .2 - o .1) (comparisonFixedPayload + field input (o .1 + 4) + field input (o .1 + 6)) (c .0) in
     let t : longField input (o .1) ≡ a = cc (c .1) in
-    let x : o .1 + comparisonLength ≡ first = cc (c .1) in
-    let y : o .1 + comparisonLength + field input (o .1 + 4) ≡ second = cc (c .1) in
+    let x : o .1 + comparisonFixedPayload ≡ first = cc (c .1) in
+    let y : o .1 + comparisonFixedPayload + field input (o .1 + 4) ≡ second = cc (c .1) in
     let z : o .2 ≡ end = cc (c .1) in
     let m : field input (o .1 + 4) ≡ field input (at + 4 + 4) = ap (λ (i : ℕ). field input (i + 4)) (w .start) in
     let n : field input (o .1 + 6) ≡ field input (at + 4 + 6) = ap (λ (i : ℕ). field input (i + 6)) (w .start) in
@@ -112,10 +112,10 @@ stops-of input at r e = go (recordAt input at) refl
         ⊎-elim (λ (c : (differs kind comparisonKind ≡ true) × (Requests.Refused (Kind at) ≡ Requests.Refused r)).
         (2, told (Kind at) 2 (c .1) refl, Stops.kind kind from to f (apart-of kind comparisonKind (c .0)))) (λ (c : (differs kind comparisonKind ≡ false) × (fieldsOf input at from to ≡ Requests.Refused r)).
         let k = equal-of kind comparisonKind (c .0) in
-        ⊎-elim (λ (d : (differs (to - from) (comparisonLength + field input (from + 4) + field input (from + 6)) ≡ true) × (Requests.Refused (Length at) ≡ Requests.Refused r)).
-        (3, told (Length at) 3 (d .1) refl, Stops.misfit from to (f ∙ ap (λ (i : ℕ). Whole i from to) k) (apart-of (to - from) (comparisonLength + field input (from + 4) + field input (from + 6)) (d .0)))) (λ d.
+        ⊎-elim (λ (d : (differs (to - from) (comparisonFixedPayload + field input (from + 4) + field input (from + 6)) ≡ true) × (Requests.Refused (Length at) ≡ Requests.Refused r)).
+        (3, told (Length at) 3 (d .1) refl, Stops.misfit from to (f ∙ ap (λ (i : ℕ). Whole i from to) k) (apart-of (to - from) (comparisonFixedPayload + field input (from + 4) + field input (from + 6)) (d .0)))) (λ d.
         absurd (refused-or-compare _ _ _ _ r (sym (d .1))))
-        (chosen (differs (to - from) (comparisonLength + field input (from + 4) + field input (from + 6))) _ _ (Requests.Refused r) (c .1)))
+        (chosen (differs (to - from) (comparisonFixedPayload + field input (from + 4) + field input (from + 6))) _ _ (Requests.Refused r) (c .1)))
         (chosen (differs kind comparisonKind) _ _ (Requests.Refused r) (rw f at e))
 
 module _ (book input : List ℕ) (p : Presentation) (l : loadBook book ≡ BookReading.read p) where

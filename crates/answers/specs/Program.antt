@@ -6,7 +6,7 @@ use mathlib.Core.Path.{_≡_}
 use lib.ListN.{length, take}
 use Rattle.words.specs.Words.{Word, part}
 use Rattle.limits.specs.declared.Record.the-variants.{Whole, CutOff}
-use Rattle.limits.specs.Limits.{recordPrefix, comparisonKind, comparisonLength, inputMost}
+use Rattle.limits.specs.Limits.{recordPrefix, comparisonKind, comparisonFixedPayload, inputMost}
 use Rattle.format.specs.Book.{field, recordAt}
 use Rattle.spelling.specs.Lines.{lineOf, pairLineOf}
 use Rattle.output.specs.Requests.{longField}
@@ -31,13 +31,13 @@ pub record ComparedLine (book : List ℕ) (u v : Word) (allowance : ℕ) (line :
 -- the record at a position of the input asks for the comparison of u and v: it is whole, of kind 3, and its payload is four bytes of the allowance, two for the length of
 -- each word, and the letters of both
 pub record Asks (input : List ℕ) (at : ℕ) (u v : Word) (allowance end : ℕ) : Type 0 where
-  pub size : field input at ≡ comparisonLength + length u + length v
+  pub size : field input at ≡ comparisonFixedPayload + length u + length v
   pub kind : field input (at + 2) ≡ comparisonKind
   pub allowed : longField input (at + recordPrefix) ≡ allowance
   pub first : field input (at + recordPrefix + 4) ≡ length u
   pub second : field input (at + recordPrefix + 6) ≡ length v
-  pub letters : part input (at + recordPrefix + comparisonLength) end ≡ u ++ v
-  pub ends : end ≡ at + recordPrefix + comparisonLength + length u + length v
+  pub letters : part input (at + recordPrefix + comparisonFixedPayload) end ≡ u ++ v
+  pub ends : end ≡ at + recordPrefix + comparisonFixedPayload + length u + length v
   pub inside : end ≤ length input
 
 -- it is refused: by 1 where the input ends inside it, by 2 where it is of another kind, by 3 where its length does not fit what its payload says
@@ -45,7 +45,7 @@ pub data Stops (input : List ℕ) (at : ℕ) : ℕ → Type 0 where
   short : recordAt input at ≡ CutOff → Stops input at 1
   kind : (kind from to : ℕ) → recordAt input at ≡ Whole kind from to → ¬ (kind ≡ comparisonKind) → Stops input at 2
   misfit : (from to : ℕ) → recordAt input at ≡ Whole comparisonKind from to
-      → ¬ (to - from ≡ comparisonLength + field input (from + 4) + field input (from + 6)) → Stops input at 3
+      → ¬ (to - from ≡ comparisonFixedPayload + field input (from + 4) + field input (from + 6)) → Stops input at 3
 
 -- the lines of the records from a position of the input on, under the book before them
 pub data Lines (book input : List ℕ) : ℕ → List ℕ → Type 0 where

@@ -10,7 +10,7 @@ use lib.Dec.{leb, ltb}
 use lib.ListN.{length, drop}
 use lib.Seq.{take-at}
 use Rattle.words.specs.Writing.{over}
-use Rattle.limits.specs.Limits.{heldPrefix, heldChanges, ticketRoom, additionKind, withdrawalKind}
+use Rattle.limits.specs.Limits.{heldPrefix, heldChangesAt, ticketRoom, additionKind, withdrawalKind}
 use Rattle.format.specs.Book.{Presentation, read}
 use Rattle.format.specs.Bytes.{AreBytes}
 use Rattle.format.proofs.Readings.{passed, relation-read, read-within}
@@ -109,7 +109,7 @@ told-small held are = go (ltb (length held) heldPrefix)
   where
     go : (b : Bool) → cond b 0 (changesIn held) < 65536
     go true = omega arith
-    go false = omega (arith, are heldChanges, are (heldChanges + 1))
+    go false = omega (arith, are heldChangesAt, are (heldChangesAt + 1))
 
 pub tickets-small : TicketsSmall
 tickets-small change held room n book cuts are e =

@@ -9,7 +9,7 @@ remove-piece-spec =
     (λ c κs. search removes)
     (λ c. search removes)
     (λ c. search removes)
-    (λ c κs. search removes)
     (λ c. search removes)
+    (λ c κs. search removes)
     (λ c. search removes)
     (λ c. search removes))
