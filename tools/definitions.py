@@ -110,8 +110,8 @@ def table(root):
     for item in sorted(everything):
         if isinstance(item, Type):
             types[item.crate].append(item.name)
-    named = "; ".join(f"{', '.join(f'`{name}`' for name in types[crate])} (`crates/{crate}/src/lib.rt`)" for crate in crates if crate in types)
-    rows += ["", f"The enums and structs that they speak of stand in the code: {named}."]
+    rows += ["", "The enums and structs that they speak of stand in the code:", ""]
+    rows += [f"- {', '.join(f'`{name}`' for name in types[crate])} (`crates/{crate}/src/lib.rt`)" for crate in crates if crate in types]
     return "\n".join(rows).strip("\n"), sums, sorted(crate for crate in {file.crate for file in files} if is_code(root, crate))
 
 
