@@ -3,14 +3,14 @@
 use refusals::Refusal;
 
 // A book is accepted, with its number of relations (document 01: rules), or refused.
-#[derive(Drop)]
+#[derive(Clone, Copy)]
 pub enum Verdict {
     Accepted(usize),
     Refused(Refusal),
 }
 
 // A round ends, with 'same' for true, or goes on, with the lengths of the next u, v and p, or is refused.
-#[derive(Drop)]
+#[derive(Clone, Copy)]
 pub enum Round {
     End(bool),
     Next(usize, usize, usize),
@@ -18,14 +18,14 @@ pub enum Round {
 }
 
 // The program's output is written, with its length, or the buffer is too small for it.
-#[derive(Drop)]
+#[derive(Clone, Copy)]
 pub enum Printed {
     Wrote(usize),
     Refused(Refusal),
 }
 
 // The least congruent word, or the least word behind a prefix, is written, with its length, or its call is refused.
-#[derive(Drop)]
+#[derive(Clone, Copy)]
 pub enum WrittenWord {
     Wrote(usize),
     Refused(Refusal),

@@ -3,14 +3,14 @@
 use refusals::Refusal;
 
 // A given word is fine, or refused.
-#[derive(Drop)]
+#[derive(Clone, Copy)]
 pub enum Given {
     Fine,
     Refused(Refusal),
 }
 
 // A comparison's answer: the words are congruent ('same') or not ('different'), with the count of rounds, or it is refused.
-#[derive(Drop)]
+#[derive(Clone, Copy)]
 pub enum Comparison {
     Same(u32),
     Different(u32),

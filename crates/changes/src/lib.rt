@@ -10,7 +10,7 @@ use numbers::smaller;
 use sites::Site;
 
 // The next word is text[from..to], and then the old word without its first `cut` letters.
-#[derive(Drop)]
+#[derive(Clone, Copy)]
 pub struct Change {
     pub from: usize,
     pub to: usize,
@@ -18,7 +18,7 @@ pub struct Change {
 }
 
 // The end, with 'same' for true, or the changes of u, v and the front mark p.
-#[derive(Drop)]
+#[derive(Clone, Copy)]
 pub enum Plan {
     End(bool),
     Go(Change, Change, Change),

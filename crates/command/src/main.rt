@@ -11,7 +11,7 @@ use limits::Input;
 use program::Output;
 
 // How many bytes were read, or a read failed.
-#[derive(Drop)]
+#[derive(Clone, Copy)]
 pub enum Got {
     Bytes(usize),
     Failed,

@@ -14,7 +14,7 @@ use moves::{Mark, Move, PlacedWord, State, make_move};
 use refusals::Refusal;
 
 // Some rounds of a comparison: the end and the rounds done, or the state from which another round is due and the rounds done.
-#[derive(Drop)]
+#[derive(Clone, Copy)]
 pub enum Progress {
     Ended(bool, u32),
     Paused(State, u32),

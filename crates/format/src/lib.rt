@@ -3,21 +3,21 @@
 use refusals::Refusal;
 
 // What reading a head record gives: the number of letters, and the position behind the record.
-#[derive(Drop)]
+#[derive(Clone, Copy)]
 pub enum HeadReading {
     Read(u8, usize),
     Refused(Refusal),
 }
 
 // What reading a relation record gives: where its left word begins, where its right word begins, and where that ends.
-#[derive(Drop)]
+#[derive(Clone, Copy)]
 pub enum RelationReading {
     Read(usize, usize, usize),
     Refused(Refusal),
 }
 
 // What reading a whole book gives: the number of letters, and the number of relations.
-#[derive(Drop)]
+#[derive(Clone, Copy)]
 pub enum Reading {
     Read(u8, usize),
     Refused(Refusal),

@@ -11,7 +11,7 @@ use layout::{Text, first_of, order_of, shared_of, start_of, z_start_of};
 use numbers::wide16;
 
 // A relation word met with the word that is compared.
-#[derive(Drop)]
+#[derive(Clone, Copy)]
 pub enum Meeting {
     // its X and Y stand there: its number
     Here(usize),

@@ -8,7 +8,7 @@ use limits::{Head, Relation};
 use numbers::wide16;
 
 // The text: the relation words one after the other, each with a fence behind it.
-#[derive(Drop)]
+#[derive(Clone, Copy)]
 pub struct Text {}
 
 impl Text {
@@ -26,7 +26,7 @@ impl Text {
 
 // The table: a row of positions for each relation word, and one position more, the length of all; the number of pieces of each; the word of each side and how
 // many words there are; the families; then the index of the relation words by their first letters.
-#[derive(Drop)]
+#[derive(Clone, Copy)]
 pub struct Table {}
 
 impl Table {

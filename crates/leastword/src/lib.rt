@@ -12,7 +12,7 @@ use moves::{Mark, PlacedWord};
 use parts::{Hint, LeastState, Source, Stage, make_part};
 
 // How many letters the word that was found has, or that there is none.
-#[derive(Drop)]
+#[derive(Clone, Copy)]
 pub enum Counted {
     Letters(usize),
     Absent,

@@ -4,7 +4,7 @@ ghost use Rattle.std.specs.Prelude.{◌≡◌};
 ghost use Rattle.limits.specs.Limits.{outside, head_of, relation_of, word_of, input_of, record_amounts, head_amounts, relation_amounts, comparison_amounts, word_amounts, sheet_amounts, held_amounts, ticket_amounts, input_amounts};
 
 // What stands at a position of a book: a whole record, with its kind and where its payload begins and ends, or too few bytes for one.
-#[derive(Drop)]
+#[derive(Clone, Copy)]
 pub enum Record {
     Whole(usize, usize, usize),
     CutOff,
@@ -22,12 +22,12 @@ impl Record {
 }
 
 // The head record (kind 1): how many letters there are (document 01: steps).
-#[derive(Drop)]
+#[derive(Clone, Copy)]
 pub struct Head {
     pub letters: u8,
 }
 
-#[derive(Drop)]
+#[derive(Clone, Copy)]
 pub enum MadeHead {
     Good(Head),
     Range,
@@ -69,13 +69,13 @@ impl Head {
 }
 
 // A relation record (kind 2; document 01: a rule): the lengths of its two relation words (document 01: its sides).
-#[derive(Drop)]
+#[derive(Clone, Copy)]
 pub struct Relation {
     pub left: usize,
     pub right: usize,
 }
 
-#[derive(Drop)]
+#[derive(Clone, Copy)]
 pub enum MadeRelation {
     Good(Relation),
     Range,
@@ -125,7 +125,7 @@ impl Relation {
 }
 
 // A comparison record (kind 3): an allowance and two words.
-#[derive(Drop)]
+#[derive(Clone, Copy)]
 pub struct ComparisonRecord {}
 
 impl ComparisonRecord {
@@ -149,12 +149,12 @@ impl ComparisonRecord {
 }
 
 // A given word (document 01: a run), by its length.
-#[derive(Drop)]
+#[derive(Clone, Copy)]
 pub struct Word {
     pub length: usize,
 }
 
-#[derive(Drop)]
+#[derive(Clone, Copy)]
 pub enum MadeWord {
     Good(Word),
     Long,
@@ -204,7 +204,7 @@ impl Word {
 }
 
 // The cut sheet: a row of bytes for each relation word.
-#[derive(Drop)]
+#[derive(Clone, Copy)]
 pub struct Sheet {}
 
 impl Sheet {
@@ -227,7 +227,7 @@ impl Sheet {
 }
 
 // A held book: the length of a book and the count of its changes, a two-byte field each, and then the book's own bytes.
-#[derive(Drop)]
+#[derive(Clone, Copy)]
 pub struct Held {}
 
 impl Held {
@@ -267,7 +267,7 @@ impl Held {
 }
 
 // A ticket: the count of changes of the held book that it was given for, the kind of a change, and a number, a two-byte field each; and then the bytes of a record.
-#[derive(Drop)]
+#[derive(Clone, Copy)]
 pub struct Ticket {}
 
 impl Ticket {
@@ -309,12 +309,12 @@ impl Ticket {
 }
 
 // What the program reads, by its length.
-#[derive(Drop)]
+#[derive(Clone, Copy)]
 pub struct Input {
     pub length: usize,
 }
 
-#[derive(Drop)]
+#[derive(Clone, Copy)]
 pub enum MadeInput {
     Good(Input),
     Heavy,

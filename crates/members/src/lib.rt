@@ -16,7 +16,7 @@ use moves::{Mark, PlacedWord};
 use sites::Site;
 
 // The house table of ranks, by its numbers.
-#[derive(Drop)]
+#[derive(Clone, Copy)]
 pub struct House {}
 
 impl House {

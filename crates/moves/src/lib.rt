@@ -8,7 +8,7 @@ ghost use Rattle.moves.specs.Drops.{held_empty, HasLetter, RowTold, DropDue};
 use plans::{Change, Plan};
 
 // A word: text[at..to], then the given word from `from` on.
-#[derive(Drop)]
+#[derive(Clone, Copy)]
 pub struct PlacedWord {
     pub at: usize,
     pub to: usize,
@@ -16,14 +16,14 @@ pub struct PlacedWord {
 }
 
 // The front mark: text[at..to].
-#[derive(Drop)]
+#[derive(Clone, Copy)]
 pub struct Mark {
     pub at: usize,
     pub to: usize,
 }
 
 // What a comparison goes on from: u, v and the front mark p.
-#[derive(Drop)]
+#[derive(Clone, Copy)]
 pub struct State {
     pub u: PlacedWord,
     pub v: PlacedWord,
@@ -31,7 +31,7 @@ pub struct State {
 }
 
 // One round of a comparison: its end, with 'same' for true, or the next state.
-#[derive(Drop)]
+#[derive(Clone, Copy)]
 pub enum Move {
     End(bool),
     Next(State),

@@ -6,7 +6,7 @@ ghost use Rattle.occurrence.specs.Standing.{first_place, Placeable, mark_at, pla
 use moves::Mark;
 
 // Where a piece stands, or that the word is none.
-#[derive(Drop)]
+#[derive(Clone, Copy)]
 pub enum Place {
     At(Mark),
     Nowhere,

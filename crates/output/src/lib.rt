@@ -9,7 +9,7 @@ use limits::{ComparisonRecord, Input, Record};
 use refusals::Refusal;
 
 // What the program writes, by its length.
-#[derive(Drop)]
+#[derive(Clone, Copy)]
 pub struct Output {
     pub length: usize,
 }
@@ -52,7 +52,7 @@ pub fn fuel_suffices()
 
 // What a record of the kind 3 part asks for: a comparison, by its allowance, where its first word begins, where the second begins and where it ends; or its
 // refusal.
-#[derive(Drop)]
+#[derive(Clone, Copy)]
 pub enum Request {
     Compare(u32, usize, usize, usize),
     Refused(Refusal),

@@ -16,14 +16,14 @@ use moves::{Mark, PlacedWord};
 use sites::Site;
 
 // What an earlier walk told of the current word: whether a mark is a possible prefix of it.
-#[derive(Drop)]
+#[derive(Clone, Copy)]
 pub enum Hint {
     Unknown,
     Known(Mark, bool),
 }
 
 // What the rounds go on from: the word u, the front mark p, and what is known of u.
-#[derive(Drop)]
+#[derive(Clone, Copy)]
 pub struct LeastState {
     pub word: PlacedWord,
     pub mark: Mark,
@@ -31,7 +31,7 @@ pub struct LeastState {
 }
 
 // Letters that are written: of the given word, or of the text, from one place to another.
-#[derive(Drop)]
+#[derive(Clone, Copy)]
 pub struct Source {
     pub given: bool,
     pub from: usize,
@@ -39,7 +39,7 @@ pub struct Source {
 }
 
 // One round: the end of the least word; that there is none; or the letters written and the next state.
-#[derive(Drop)]
+#[derive(Clone, Copy)]
 pub enum Stage {
     End,
     None,
@@ -47,14 +47,14 @@ pub enum Stage {
 }
 
 // Whether a Z is a possible prefix of what follows its X and Y, where that is known.
-#[derive(Drop)]
+#[derive(Clone, Copy)]
 pub enum Told {
     Nothing,
     That(bool),
 }
 
 // The relation word whose X and Y the least word begins with, or the number of relation words, and what is known of Z behind X and Y.
-#[derive(Drop)]
+#[derive(Clone, Copy)]
 pub struct Choice {
     pub member: usize,
     pub told: Told,

@@ -8,7 +8,7 @@ use layout::{Text, start_of};
 use loose::first_loose;
 
 // What the relation words are found to be: accepted, or this is the lowest that is a product of three or fewer pieces.
-#[derive(Drop)]
+#[derive(Clone, Copy)]
 pub enum Judged {
     Accepted,
     Loose(usize),

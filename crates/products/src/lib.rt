@@ -9,7 +9,7 @@ use layout::{length_of, start_of};
 use numbers::wide;
 
 // The number of pieces of a relation word.
-#[derive(Drop)]
+#[derive(Clone, Copy)]
 pub struct Number {}
 
 impl Number {

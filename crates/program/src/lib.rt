@@ -2,6 +2,7 @@
 ghost use Rattle.std.specs.Prelude.{◌≡◌, ◌+◌, ◌≤◌, length};
 ghost use Rattle.lines.specs.Lines.{WrittenTo};
 ghost use Rattle.output.specs.Program.{refused_line, comparison_line, loaded_output, program_of};
+ghost use Rattle.output.specs.Size.{output_most};
 ghost use Rattle.output.specs.Writing.{lines_under, Lined, lines_of_accepted, Accepted, Roomy};
 ghost use Rattle.asked.specs.Comparing.{comparison_of};
 ghost use Rattle.moves.specs.State.{Ready};
@@ -158,7 +159,7 @@ fn write_loaded(input: &[u8], out: &mut [u8]) -> usize
 
 // Writes the output at the start of the buffer and answers its length; the bytes behind it are kept.
 pub fn write_program(input: &[u8], out: &mut [u8]) -> usize
-    requires* { do ⌜ (← ⟦Output::MOST⟧) ≤ length out.old ⌝ }
+    requires { output_most ≤ length out.old }
     ensures { WrittenTo out.old 0 (program_of input.now) out.new result }
 {
     let made = Input::make(input.len());

@@ -7,7 +7,7 @@ use numbers::wide;
 
 // What can be refused, in the order of document 01's table, in which 7 is not used; `number_and_place` gives its number and its place. A record's place is its
 // first byte.
-#[derive(Drop)]
+#[derive(Clone, Copy)]
 pub enum Refusal {
     // The bytes end inside a record, or the book is empty.
     Short(usize),
@@ -48,7 +48,7 @@ pub enum Refusal {
 }
 
 // A refusal as document 01 writes it.
-#[derive(Drop)]
+#[derive(Clone, Copy)]
 pub struct Numbered {
     pub number: u8,
     pub place: usize,

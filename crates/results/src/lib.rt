@@ -4,7 +4,7 @@
 
 // Of the check and of the cut sheet. In every struct: the number of a refusal and its place, or 0 and 0; what an answer does not give is 0.
 #[repr(C)]
-#[derive(Drop)]
+#[derive(Clone, Copy)]
 pub struct CheckResult {
     pub refusal: u32,
     pub place: u64,
@@ -13,7 +13,7 @@ pub struct CheckResult {
 
 // Of a single round: its outcome, and the lengths of the next u, v and p where that is NEXT.
 #[repr(C)]
-#[derive(Drop)]
+#[derive(Clone, Copy)]
 pub struct RoundResult {
     pub refusal: u32,
     pub place: u64,
@@ -25,7 +25,7 @@ pub struct RoundResult {
 
 // Of a comparison: its outcome, and the rounds that it took.
 #[repr(C)]
-#[derive(Drop)]
+#[derive(Clone, Copy)]
 pub struct CompareResult {
     pub refusal: u32,
     pub place: u64,
@@ -35,7 +35,7 @@ pub struct CompareResult {
 
 // Of the program: the length of what it wrote.
 #[repr(C)]
-#[derive(Drop)]
+#[derive(Clone, Copy)]
 pub struct ProgramResult {
     pub refusal: u32,
     pub place: u64,
@@ -44,7 +44,7 @@ pub struct ProgramResult {
 
 // Of the least word, and of the one behind a prefix: its length.
 #[repr(C)]
-#[derive(Drop)]
+#[derive(Clone, Copy)]
 pub struct LeastResult {
     pub refusal: u32,
     pub place: u64,
@@ -53,7 +53,7 @@ pub struct LeastResult {
 
 // Of a held book: where in its buffer the book's bytes begin, how many they are, and the count of changes.
 #[repr(C)]
-#[derive(Drop)]
+#[derive(Clone, Copy)]
 pub struct HeldResult {
     pub start: u64,
     pub length: u64,

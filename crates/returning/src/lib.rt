@@ -11,7 +11,7 @@ use refusals::{Refusal, number_and_place};
 use results::{CheckResult, CompareResult, HeldResult, LeastResult, ProgramResult, RoundResult};
 
 // The version of the C functions, as a number: 10,000 times the first part, 100 times the second, and the third.
-#[derive(Drop)]
+#[derive(Clone, Copy)]
 pub struct Version {
     pub number: u32,
 }
@@ -21,7 +21,7 @@ impl Version {
 }
 
 // What a round or a comparison says, as a number. 0 says nothing, so that a refused result, and one filled with zeros, reads as no answer.
-#[derive(Drop)]
+#[derive(Clone, Copy)]
 pub struct Outcome {
     pub code: u32,
 }

@@ -14,7 +14,7 @@ use limits::Word;
 use plans::{Change, Plan, decide};
 
 // The end, or the lengths of the next u, v and p.
-#[derive(Drop)]
+#[derive(Clone, Copy)]
 pub enum RoundLengths {
     End(bool),
     Next(usize, usize, usize),

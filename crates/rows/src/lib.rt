@@ -15,7 +15,7 @@ use sites::Site;
 
 // The first row that fits; from row 3 on, also the relation word of u's clean relation prefix and where it lies, and from row 4 on where the member of its family
 // lies that v begins with.
-#[derive(Drop)]
+#[derive(Clone, Copy)]
 pub struct Found {
     pub row: u8,
     pub word: usize,

@@ -14,7 +14,7 @@ use layout::Text;
 use numbers::wide16;
 
 // Where a relation word lies in the text: its start, the end of X, the start of Z and its end.
-#[derive(Drop)]
+#[derive(Clone, Copy)]
 pub struct Site {
     pub start: usize,
     pub middle: usize,

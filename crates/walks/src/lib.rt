@@ -10,7 +10,7 @@ ghost use Rattle.walks.specs.Walks.{PlaceAsked, PlacesAsked, FirstClean, Walking
 use numbers::smaller;
 
 // One leg of a walk: the mark is possible; it is not; or it is if text[at..to] is possible behind place `from` of the given word.
-#[derive(Drop)]
+#[derive(Clone, Copy)]
 pub enum Leg {
     Yes,
     No,

@@ -5,10 +5,10 @@ use Rattle.cases.proofs.Laws.{cases}
 use Rattle.cases.proofs.answer_all.Statement.{statement}
 use Rattle.cases.proofs.answer_all.Tie as tie
 
-abbrev invariant-loop : tie.invariant-loop
+abbrev invariant-loop : tie.invariant-loop-at
 invariant-loop input at₀ at = Reached input 0 at
 
-abbrev decreases-loop : tie.decreases-loop
+abbrev decreases-loop : tie.decreases-loop-at
 decreases-loop input at₀ at = length input - at
 
 pub answer_all_spec : {M : Type 1} → statement M

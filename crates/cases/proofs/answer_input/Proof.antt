@@ -2,10 +2,10 @@ use Rattle.cases.proofs.Laws.{Holding, cases}
 use Rattle.cases.proofs.answer_input.Statement.{statement}
 use Rattle.cases.proofs.answer_input.Tie as tie
 
-abbrev invariant-loop : tie.invariant-loop
+abbrev invariant-loop : tie.invariant-loop-left
 invariant-loop buffer₀ kept₀ left₀ buffer kept left = Holding buffer₀ buffer kept
 
-abbrev decreases-loop : tie.decreases-loop
+abbrev decreases-loop : tie.decreases-loop-left
 decreases-loop buffer₀ kept₀ left₀ buffer kept left = left
 
 pub answer_input_spec : {M : Type 1} → statement M

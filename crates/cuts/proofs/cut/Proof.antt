@@ -3,10 +3,10 @@ use Rattle.cuts.proofs.Cutting.{Cutting, cuts}
 use Rattle.cuts.proofs.cut.Statement.{statement}
 use Rattle.cuts.proofs.cut.Tie as tie
 
-abbrev invariant-loop : tie.invariant-loop
+abbrev invariant-loop : tie.invariant-loop-i
 invariant-loop longest table₀ n i₀ table i = Cutting longest table₀ n i table
 
-abbrev decreases-loop : tie.decreases-loop
+abbrev decreases-loop : tie.decreases-loop-i
 decreases-loop longest table₀ n i₀ table i = n - i
 
 pub cut_spec : {M : Type 1} → statement M

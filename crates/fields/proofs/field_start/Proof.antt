@@ -2,10 +2,10 @@ use Rattle.fields.proofs.Laws.{Reached, places}
 use Rattle.fields.proofs.field_start.Statement.{statement}
 use Rattle.fields.proofs.field_start.Tie as tie
 
-abbrev invariant-loop : tie.invariant-loop
+abbrev invariant-loop : tie.invariant-loop-left
 invariant-loop line number at₀ left₀ at left = Reached line 0 at
 
-abbrev decreases-loop : tie.decreases-loop
+abbrev decreases-loop : tie.decreases-loop-left
 decreases-loop line number at₀ left₀ at left = left
 
 pub field_start_spec : {M : Type 1} → statement M

@@ -4,10 +4,10 @@ use Rattle.fields.proofs.Laws.{Reached, places}
 use Rattle.fields.proofs.find.Statement.{statement}
 use Rattle.fields.proofs.find.Tie as tie
 
-abbrev invariant-loop : tie.invariant-loop
+abbrev invariant-loop : tie.invariant-loop-i
 invariant-loop s at b i₀ i = Reached s at i
 
-abbrev decreases-loop : tie.decreases-loop
+abbrev decreases-loop : tie.decreases-loop-i
 decreases-loop s at b i₀ i = length s - i
 
 pub find_spec : {M : Type 1} → statement M

@@ -4,10 +4,10 @@ use Rattle.fields.proofs.Laws.{places}
 use Rattle.fields.proofs.is_kept.Statement.{statement}
 use Rattle.fields.proofs.is_kept.Tie as tie
 
-abbrev invariant-loop : tie.invariant-loop
+abbrev invariant-loop : tie.invariant-loop-i
 invariant-loop buffer from i₀ i = from ≤ i
 
-abbrev decreases-loop : tie.decreases-loop
+abbrev decreases-loop : tie.decreases-loop-i
 decreases-loop buffer from i₀ i = length buffer - i
 
 pub is_kept_spec : {M : Type 1} → statement M

@@ -5,10 +5,10 @@ use Rattle.fields.proofs.Laws.{places}
 use Rattle.fields.proofs.is_same.Statement.{statement}
 use Rattle.fields.proofs.is_same.Tie as tie
 
-abbrev invariant-loop : tie.invariant-loop
+abbrev invariant-loop : tie.invariant-loop-i
 invariant-loop a b from i₀ i = length a ≡ length b
 
-abbrev decreases-loop : tie.decreases-loop
+abbrev decreases-loop : tie.decreases-loop-i
 decreases-loop a b from i₀ i = length a - i
 
 pub is_same_spec : {M : Type 1} → statement M

@@ -4,10 +4,10 @@ use Rattle.fields.proofs.Laws.{Inside, places}
 use Rattle.fields.proofs.put_spaced.Statement.{statement}
 use Rattle.fields.proofs.put_spaced.Tie as tie
 
-abbrev invariant-loop : tie.invariant-loop
+abbrev invariant-loop : tie.invariant-loop-n
 invariant-loop text out₀ n₀ out n = Inside text out₀ out n n
 
-abbrev decreases-loop : tie.decreases-loop
+abbrev decreases-loop : tie.decreases-loop-n
 decreases-loop text out₀ n₀ out n = length text - n
 
 pub put_spaced_spec : {M : Type 1} → statement M

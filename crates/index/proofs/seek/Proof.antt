@@ -4,10 +4,10 @@ use Rattle.index.proofs.Seeking.{Seeking, seeks}
 use Rattle.index.proofs.seek.Statement.{statement}
 use Rattle.index.proofs.seek.Tie as tie
 
-abbrev invariant-loop : tie.invariant-loop
+abbrev invariant-loop : tie.invariant-loop-j
 invariant-loop text table n a b q from to m₀ j₀ m j = Seeking text table n (a ++ b) q from to j m
 
-abbrev decreases-loop : tie.decreases-loop
+abbrev decreases-loop : tie.decreases-loop-j
 decreases-loop text table n a b q from to m₀ j₀ m j = to - j
 
 pub seek_spec : {M : Type 1} → statement M

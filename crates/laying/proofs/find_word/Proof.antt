@@ -3,10 +3,10 @@ use Rattle.laying.proofs.Finding.{Finding, finding}
 use Rattle.laying.proofs.find_word.Statement.{statement}
 use Rattle.laying.proofs.find_word.Tie as tie
 
-abbrev invariant-loop : tie.invariant-loop
+abbrev invariant-loop : tie.invariant-loop-i
 invariant-loop word text table n i₀ i = Finding word text table n i
 
-abbrev decreases-loop : tie.decreases-loop
+abbrev decreases-loop : tie.decreases-loop-i
 decreases-loop word text table n i₀ i = n - i
 
 pub find_word_spec : {M : Type 1} → statement M

@@ -4,10 +4,10 @@ use Rattle.letters.proofs.Letters.{Topped, tops}
 use Rattle.letters.proofs.largest.Statement.{statement}
 use Rattle.letters.proofs.largest.Tie as tie
 
-abbrev invariant-loop : tie.invariant-loop
+abbrev invariant-loop : tie.invariant-loop-i
 invariant-loop word most₀ i₀ most i = Topped word i most
 
-abbrev decreases-loop : tie.decreases-loop
+abbrev decreases-loop : tie.decreases-loop-i
 decreases-loop word most₀ i₀ most i = length word - i
 
 pub largest_spec : {M : Type 1} → statement M

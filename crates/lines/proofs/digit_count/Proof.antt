@@ -2,10 +2,10 @@ use Rattle.lines.proofs.Laws.{Counted, counts}
 use Rattle.lines.proofs.digit_count.Statement.{statement}
 use Rattle.lines.proofs.digit_count.Tie as tie
 
-abbrev invariant-loop : tie.invariant-loop
+abbrev invariant-loop : tie.invariant-loop-rest
 invariant-loop n count₀ rest₀ count rest = Counted n count rest
 
-abbrev decreases-loop : tie.decreases-loop
+abbrev decreases-loop : tie.decreases-loop-rest
 decreases-loop n count₀ rest₀ count rest = rest
 
 pub digit_count_spec : {M : Type 1} → statement M

@@ -4,10 +4,10 @@ use Rattle.listing.proofs.Making.{gathers}
 use Rattle.listing.proofs.list_letter.Statement.{statement}
 use Rattle.listing.proofs.list_letter.Tie as tie
 
-abbrev invariant-loop : tie.invariant-loop
+abbrev invariant-loop : tie.invariant-loop-k
 invariant-loop text table₀ n c from j₀ k₀ table j k = Gathered text table₀ n c from k table j
 
-abbrev decreases-loop : tie.decreases-loop
+abbrev decreases-loop : tie.decreases-loop-k
 decreases-loop text table₀ n c from j₀ k₀ table j k = n - k
 
 pub list_letter_spec : {M : Type 1} → statement M

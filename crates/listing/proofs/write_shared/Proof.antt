@@ -3,10 +3,10 @@ use Rattle.listing.proofs.Making.{Sharing, sharings}
 use Rattle.listing.proofs.write_shared.Statement.{statement}
 use Rattle.listing.proofs.write_shared.Tie as tie
 
-abbrev invariant-loop : tie.invariant-loop
+abbrev invariant-loop : tie.invariant-loop-j
 invariant-loop text table₀ n j₀ table j = Sharing text table₀ table n j
 
-abbrev decreases-loop : tie.decreases-loop
+abbrev decreases-loop : tie.decreases-loop-j
 decreases-loop text table₀ n j₀ table j = n - j
 
 pub write_shared_spec : {M : Type 1} → statement M

@@ -3,10 +3,10 @@ use Rattle.longest.proofs.Passes.{Passing, passes}
 use Rattle.longest.proofs.pass.Statement.{statement}
 use Rattle.longest.proofs.pass.Tie as tie
 
-abbrev invariant-loop : tie.invariant-loop
+abbrev invariant-loop : tie.invariant-loop-q
 invariant-loop text row₀ x from to best₀ q₀ row best q = Passing text row₀ x from to q row best
 
-abbrev decreases-loop : tie.decreases-loop
+abbrev decreases-loop : tie.decreases-loop-q
 decreases-loop text row₀ x from to best₀ q₀ row best q = to - q
 
 pub pass_spec : {M : Type 1} → statement M

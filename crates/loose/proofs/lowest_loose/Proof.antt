@@ -3,10 +3,10 @@ use Rattle.loose.proofs.Lowest.{Seeking, seeking}
 use Rattle.loose.proofs.lowest_loose.Statement.{statement}
 use Rattle.loose.proofs.lowest_loose.Tie as tie
 
-abbrev invariant-loop : tie.invariant-loop
+abbrev invariant-loop : tie.invariant-loop-i
 invariant-loop longest table n i₀ i = Seeking longest table n i
 
-abbrev decreases-loop : tie.decreases-loop
+abbrev decreases-loop : tie.decreases-loop-i
 decreases-loop longest table n i₀ i = n - i
 
 pub lowest_loose_spec : {M : Type 1} → statement M

@@ -4,10 +4,10 @@ use Rattle.loose.proofs.Loose.{Outer, Inner, inner_more, middle_not, outer_more,
 use Rattle.loose.proofs.three_pieces.Statement.{statement}
 use Rattle.loose.proofs.three_pieces.Tie as tie
 
-abbrev invariant-loop : tie.invariant-loop
+abbrev invariant-loop : tie.invariant-loop-j
 invariant-loop longest start n found₀ i j₀ found j = Inner longest start n i j found
 
-abbrev decreases-loop : tie.decreases-loop
+abbrev decreases-loop : tie.decreases-loop-j
 decreases-loop longest start n found₀ i j₀ found j = n - j
 
 abbrev invariant-outer : tie.invariant-outer

@@ -6,10 +6,10 @@ use Rattle.members.proofs.Laws.{best_next, best_start, first_members}
 use Rattle.members.proofs.first_member.Statement.{statement}
 use Rattle.members.proofs.first_member.Tie as tie
 
-abbrev invariant-loop : tie.invariant-loop
+abbrev invariant-loop : tie.invariant-loop-j
 invariant-loop text table n i at to low best₀ j₀ best j = BestSoFar (words_in text table n) table n i (part text at to) best j
 
-abbrev decreases-loop : tie.decreases-loop
+abbrev decreases-loop : tie.decreases-loop-j
 decreases-loop text table n i at to low best₀ j₀ best j = n - j
 
 pub first_member_spec : {M : Type 1} → statement M

@@ -3,10 +3,10 @@ use Rattle.members.proofs.Choosing.{Idle, other_carriers}
 use Rattle.members.proofs.other_carrier.Statement.{statement}
 use Rattle.members.proofs.other_carrier.Tie as tie
 
-abbrev invariant-loop : tie.invariant-loop
+abbrev invariant-loop : tie.invariant-loop-c
 invariant-loop text table n given i j k c₀ c = Idle text table n given i j k c
 
-abbrev decreases-loop : tie.decreases-loop
+abbrev decreases-loop : tie.decreases-loop-c
 decreases-loop text table n given i j k c₀ c = n - c
 
 pub other_carrier_spec : {M : Type 1} → statement M

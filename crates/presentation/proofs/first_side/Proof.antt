@@ -3,10 +3,10 @@ use Rattle.presentation.proofs.Checking.{Siding, sidings}
 use Rattle.presentation.proofs.first_side.Statement.{statement}
 use Rattle.presentation.proofs.first_side.Tie as tie
 
-abbrev invariant-loop : tie.invariant-loop
+abbrev invariant-loop : tie.invariant-loop-s
 invariant-loop table sides word s₀ s = Siding table sides word s
 
-abbrev decreases-loop : tie.decreases-loop
+abbrev decreases-loop : tie.decreases-loop-s
 decreases-loop table sides word s₀ s = sides - s
 
 pub first_side_spec : {M : Type 1} → statement M

@@ -3,10 +3,10 @@ use Rattle.records.proofs.Starts.{Walked, starts}
 use Rattle.records.proofs.relation_start.Statement.{statement}
 use Rattle.records.proofs.relation_start.Tie as tie
 
-abbrev invariant-loop : tie.invariant-loop
+abbrev invariant-loop : tie.invariant-loop-i
 invariant-loop book k at₀ i₀ at i = Walked book k at i
 
-abbrev decreases-loop : tie.decreases-loop
+abbrev decreases-loop : tie.decreases-loop-i
 decreases-loop book k at₀ i₀ at i = k - i
 
 pub relation_start_spec : {M : Type 1} → statement M

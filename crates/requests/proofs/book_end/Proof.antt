@@ -4,10 +4,10 @@ use Rattle.output.proofs.Reading.{Ending, endings, ending_cut}
 use Rattle.requests.proofs.book_end.Statement.{statement}
 use Rattle.requests.proofs.book_end.Tie as tie
 
-abbrev invariant-loop : tie.invariant-loop
+abbrev invariant-loop : tie.invariant-loop-at
 invariant-loop input at₀ at = Ending input at
 
-abbrev decreases-loop : tie.decreases-loop
+abbrev decreases-loop : tie.decreases-loop-at
 decreases-loop input at₀ at = length input - at
 
 pub book_end_spec : {M : Type 1} → statement M

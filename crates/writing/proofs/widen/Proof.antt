@@ -4,10 +4,10 @@ use Rattle.writing.proofs.Loops.{Writing, writings}
 use Rattle.writing.proofs.widen.Statement.{statement}
 use Rattle.writing.proofs.widen.Tie as tie
 
-abbrev invariant-loop : tie.invariant-loop
+abbrev invariant-loop : tie.invariant-loop-i
 invariant-loop s out₀ at i₀ out i = Writing s out₀ at i out
 
-abbrev decreases-loop : tie.decreases-loop
+abbrev decreases-loop : tie.decreases-loop-i
 decreases-loop s out₀ at i₀ out i = length s - i
 
 pub widen_spec : {M : Type 1} → statement M
