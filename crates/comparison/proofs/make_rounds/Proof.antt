@@ -3,10 +3,10 @@ use Rattle.comparison.proofs.Laws.{Going, goings}
 use Rattle.comparison.proofs.make_rounds.Statement.{statement}
 use Rattle.comparison.proofs.make_rounds.Tie as tie
 
-abbrev invariant-loop : tie.invariant-loop
+abbrev invariant-loop : tie.invariant-loop-same
 invariant-loop text table n first second budget s₀ done₀ s done = Going text table n first second s₀ budget s done
 
-abbrev decreases-loop : tie.decreases-loop
+abbrev decreases-loop : tie.decreases-loop-same
 decreases-loop text table n first second budget s₀ done₀ s done = budget - done
 
 pub make_rounds_spec : {M : Type 1} → statement M
