@@ -24,7 +24,7 @@ book_end_spec =
     (λ c κs. search endings)
     (λ c. search endings)
     (λ c. search endings)
-    (λ c. search (ending_cut, c.enum_told.given.1, c.before.before.record-at.ensures, c.before.before.before.before.field_at.ensures))
+    (λ c. search (ending_cut, c.in_default-record.is, c.record_at-record.ensures, c.field_at-kind.ensures))
     (λ c. search endings)
     (λ c. search endings)
     (λ c. search endings))
