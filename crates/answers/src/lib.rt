@@ -1,5 +1,7 @@
 // What the public entries answer. specs/Answers.antt gives document 01's number and values for each case, specs/Entries.antt defines the answer of every entry,
 // and specs/Demands.antt spells out the demands, of which demand 2 and those on least words are theorems on these definitions (crate `theorems`).
+#![tactic(auto)]
+
 use refusals::Refusal;
 
 // A book is accepted, with its number of relations (document 01: rules), or refused.

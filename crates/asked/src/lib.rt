@@ -1,5 +1,7 @@
 // What is asked of a loaded book, and what is answered: given words and their refusals, comparisons, least words. Definitions that the public contracts name, and the
 // enums that they speak of, with no code under them.
+#![tactic(auto)]
+
 use refusals::Refusal;
 
 // A given word is fine, or refused.

@@ -1,5 +1,6 @@
 // What plans are made of: the changes of one word, the plans that two sites give by their positions alone, and what is read to cut equal ends.
 // A word is two slices, a head part and what follows it.
+#![tactic(auto)]
 
 ghost use Rattle.std.specs.Prelude.{◌≡◌, ◌++◌};
 ghost use Rattle.sites.specs.Sites.{SiteInText, SitesInText};

@@ -1,4 +1,6 @@
 // The rounds of a comparison, and the comparison of two given words, which are widened into lent arrays.
+#![tactic(auto)]
+
 ghost use Rattle.std.specs.Prelude.{◌≡◌};
 ghost use Rattle.layout.specs.Layout.{words_in};
 ghost use Rattle.layout.specs.Families.{family_by};

@@ -1,6 +1,8 @@
 // The cuts of the relation words, by the table of longest pieces: where X ends and where Z starts (document 01, "Pieces, C(4) and cuts"). They go into the table of
 // the relation words together with the numbers of pieces. Lengths and places inside a word are bytes, none above Text::WORD; what goes into the table are positions in
 // the text.
+#![tactic(auto)]
+
 ghost use Rattle.std.specs.Prelude.{◌≡◌, ◌+◌, ◌-◌, ◌≤◌};
 ghost use Rattle.layout.specs.Places.{word_most, text_room};
 ghost use Rattle.loose.specs.Pieces.{InTables, AllInTables};

@@ -1,6 +1,8 @@
 // The public entries: what a customer calls. None has a `requires`; each promises that its answer equals a definition's (crate answers, specs/Entries.antt),
 // refusals in document 01's order and lent buffers included: as an equality, or, of `compare` and `least_word`, as the field `is` of a record that holds beside it
 // what is owed in words (`Compared`, `LeastAnswered`). The demands are spelled out in crate answers, specs/Demands.antt.
+#![tactic(auto)]
+
 ghost use Rattle.std.specs.Prelude.{◌≡◌};
 ghost use Rattle.answers.specs.Answers.{of_verdict, of_round, of_comparison, of_printed, of_written_word};
 ghost use Rattle.answers.specs.Entries.{check_of, SheetOutcome, sheet_of, RoundOutcome, round_of, WordOutcome, OutputOutcome, output_of};

@@ -1,4 +1,6 @@
 // Families (document 01, "Distinct words and families"): which relation words the relations join, and links from each member to the next.
+#![tactic(auto)]
+
 ghost use Rattle.std.specs.Prelude.{◌≡◌};
 ghost use Rattle.layout.specs.Families.{side_word_of, family_at};
 ghost use Rattle.families.specs.Joining.{renamed_at, Alone, Countable, Nameable, Renamable, Renamed, SideKnown, Joinable, Joined, Groupable, Separate, AllJoined};

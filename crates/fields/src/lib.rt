@@ -1,5 +1,7 @@
 // The text of a line: where its fields begin and end, the bytes and the numbers that they write, and bytes written in hexadecimal again. A field ends at a
 // space or at the line's end.
+#![tactic(auto)]
+
 ghost use Rattle.std.specs.Prelude.{◌≡◌, ◌≤◌, ◌<◌, length};
 ghost use Rattle.fields.specs.Places.{Behind, Filled};
 

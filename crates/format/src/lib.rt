@@ -1,5 +1,7 @@
 // What reading a book gives (document 01, "Book bytes"): the answers of the reader's parts, over the definitions of specs/Book.antt and specs/Bytes.antt. Crate
 // `theorems` tells what is shown of these.
+#![tactic(auto)]
+
 use refusals::Refusal;
 
 // What reading a head record gives: the number of letters, and the position behind the record.

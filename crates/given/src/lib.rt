@@ -1,4 +1,6 @@
 // The words that an entry is given: refusals 9 and 10 (document 01, "Refusals by number"), and their letters in two bytes, as words inside have them.
+#![tactic(auto)]
+
 ghost use Rattle.std.specs.Prelude.{◌≡◌, ◌≤◌, length};
 ghost use Rattle.limits.specs.Limits.{mark_most};
 ghost use Rattle.given.specs.Given.{Widened};

@@ -1,6 +1,8 @@
 // What a held book is, what loading and changing it give, and what proposing a change and posting it give. specs/Held.antt says what lies in its buffer, specs/Changes.antt
 // and specs/Tickets.antt define the answers, and specs/Demands.antt and specs/Postings.antt say in words what is owed, which crate `theorems` has as theorems on these
 // definitions.
+#![tactic(auto)]
+
 use refusals::Refusal;
 
 // The new book of a change is made, with the number of its bytes, or the change is refused.

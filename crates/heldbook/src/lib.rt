@@ -1,6 +1,8 @@
 // The public entries of held books: what a customer calls to load one, to change it, to propose a change and post it, and to have its book back. None has a `requires`;
 // each promises that its answer and its lent buffers equal a definition's (crate held, specs/Changes.antt and specs/Tickets.antt), for every content of the buffers. What
 // is owed in words is in crate held, specs/Demands.antt and specs/Postings.antt.
+#![tactic(auto)]
+
 ghost use Rattle.std.specs.Prelude.{◌≡◌};
 ghost use Rattle.answers.specs.Answers.{of_verdict};
 ghost use Rattle.held.specs.Held.{book_in, book_start, changes_told};

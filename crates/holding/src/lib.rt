@@ -1,4 +1,6 @@
 // A held book in its lent buffer: where its book lies, what reading that gives, its count of changes, and the writing of a book with both.
+#![tactic(auto)]
+
 ghost use Rattle.std.specs.Prelude.{◌≡◌, ◌+◌, ◌≤◌, length};
 ghost use Rattle.words.specs.Writing.{written};
 ghost use Rattle.format.specs.Book.{read_book, reading_of};

@@ -1,5 +1,7 @@
 // Which relation word's X and Y stand at a place of a word, found by the index of the relation words.
 // A word that is compared is given as two slices, a and b, and is a followed by b.
+#![tactic(auto)]
+
 ghost use Rattle.std.specs.Prelude.{◌≡◌, ◌<◌, ◌++◌, length, drop};
 ghost use Rattle.layout.specs.Places.{shared_cell};
 ghost use Rattle.layout.specs.Layout.{order_of, words_in, Checked};

@@ -1,4 +1,6 @@
 // One relation word more in the list of its letter: relation words compared, and one inserted where it belongs.
+#![tactic(auto)]
+
 ghost use Rattle.std.specs.Prelude.{◌≡◌, ◌+◌};
 ghost use Rattle.words.specs.Words.{common_prefix};
 ghost use Rattle.layout.specs.Layout.{word_at, WordPair};

@@ -1,4 +1,6 @@
 // A word that is given as two slices, a and b, and is a followed by b: its letters, and what a part of the text has in common with it.
+#![tactic(auto)]
+
 ghost use Rattle.std.specs.Prelude.{◌≡◌, ◌+◌, ◌-◌, ◌<◌, ◌++◌, length, get_or, drop};
 ghost use Rattle.words.specs.Words.{is_prefix, common_prefix, part};
 ghost use Rattle.layout.specs.Layout.{Span};

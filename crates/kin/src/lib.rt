@@ -1,5 +1,7 @@
 // What is asked of the members of a family: whether a mark lies in the X of one, for whose Z a rest is active, and which of them gives row 4 its tail.
 // Members are met in rising order, by the links of the table.
+#![tactic(auto)]
+
 ghost use Rattle.std.specs.Prelude.{◌≡◌, drop};
 ghost use Rattle.words.specs.Search.{least};
 ghost use Rattle.words.specs.Words.{is_prefix};

@@ -1,4 +1,6 @@
 // The laying of relation words: a word and its fence behind the words that are laid, unless it is one of them, and both sides of a relation.
+#![tactic(auto)]
+
 ghost use Rattle.std.specs.Prelude.{not, [], ◌∷◌, ◌++◌, ◌≡◌, ◌+◌, ◌<◌, eqb, length, get_or};
 ghost use Rattle.words.specs.Words.{is_prefix, same_word};
 ghost use Rattle.words.specs.Families.{place_of};

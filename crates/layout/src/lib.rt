@@ -1,4 +1,6 @@
 // How relation words lie in arrays: where each part of the text and of the table begins, and the readers of the table.
+#![tactic(auto)]
+
 ghost use Rattle.std.specs.Prelude.{◌≡◌, ◌+◌, ◌-◌, ◌<◌, ◌≤◌, length};
 ghost use Rattle.layout.specs.Places.{word_most, start_cell, x_end_cell, z_start_cell, pieces_cell, end_cell, side_cell, count_cell, family_cell, next_cell, first_cell, order_cell, shared_cell, fixed_places};
 ghost use Rattle.layout.specs.Layout.{start_of, x_end_of, z_start_of, pieces_of, end_of, first_of, order_of, shared_of};

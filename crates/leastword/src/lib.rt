@@ -1,5 +1,7 @@
 // The least congruent word of a given word, or the least word behind a piece with which it is congruent to it, part by part: its letters are counted, and written at
 // the start of a lent buffer as far as that has room. Both are one procedure, that starts with the piece as its mark.
+#![tactic(auto)]
+
 ghost use Rattle.std.specs.Prelude.{◌≡◌};
 ghost use Rattle.layout.specs.Layout.{words_in};
 ghost use Rattle.layout.specs.Families.{family_by};

@@ -1,6 +1,8 @@
 // The calls of a line on a held book: its loading, its changes, their proposals and the postings of tickets, with the first bytes of buffers lent.
 // The tickets of a line lie one behind the other in a buffer filled with aa, each in the room of one. It keeps as many as it holds: 1,930 in a
 // `large_room`.
+#![tactic(auto)]
+
 ghost use Rattle.fields.specs.Places.{Filled};
 ghost use Rattle.lending.specs.Rooms.{Roomy, TicketRoomy};
 

@@ -1,4 +1,6 @@
 // Letters that a head does not have (document 01: unknown steps and strangers), looked for in a word.
+#![tactic(auto)]
+
 ghost use Rattle.std.specs.Prelude.{◌≡◌};
 ghost use Rattle.letters.specs.Letters.{largest};
 ghost use Rattle.words.specs.Letters.{first_unknown};

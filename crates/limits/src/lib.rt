@@ -1,5 +1,7 @@
 // The limits of document 01 ("What the unit holds"), each named once with the kind of record that it belongs to, with constructors that check ranges.
 // The `amounts` of a type are its constants, in the order of its list in specs/Limits.antt, whose numbers the definitions use.
+#![tactic(auto)]
+
 ghost use Rattle.std.specs.Prelude.{◌≡◌};
 ghost use Rattle.limits.specs.Limits.{outside, head_of, relation_of, word_of, input_of, record_amounts, head_amounts, relation_amounts, comparison_amounts, word_amounts, sheet_amounts, held_amounts, ticket_amounts, input_amounts};
 

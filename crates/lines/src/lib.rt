@@ -1,4 +1,6 @@
 // Lines of text in a lent buffer: a word, numbers in decimal, a newline (document 01, "The program").
+#![tactic(auto)]
+
 ghost use Rattle.std.specs.Prelude.{[], ◌∷◌, ◌≡◌, ◌+◌, ◌≤◌, length};
 ghost use Rattle.spelling.specs.Decimal.{digit_count, decimal};
 ghost use Rattle.spelling.specs.Lines.{numbered, line_of, pair_line_of};

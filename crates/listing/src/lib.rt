@@ -1,4 +1,6 @@
 // The making of the index: relation words are listed by first letter, sorted within a letter, each with how many letters it shares with the one before it.
+#![tactic(auto)]
+
 ghost use Rattle.std.specs.Prelude.{◌≡◌, ◌+◌, ◌-◌, eqb};
 ghost use Rattle.words.specs.Words.{common_prefix};
 ghost use Rattle.layout.specs.Places.{letters_bound};

@@ -1,4 +1,6 @@
 // What the public entries do once a book is loaded: its cut sheet, and a round under it. A part for the entries, which load the book.
+#![tactic(auto)]
+
 ghost use Rattle.std.specs.Prelude.{◌≡◌};
 ghost use Rattle.layout.specs.Layout.{words_in};
 ghost use Rattle.layout.specs.Families.{family_by};

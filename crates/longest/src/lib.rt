@@ -1,5 +1,7 @@
 // The table of longest pieces: for each place of the text how many letters the longest piece there has (document 01, "Pieces, C(4) and cuts").
 // The loops know nothing of relation words: a fence stands once in the text, so no common prefix of two places goes past one.
+#![tactic(auto)]
+
 ghost use Rattle.std.specs.Prelude.{◌≡◌, ◌≤◌};
 ghost use Rattle.longest.specs.Longest.{next, PassRoom, Passed, Ready, Advanced, Space, Tabled};
 

@@ -1,5 +1,7 @@
 // Whether a relation word is a product of three or fewer pieces, by the table of longest pieces: the test of C(4) (document 01, "Pieces, C(4) and cuts", refusal 8).
 // Lengths and places inside a word are bytes. None is above Text::WORD, the most letters of a word, also where a loop is left.
+#![tactic(auto)]
+
 ghost use Rattle.std.specs.Prelude.{◌≡◌, ◌-◌, ◌≤◌};
 ghost use Rattle.overlap.specs.Cuts.{three};
 ghost use Rattle.layout.specs.Places.{word_most};

@@ -1,5 +1,7 @@
 // What a round of the least word reads: the clean relation prefix of a held word, the first member of a family in the dictionary, and what the given word from a place
 // on is to a Z.
+#![tactic(auto)]
+
 ghost use Rattle.std.specs.Prelude.{◌≡◌, drop};
 ghost use Rattle.congruence.specs.Rows.{clean_relation_prefix};
 ghost use Rattle.least.specs.Order.{house_rank};

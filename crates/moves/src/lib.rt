@@ -1,5 +1,7 @@
 // The state of a comparison and one round of it. Both words are held as a part of the presentation's text followed by the rest of the given word, so that no
 // word is ever copied (document 01, "Exchanges and rounds").
+#![tactic(auto)]
+
 ghost use Rattle.std.specs.Prelude.{◌≡◌, length, get_or};
 ghost use Rattle.plans.specs.Plans.{PlansRound};
 ghost use Rattle.moves.specs.State.{beyond_of, Movable, advanced_of, MarkMovable, advanced_mark, placed_word, placed_mark, StateReady, Applicable, move_of, RoundMade};

@@ -1,4 +1,6 @@
 // Numbers from one width to another, and the larger and the smaller of two: what the loops of the crates above use.
+#![tactic(auto)]
+
 ghost use Rattle.std.specs.Prelude.{◌≡◌, ◌<◌, max, min};
 ghost use Rattle.numbers.specs.Widths.{Widened};
 

@@ -1,5 +1,7 @@
 // Where a given word stands in the text of the relation words, and whether it is a piece: by the table of longest pieces that the check of the book leaves
 // (document 01, "Pieces, C(4) and cuts"). A fence is no letter, so that a word which stands in the text stands in one relation word.
+#![tactic(auto)]
+
 ghost use Rattle.std.specs.Prelude.{◌≡◌, ◌+◌, ◌<◌, ◌≤◌, leb, length, get_or};
 ghost use Rattle.occurrence.specs.Standing.{first_place, Placeable, mark_at, place_of, Sought, PieceSought};
 

@@ -1,5 +1,7 @@
 // What the program of document 01 writes for its input, defined in specs/Program.antt: the sizes of it, what a comparison record asks for, and theorems on the
 // definitions.
+#![tactic(auto)]
+
 ghost use Rattle.std.specs.Prelude.{◌≡◌};
 ghost use Rattle.output.specs.Examples.{Hold, examples, HeavyFirst};
 ghost use Rattle.output.specs.Program.{FuelSuffices};

@@ -1,5 +1,7 @@
 // One round of the least word: what is written, and the word and the mark that it goes on with. The word is held as a part of the presentation's text followed by
 // the rest of the given word, and the mark as a part of the text, so that no word is ever copied.
+#![tactic(auto)]
+
 ghost use Rattle.std.specs.Prelude.{◌≡◌, drop};
 ghost use Rattle.overlap.specs.Cuts.{z_of};
 ghost use Rattle.least.specs.Possible.{possible};

@@ -1,4 +1,6 @@
 // The verdict on the relation words: refusal 8, and the cuts where it is not due (document 01, "Pieces, C(4) and cuts").
+#![tactic(auto)]
+
 ghost use Rattle.layout.specs.Layout.{Laid};
 ghost use Rattle.loose.specs.Pieces.{Fenced};
 ghost use Rattle.pieces.specs.Judging.{LongestKept, JudgedKept};

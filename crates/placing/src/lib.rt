@@ -1,5 +1,7 @@
 // The least word of a given word under a loaded book, or the least word behind a piece: its letters are counted, and it is then written into the part of a lent buffer from
 // an offset on. Parts for the entries, which load the book.
+#![tactic(auto)]
+
 ghost use Rattle.std.specs.Prelude.{◌≡◌};
 ghost use Rattle.layout.specs.Layout.{words_in};
 ghost use Rattle.layout.specs.Families.{family_by};

@@ -1,5 +1,6 @@
 // What the first row that fits makes of u, v and p: it is decided over read-only data, as a plan of three changes.
 // A word is two slices, a head part and what follows it.
+#![tactic(auto)]
 
 ghost use Rattle.std.specs.Prelude.{◌≡◌, ◌-◌, ◌++◌, drop};
 ghost use Rattle.congruence.specs.Rows.{tail_member};

@@ -1,5 +1,7 @@
 // The checked book (document 01: an accepted book), made once from its bytes: its relation words in one text, each once, with their cuts, their families and their
 // index in one table. Every round and every comparison works on these two arrays.
+#![tactic(auto)]
+
 ghost use Rattle.std.specs.Prelude.{◌≡◌, ◌*◌};
 ghost use Rattle.presentation.specs.Loading.{Unchecked, WordsKept, Sided, first_side, by_judged, Memory, BookLoaded, PiecesKept};
 

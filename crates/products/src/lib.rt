@@ -1,5 +1,7 @@
 // The number of pieces of a relation word, by the table of longest pieces (document 01, "Pieces, C(4) and cuts"): taking the longest piece each time needs the
 // fewest, since every part of a piece is a piece. Lengths and places inside a word are bytes, none above Text::WORD.
+#![tactic(auto)]
+
 ghost use Rattle.std.specs.Prelude.{◌≡◌, ◌+◌, ◌<◌, ◌≤◌, length};
 ghost use Rattle.layout.specs.Places.{word_most};
 ghost use Rattle.loose.specs.Pieces.{InTables};

@@ -1,4 +1,6 @@
 // The program of document 01, from its input bytes to its output bytes.
+#![tactic(auto)]
+
 ghost use Rattle.std.specs.Prelude.{◌≡◌, ◌+◌, ◌≤◌, length};
 ghost use Rattle.lines.specs.Lines.{WrittenTo};
 ghost use Rattle.output.specs.Program.{refused_line, comparison_line, loaded_output, program_of};

@@ -1,5 +1,7 @@
 // What follows once the bytes of a new book are made that is only proposed: it is checked and its sheet written, and a ticket is given for the change that leads to it. A
 // part for the entries of held books: a change that is proposed.
+#![tactic(auto)]
+
 ghost use Rattle.std.specs.Prelude.{◌≡◌, ltb, length};
 ghost use Rattle.limits.specs.Limits.{ticket_room, ticket_buffer};
 ghost use Rattle.refusals.specs.declared.Refusal.TheVariants.{Narrow};

@@ -1,5 +1,7 @@
 // The book reader: bytes to relation words (document 01, "Book bytes"). Its answer is what the definition of reading a book gives, for every byte slice.
 // It is a part for the entries above it: a book that it reads may still fail C(4).
+#![tactic(auto)]
+
 ghost use Rattle.laying.specs.Appending.{Arrays};
 ghost use Rattle.reader.specs.Reading.{BookRead};
 

@@ -1,4 +1,6 @@
 // The records of a book: where in a byte slice a record lies, and its kind (document 01, "Book bytes"), equal to the definition's answer for every byte slice.
+#![tactic(auto)]
+
 ghost use Rattle.std.specs.Prelude.{◌≡◌, ◌+◌, ◌<◌, length};
 ghost use Rattle.format.specs.Book.{record_at, relation_start};
 ghost use Rattle.records.specs.Reads.{Field, Starts};

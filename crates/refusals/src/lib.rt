@@ -1,4 +1,6 @@
 // What can be refused (document 01, "Refusals by number"), and the number and place of each.
+#![tactic(auto)]
+
 ghost use Rattle.std.specs.Prelude.{◌≡◌};
 ghost use Rattle.refusals.specs.Refusals.{number_and_place};
 

@@ -1,5 +1,7 @@
 // What a head and a relation say: a record's bytes to their fields (document 01, "Book bytes"), each answer equal to a definition's for every byte slice.
 // Where a record lies and the place that its refusal reports are told apart: a record may lie in another slice than the book that it belongs to.
+#![tactic(auto)]
+
 ghost use Rattle.std.specs.Prelude.{◌≡◌};
 ghost use Rattle.words.specs.Words.{part};
 ghost use Rattle.limits.specs.Limits.{letters_most};

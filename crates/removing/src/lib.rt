@@ -1,5 +1,7 @@
 // The public entry that removes a prefix from a word (document 01: taking a front off), and its parts once the book is loaded. It has no `requires`, and promises that its
 // answer is the one that crate `removal` defines, refusals in document 01's order and the lent buffer included, together with what is owed in words (`RemovalAnswered`).
+#![tactic(auto)]
+
 ghost use Rattle.std.specs.Prelude.{◌≡◌};
 ghost use Rattle.layout.specs.Layout.{words_in};
 ghost use Rattle.layout.specs.Families.{family_by};

@@ -1,4 +1,6 @@
 // The bytes of the book that a change makes of a held book, in an array apart from it, or the refusal of the change itself. A part for the entries, which then check the new book.
+#![tactic(auto)]
+
 ghost use Rattle.std.specs.Prelude.{◌≡◌, length};
 ghost use Rattle.limits.specs.Limits.{book_most};
 ghost use Rattle.format.specs.Book.{addition_at};

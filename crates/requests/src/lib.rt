@@ -1,4 +1,6 @@
 // The requests of the program's input (document 01, "The program"): where the book ends, and what a record of kind 3 asks for.
+#![tactic(auto)]
+
 ghost use Rattle.std.specs.Prelude.{◌≡◌, ◌+◌, ◌<◌, length};
 ghost use Rattle.records.specs.Reads.{Payload};
 ghost use Rattle.output.specs.Program.{book_end};

@@ -1,6 +1,7 @@
 // What the C functions return: the specification's numbers in plain structs, for each answer of the entries as specs/Numbers.antt gives them; and, in specs/Calls.antt, what
 // each of the functions promises.
 // The fields have the words of the C header, which are the specification's: a rule is a relation, a run a word.
+#![tactic(auto)]
 
 // Of the check and of the cut sheet. In every struct: the number of a refusal and its place, or 0 and 0; what an answer does not give is 0.
 #[repr(C)]

@@ -1,4 +1,6 @@
 // The answers of the entries as the plain structs that the C functions return: the code of what crate `results` defines.
+#![tactic(auto)]
+
 ghost use Rattle.std.specs.Prelude.{◌≡◌};
 ghost use Rattle.refusals.specs.Refusals.{number_and_place};
 ghost use Rattle.answers.specs.Answers.{of_verdict, of_round, of_comparison, of_printed, of_written_word};

@@ -1,4 +1,5 @@
 // The single round: it is decided as a plan, and the next words are written into three lent buffers.
+#![tactic(auto)]
 
 ghost use Rattle.std.specs.Prelude.{◌≡◌};
 ghost use Rattle.congruence.specs.Rows.{round};

@@ -1,5 +1,6 @@
 // Which row of document 01 fits first, by how u, v and p begin with the parts of two relation words where these lie in the text.
 // A word is two slices, a head part and what follows it.
+#![tactic(auto)]
 
 ghost use Rattle.std.specs.Prelude.{◌||◌, ◌≡◌, ◌++◌};
 ghost use Rattle.words.specs.Words.{is_empty, is_prefix};

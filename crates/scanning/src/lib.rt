@@ -1,4 +1,6 @@
 // A pass over a book's records (document 01, "Book bytes"): what reading the book gives, with none of its words laid. Its answer is the definition's for every byte slice.
+#![tactic(auto)]
+
 ghost use Rattle.std.specs.Prelude.{◌≡◌};
 ghost use Rattle.format.specs.Book.{read_book, reading_of};
 ghost use Rattle.scanning.specs.Reading.{of_head, of_relation};

@@ -1,5 +1,7 @@
 // What follows once the bytes of a new book are made: it is checked and its sheet written, and then it takes the place of the book that is held. A part for the entries of
 // held books: a change that is made directly.
+#![tactic(auto)]
+
 ghost use Rattle.std.specs.Prelude.{◌≡◌, true, length};
 ghost use Rattle.refusals.specs.declared.Refusal.TheVariants.{BookWorn};
 ghost use Rattle.answers.specs.Answers.{of_verdict};

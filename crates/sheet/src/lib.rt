@@ -1,4 +1,6 @@
 // The cut sheet: for each side in order the lengths of X, Y and Z of its word and their number of pieces, one byte each (document 01, "The cut sheet").
+#![tactic(auto)]
+
 ghost use Rattle.std.specs.Prelude.{◌+◌, ◌-◌, ◌*◌, ◌<◌, ◌≤◌, ◌≡◌};
 ghost use Rattle.words.specs.Writing.{written, over};
 ghost use Rattle.limits.specs.Limits.{sheet_columns};

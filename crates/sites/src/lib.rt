@@ -1,5 +1,6 @@
 // Where relation words lie in the text, and what is read there: the clean relation prefix of a word, an X that the mark begins, a letter that begins no relation word.
 // A word is two slices, a head part and what follows it.
+#![tactic(auto)]
 
 ghost use Rattle.std.specs.Prelude.{◌≡◌, ◌<◌, ◌++◌, length};
 ghost use Rattle.words.specs.Words.{is_prefix, part};

@@ -1,5 +1,7 @@
 // What is shown of the definitions, each theorem the contract of a function that does nothing, so that it is found here and the check holds it fast. What a theorem says stands in the
 // specs of the crate that its heading names, and its proof in the proofs there. Crates `output` and `worked` have theorems of their own.
+#![tactic(auto)]
+
 ghost use Rattle.words.specs.Families.{DistinctWordsRight, FamiliesRight};
 ghost use Rattle.words.specs.WorkedLists.{ListsHold};
 ghost use Rattle.words.specs.Examples.{WordsHold};

@@ -1,4 +1,6 @@
 // Tickets: what one of any bytes says, and the writing of one.
+#![tactic(auto)]
+
 ghost use Rattle.std.specs.Prelude.{◌≡◌, ◌≤◌};
 ghost use Rattle.words.specs.Writing.{over};
 ghost use Rattle.limits.specs.Limits.{ticket_number_at};

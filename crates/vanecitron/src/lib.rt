@@ -1,5 +1,7 @@
 // The public entries as C functions, for C and Rust. Each passes on what the entry of crate `entries`, `removing` or `heldbook` answers, as the numbers that crate `results`
 // gives for it; each promise is the entry's own, read through them (crate results, specs/Calls.antt). None has a `requires`.
+#![tactic(auto)]
+
 ghost use Rattle.std.specs.Prelude.{◌≡◌, length};
 ghost use Rattle.answers.specs.Entries.{check_of, sheet_of, round_of, output_of};
 ghost use Rattle.held.specs.Held.{book_in, book_start, changes_told};

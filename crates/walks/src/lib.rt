@@ -1,4 +1,6 @@
 // Whether a mark is a possible prefix of the rest of the given word: a walk along that rest, which rewrites nothing. The mark is a part of the text.
+#![tactic(auto)]
+
 ghost use Rattle.std.specs.Prelude.{◌≡◌, drop};
 ghost use Rattle.words.specs.Words.{part};
 ghost use Rattle.congruence.specs.Rows.{clean_relation_prefix};

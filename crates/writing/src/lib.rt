@@ -1,5 +1,7 @@
 // Letters written into a lent array from a place on, the rest kept: as they are, from one byte to two, from two bytes to one. Words inside have two bytes a
 // letter; the entries' words and buffers have one, and are turned here.
+#![tactic(auto)]
+
 ghost use Rattle.std.specs.Prelude.{◌≡◌, ◌+◌, ◌<◌, ◌≤◌, length};
 ghost use Rattle.writing.specs.Writing.{Narrowing};
 ghost use Rattle.words.specs.Writing.{written};
