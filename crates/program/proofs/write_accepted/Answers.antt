@@ -1,0 +1,5 @@
+use Rattle.output.proofs.Lines.{accepts}
+use Rattle.program.proofs.write_accepted.Goals as goal
+
+pub returns : goal.returns
+returns c = search accepts
