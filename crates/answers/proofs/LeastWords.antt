@@ -13,7 +13,6 @@ use lib.Seq.{length-take-le, get_or-take, get_or-append-add, get_or-drop, drop_a
 use Rattle.words.specs.Words.{Word}
 use Rattle.words.specs.Relations.{Relation, relation_words}
 use Rattle.words.specs.Families.{words_of, family_of}
-use Rattle.overlap.specs.Pieces.{word}
 use Rattle.overlap.specs.Cuts.{longest_suffix_piece}
 use Rattle.congruence.specs.Congruence.{Congruent}
 use Rattle.least.specs.Order.{house_rank}

@@ -30,7 +30,7 @@ use Rattle.output.specs.Requests.{long_field, fields_of, request_at}
 use Rattle.output.specs.Program.{book_text, refused_line, comparison_line, by_request, lines_from, by_loading, book_end, program_of}
 use Rattle.answers.specs.Answers.{Answer, accepted, refused, refusal, of_comparison}
 use Rattle.answers.specs.Entries.{check_of, compare_of}
-use Rattle.answers.specs.Program.{Line, ComparedLine, Asks, Stops, Lines, book_before, Programmed, ProgramCompares}
+use Rattle.answers.specs.Program.{Line, ComparedLine, Asks, Stops, Lines, book_before, ProgramCompares}
 use Rattle.answers.proofs.Theorems.{compared}
 
 -- the line of a refusal, and of what a comparison gives

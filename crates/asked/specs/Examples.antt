@@ -9,7 +9,7 @@ use Rattle.refusals.specs.declared.Refusal.TheVariants.{Long, Stranger, Spent}
 use Rattle.asked.specs.declared.Given.TheVariants as Givens
 use Rattle.asked.specs.declared.Comparison.{Comparison}
 use Rattle.asked.specs.declared.Comparison.TheVariants as Comparisons
-use Rattle.asked.specs.Given.{one_of, marked_of, pair_of, triple_of}
+use Rattle.asked.specs.Given.{marked_of, pair_of, triple_of}
 use Rattle.asked.specs.Comparing.{comparison_of}
 use Rattle.asked.specs.Least.{least_for, least_from}
 

@@ -1,5 +1,5 @@
 -- The bytes of a book (document 01, "Book bytes"), the inverse of reading.
-use Rattle.std.specs.Prelude.{ℕ, ◌+◌, ◌/◌, ◌%◌, ◌<◌, ◌≤◌, List, [], ◌∷◌, ◌++◌, ◌≡◌, length, get_or}
+use Rattle.std.specs.Prelude.{ℕ, ◌/◌, ◌%◌, ◌<◌, ◌≤◌, List, [], ◌∷◌, ◌++◌, ◌≡◌, length, get_or}
 use Rattle.words.specs.Words.{Word}
 use Rattle.words.specs.Relations.{Relation}
 use Rattle.limits.specs.declared.Record.TheVariants.{Whole}

@@ -6,20 +6,20 @@ use mathlib.Core.List.{List, [], ◌++◌}
 use mathlib.Core.Logic.{◌⊎◌, inl, inr}
 use mathlib.Core.Path.{◌≡◌, refl, sym, ap, ◌∙◌, subst, subst₂}
 use native.Mathlib.Omega.{arith}
-use borrow.Author.Tests.{le-leb, lt-leb, ne_eqb}
+use borrow.Author.Tests.{le-leb, ne_eqb}
 use lib.Dec.{ltb}
 use lib.ListN.{length}
 use Rattle.words.specs.Relations.{relation_words}
 use Rattle.overlap.specs.Verdict.{Verdict, judge}
 use Rattle.words.specs.Writing.{over}
 use Rattle.limits.specs.declared.Record.TheVariants.{Whole}
-use Rattle.limits.specs.Limits.{sheet_columns, relation_kind, relations_most, changes_most}
+use Rattle.limits.specs.Limits.{relation_kind, relations_most, changes_most}
 use Rattle.refusals.specs.declared.Refusal.{Refusal}
 use Rattle.refusals.specs.declared.Refusal.TheVariants.{Short, Kind, Length, TooMany, Narrow, BookWorn}
 use Rattle.refusals.specs.Refusals.{number_and_place}
 use Rattle.format.specs.declared.RelationReading.{RelationReading}
 use Rattle.format.specs.declared.RelationReading.TheVariants as Relations
-use Rattle.format.specs.Book.{Presentation, adding, BookReading, read, record_at, addition_at, relation_in, on_relation, read_book}
+use Rattle.format.specs.Book.{Presentation, adding, BookReading, read, record_at, addition_at, relation_in, read_book}
 use Rattle.format.specs.Bytes.{book_bytes, AreBytes}
 use Rattle.format.proofs.Readings.{read_within}
 use Rattle.format.proofs.Bytes.{read_bytes}
@@ -31,9 +31,9 @@ use Rattle.loading.specs.Sheet.{cut_sheet}
 use Rattle.answers.specs.Answers.{Answer, accepted, refused, refusal}
 use Rattle.answers.specs.Entries.{SheetOutcome, sheet_of}
 use Rattle.held.specs.Held.{book_in, changes_told, changes_after, worn, holding}
-use Rattle.held.specs.Changes.{addition, changed, changed_in, Effect, refuses, leads, settled, effect_of, lastly, ChangeOutcome, made, change_of}
+use Rattle.held.specs.Changes.{addition, Effect, refuses, leads, settled, effect_of, lastly, ChangeOutcome, made, change_of}
 use Rattle.held.specs.Demands.{Holds}
-use Rattle.held.specs.Additions.{OneRecord, AddsAtTheEnd, OfAddition, Adds, AdditionsAtTheEnd}
+use Rattle.held.specs.Additions.{OneRecord, AddsAtTheEnd, OfAddition, AdditionsAtTheEnd}
 use Rattle.held.proofs.Effects.{KeptOf, made_refused, change_fresh, change_worn, change_refused}
 use Rattle.held.proofs.Steps.{loaded_read, Taken, changed_in_lem, changed_within}
 

@@ -1,8 +1,8 @@
 -- What follows XY of a member in the words that are congruent to a clean XY and s: for each way in which the round goes on, a part that is fixed and a question
 -- that is left (document 003, Lemmas 2 to 4, for families of any size).
-use Prim.Native.Nat.{ℕ, ◌+◌, ◌-◌, ◌≤◌, ◌<◌}
+use Prim.Native.Nat.{ℕ, ◌+◌, ◌≤◌, ◌<◌}
 use mathlib.Core.List.{List, [], ◌++◌, append_assoc, append_cancel_left}
-use mathlib.Core.Logic.{by_cases, ⊎_elim, ◌⊎◌, inl}
+use mathlib.Core.Logic.{by_cases, ⊎_elim, inl}
 use mathlib.Core.Path.{◌≡◌, refl, sym, ap, ◌∙◌, subst}
 use native.Mathlib.Omega.{arith}
 use native.Mathlib.Decide.{dec_le}

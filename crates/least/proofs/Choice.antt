@@ -2,7 +2,7 @@
 use Prim.Native.Nat.{ℕ, zero, suc, ◌≤◌, ◌<◌}
 use mathlib.Core.Bool.{Bool, true, false, ◌&&◌, not, true≢false, and-eq-true_iff}
 use mathlib.Core.List.{List}
-use mathlib.Core.Logic.{by_cases, ⊎_elim, ◌⊎◌, inl, inr}
+use mathlib.Core.Logic.{by_cases, ⊎_elim, inl, inr}
 use mathlib.Core.Path.{◌≡◌, sym, ap, ◌∙◌, subst}
 use native.Mathlib.Omega.{arith}
 use native.Mathlib.Decide.{dec_lt}

@@ -18,7 +18,7 @@ use Rattle.limits.specs.Limits.{side_most}
 use Rattle.layout.specs.Layout.{words_in}
 use Rattle.layout.specs.Families.{family_by}
 use Rattle.least.specs.Order.{house_rank}
-use Rattle.least.specs.Writing.{write_part, Found, found, absent, behind, Parts, word_of, least_behind}
+use Rattle.least.specs.Writing.{write_part, Found, found, absent, behind, Parts, word_of}
 use Rattle.least.specs.Writing.Part.{end, none, part as writes}
 use Rattle.least.specs.Writing.Parts.{ended, failed, goes}
 use Rattle.least.specs.Theorem.{longest_of, Written}

@@ -1,20 +1,17 @@
 -- Laws of writing at a place, and of the loops that do it.
-use Prim.Native.Nat.{ℕ, zero, suc, ◌+◌, ◌-◌, ◌/◌, ◌%◌, ◌≤◌, ◌<◌, ◌*◌}
-use mathlib.Core.Bool.{Bool, true, false}
+use Prim.Native.Nat.{ℕ, zero, suc, ◌+◌, ◌-◌, ◌/◌, ◌%◌, ◌≤◌, ◌<◌}
 use mathlib.Core.List.{List, [], ◌∷◌, ◌++◌, append_assoc, append-nil}
 use mathlib.Core.Path.{◌≡◌, refl, sym, ap, ◌∙◌}
 use native.Mathlib.Omega.{arith}
 use native.Mathlib.Nat.{add-zero}
 use borrow.Author.Rules.{rules}
-use borrow.Author.Tests.{lt-ltb, le-ltb, ltb-true, ltb-false}
-use lib.Dec.{ltb}
 use lib.ListN.{length, get_or, take, drop, set, length-append, length-set, take-append-drop}
 use lib.Seq.{take-suc, set_at, length-take-le}
 use mir.Val.{Fits}
 use mir.Syntax.{w64}
 use Rattle.words.specs.Writing.{written}
 use Rattle.writing.proofs.Writing.{written_one, written_behind}
-use Rattle.spelling.specs.Decimal.{digits_of, count_up_to, digit_count, decimal}
+use Rattle.spelling.specs.Decimal.{digits_of, digit_count, decimal}
 use Rattle.spelling.specs.Lines.{numbered, line_of, pair_line_of}
 use Rattle.spelling.proofs.Decimal.{count_small, count_more, length_digits, length_decimal}
 use Rattle.lines.specs.Lines.{WrittenTo}

@@ -1,5 +1,5 @@
 -- A law for each way that the first letters of a state can tell its row, and for row 2.
-use Prim.Native.Nat.{ℕ, ◌+◌, ◌-◌, ◌≤◌, ◌<◌}
+use Prim.Native.Nat.{ℕ, ◌+◌, ◌≤◌, ◌<◌}
 use mathlib.Core.Bool.{Bool, true, false}
 use mathlib.Core.List.{List, [], ◌∷◌}
 use mathlib.Core.Path.{◌≡◌, refl, sym, ap, ◌∙◌, subst}
@@ -19,7 +19,7 @@ use Rattle.sites.specs.FirstLetters.{empty_list}
 use Rattle.sites.proofs.FirstLetters.{begins_none}
 use Rattle.changes.specs.declared.Plan.{Plan}
 use Rattle.plans.specs.Plans.{PlansRound}
-use Rattle.plans.specs.RowPlans.{letter_drop, plan2}
+use Rattle.plans.specs.RowPlans.{letter_drop}
 use Rattle.plans.proofs.Laws.{drop_letters}
 use Rattle.plans.proofs.Drops.{first_row_two, drop_plan}
 use Rattle.moves.specs.declared.PlacedWord.{PlacedWord}

@@ -16,25 +16,23 @@ use mir.Syntax.{w8}
 use Rattle.words.specs.Search.{least}
 use Rattle.words.specs.Words.{Word, is_prefix, part}
 use Rattle.words.proofs.Tests.{false_of}
-use Rattle.words.proofs.Parts.{part_length, part_of_take}
-use Rattle.words.proofs.Searching.{NoneBelow, none_start, none_more, least_is, least_none, least_bound, least_first, least_passes}
+use Rattle.words.proofs.Parts.{part_of_take}
+use Rattle.words.proofs.Searching.{NoneBelow, none_start, none_more, least_is, least_none, least_first, least_passes}
 use Rattle.words.proofs.Prefixes.{prefix_at, at_prefix, prefix_length, prefix_take, equal_of_prefix}
-use Rattle.overlap.specs.Pieces.{word, Occurs, IsPiece}
-use Rattle.overlap.specs.Cuts.{len, piece_at, is_piece}
+use Rattle.overlap.specs.Pieces.{word, Occurs}
+use Rattle.overlap.specs.Cuts.{piece_at, is_piece}
 use Rattle.overlap.proofs.Occurrences.{occurs_fits, occurs_same}
 use Rattle.overlap.proofs.Agree.{piece_at_iff_piece, occurs_prefix, piece_stands, is_piece_of_occurs}
-use Rattle.layout.specs.Places.{word_most, text_room}
-use Rattle.layout.specs.Layout.{Laid, Span, words_in, start_of, end_of}
+use Rattle.layout.specs.Layout.{Span, words_in, start_of, end_of}
 use Rattle.layout.proofs.Placed.{words_length, word_length, word_at_lem, end_before, owner, start_bound}
 use Rattle.layout.proofs.Whole.{whole_inside, whole_long, whole_laid, whole_words}
 use Rattle.longest.specs.Longest.{Tabled, longest_at}
 use Rattle.loose.specs.Pieces.{Fenced}
 use Rattle.loose.proofs.Fences.{piece_longest}
 use Rattle.moves.specs.declared.Mark.{Mark}
-use Rattle.moves.specs.State.{placed_mark, MarkFits}
 use Rattle.occurrence.specs.declared.Place.{Place}
 use Rattle.occurrence.specs.declared.Place.TheVariants.{At, Nowhere}
-use Rattle.occurrence.specs.Standing.{first_place, Placeable, mark_at, place_of, Sought, PieceStands, PieceSought}
+use Rattle.occurrence.specs.Standing.{first_place, Placeable, mark_at, place_of, Sought, PieceSought}
 
 -- the search for the first place
 pub record Seeking (text : List ℕ) (p : Word) (q : ℕ) : Type 0 where

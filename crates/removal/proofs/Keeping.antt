@@ -1,9 +1,6 @@
 -- A refusal keeps every lent byte: of the cases of the definition, the one that writes has another answer.
-use Prim.Native.Nat.{ℕ}
 use mathlib.Core.Bool.{Bool, true, false, cond}
-use mathlib.Core.List.{List}
 use mathlib.Core.Path.{◌≡◌, refl}
-use Rattle.words.specs.Words.{Word}
 use Rattle.words.specs.Families.{words_of, family_of}
 use Rattle.overlap.specs.Cuts.{is_piece}
 use Rattle.refusals.specs.declared.Refusal.TheVariants.{NotPiece}

@@ -1,7 +1,7 @@
 -- What is owed of the removal of a prefix, from the theorem of crate `least` that the rounds from a piece write the least word behind it.
-use Prim.Native.Nat.{ℕ, ◌+◌, ◌≤◌, ◌<◌}
-use mathlib.Core.Bool.{Bool, true, false, true≢false}
-use mathlib.Core.List.{List, [], ◌++◌}
+use Prim.Native.Nat.{ℕ, ◌≤◌}
+use mathlib.Core.Bool.{Bool, true, false}
+use mathlib.Core.List.{List, ◌++◌}
 use mathlib.Core.Logic.{◌↔◌}
 use mathlib.Core.Path.{◌≡◌, refl, sym, ap, ◌∙◌, subst}
 use native.Mathlib.Omega.{arith}
@@ -16,7 +16,6 @@ use Rattle.overlap.specs.Cuts.{is_piece}
 use Rattle.overlap.proofs.Agree.{is_piece_iff_piece}
 use Rattle.congruence.specs.Congruence.{Congruent}
 use Rattle.least.specs.Order.{house_rank}
-use Rattle.least.specs.Least.{LeastBehind}
 use Rattle.least.specs.Writing.{Found, found, absent}
 use Rattle.least.specs.Theorem.{longest_word, Written}
 use Rattle.least.proofs.Order.{house_injective}

@@ -20,7 +20,7 @@ use Rattle.least.specs.Least.{LeastBehind}
 use Rattle.least.specs.Writing.{Found, found, absent}
 use Rattle.least.specs.Theorem.{Written}
 use Rattle.limits.specs.Limits.{side_most}
-use Rattle.format.specs.Book.{Presentation, BookReading}
+use Rattle.format.specs.Book.{BookReading}
 use Rattle.loading.specs.Loading.{load_book}
 use Rattle.given.proofs.Laws.{marked_nothing}
 use Rattle.asked.specs.Least.{least_for}

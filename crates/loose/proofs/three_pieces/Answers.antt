@@ -5,10 +5,10 @@ use Rattle.loose.proofs.three_pieces.Goals.{then-loop-j-test+else-is_piece-2, el
 -- the inner loop is left where the middle part is no piece, or at the end
 pub outer-preserved : goal.outer-preserved
 outer-preserved c =
-  elim c.loop-j-test.branch [
-    then-loop-j-test+else-is_piece-2 w ↦ middle_not _ _ _ _ _ _ c.loop-j.invariant w.loop-j-test.true _ w.is_piece-in-loop-j.ensures w.if-is_piece-2.false
-  | else-loop-j-test w ↦ outer_more _ _ _ _ _ _ c.loop-j.invariant w.loop-j-test.false
-  ]
+    elim c.loop-j-test.branch [
+      | then-loop-j-test+else-is_piece-2 w ↦ middle_not _ _ _ _ _ _ c.loop-j.invariant w.loop-j-test.true _ w.is_piece-in-loop-j.ensures w.if-is_piece-2.false
+      | else-loop-j-test w ↦ outer_more _ _ _ _ _ _ c.loop-j.invariant w.loop-j-test.false
+    ]
 
 pub returns-else-is_piece : goal.returns-else-is_piece
 returns-else-is_piece c = search cutting

@@ -1,4 +1,4 @@
-use Prim.Native.Nat.{◌-◌, ◌+◌}
+use Prim.Native.Nat.{◌-◌}
 use mathlib.Core.List.{◌++◌}
 use Rattle.layout.specs.Layout.{words_in}
 use Rattle.sites.proofs.Laws.{Vacant, vacants}
