@@ -1,5 +1,5 @@
-// Lines of answer, written to what is given: a word and its numbers, a refusal, and bytes in hexadecimal, with `touched` before an answer that came with a
-// change of a byte which it must keep.
+// Lines of answer, for a writer: a word and its numbers, a refusal, and bytes in hexadecimal, with `touched` before an answer that came with a change of a
+// byte which it must keep.
 #![tactic(auto)]
 
 use refusals::Refusal;
