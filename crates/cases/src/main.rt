@@ -17,87 +17,112 @@
 //   post:T:N                   the posting of ticket T of those that the line's proposals gave, counted from 0; any other ticket is all aa
 // The words are `accepted:R` for the loading, `accepted:R:BYTES` for an OP, with the bytes of its sheet alone, and `refused:N:P`; a refused loading ends
 // the line, and a refused proposal gives no ticket.
-ghost use Rattle.std.specs.Prelude.{◌≤◌, length};
+#![tactic(auto)]
+
+ghost use Rattle.std.specs.Prelude.{◌≤◌, length, IfOk};
 ghost use Rattle.fields.specs.Places.{Filled};
 
-use libc::STDIN_FILENO;
+use std::io;
+use std::io::{Read, Write};
 
-fn main() {
+fn main(rt: HostRuntime) -> io::Result<()> {
     let mut buffer = fields::large_room();
-    answer_input(&mut buffer);
+    answer_input(&mut rt.stdin(), &mut rt.stdout(), &mut buffer)
 }
 
-// Answers standard input by way of a buffer, which is longer than any line. It holds the prefix of a line that was not read to its end from one turn to
+// Answers an input by way of a buffer, which is longer than any line. It holds the prefix of a line that was not read to its end from one turn to
 // the next; the input has ended long before the last turn.
-fn answer_input(buffer: &mut [u8]) {
+fn answer_input<R: Read, W: Write>(
+    input: &mut R,
+    out: &mut W,
+    buffer: &mut [u8],
+) -> io::Result<()> {
     let mut kept = 0;
     let mut left = 256usize;
     while 0 < left {
-        let n = read_behind(buffer, kept);
-        kept = answer_read_part(buffer, n);
+        let n = read_behind(input, buffer, kept);
+        kept = answer_read_part(out, buffer, n)?;
         left -= 1;
     }
+    Ok(())
 }
 
 // Reads behind the first bytes of a buffer, and answers how many there are then.
-fn read_behind(buffer: &mut [u8], kept: usize) -> usize
+fn read_behind<R: Read>(input: &mut R, buffer: &mut [u8], kept: usize) -> usize
     requires { kept ≤ length buffer.old }
     ensures { Filled result buffer.new }
 {
-    let more = io::read_full(STDIN_FILENO, &mut buffer[kept..]);
+    let more = read_full(input, &mut buffer[kept..]);
     kept + more
 }
 
-// Answers the whole lines of a buffer's first bytes, and keeps what is behind them.
-fn answer_read_part(buffer: &mut [u8], n: usize) -> usize
-    requires { Filled n buffer.old }
+// Reads until a buffer is full, the input ends or a read fails, and answers how many bytes were read.
+fn read_full<R: Read>(input: &mut R, buffer: &mut [u8]) -> usize
     ensures { Filled result buffer.new }
 {
-    let from = answer_all(&buffer[..n]);
-    fields::move_down(buffer, from, n)
+    let mut done = 0;
+    while done < buffer.len() {
+        let Ok(more) = input.read(&mut buffer[done..]) else {
+            return done;
+        };
+        if more == 0 {
+            return done;
+        }
+        done += more;
+    }
+    done
+}
+
+// Answers the whole lines of a buffer's first bytes, and keeps what is behind them.
+fn answer_read_part<W: Write>(out: &mut W, buffer: &mut [u8], n: usize) -> io::Result<usize>
+    requires { Filled n buffer.old }
+    ensures { IfOk result (λ kept. Filled kept buffer.new) }
+{
+    let from = answer_all(out, &buffer[..n])?;
+    Ok(fields::move_down(buffer, from, n))
 }
 
 // Answers each whole line, and tells where the last one ends.
-fn answer_all(input: &[u8]) -> usize {
+fn answer_all<W: Write>(out: &mut W, input: &[u8]) -> io::Result<usize> {
     let mut at = 0;
     while at < input.len() {
         let end = fields::find(input, at, b'\n');
         if end == input.len() {
-            return at;
+            return Ok(at);
         }
-        answer_line(&input[at..end]);
+        answer_line(out, &input[at..end])?;
         at = end + 1;
     }
-    at
+    Ok(at)
 }
 
 // Answers a line. Whatever it asks for, its first field is a book.
-fn answer_line(line: &[u8]) {
+fn answer_line<W: Write>(out: &mut W, line: &[u8]) -> io::Result<()> {
     let end = fields::find(line, 0, b' ');
     let mut book = fields::field_room();
     let n = fields::put_field(line, 1, &mut book);
-    answer_call(&line[..end], line, &book[..n]);
+    answer_call(out, &line[..end], line, &book[..n])
 }
 
 // Answers a line by the word that it begins with.
-fn answer_call(word: &[u8], line: &[u8], book: &[u8]) {
+fn answer_call<W: Write>(out: &mut W, word: &[u8], line: &[u8], book: &[u8]) -> io::Result<()> {
     if fields::is_word(word, b"read") {
-        calls::answer_read(book);
+        calls::answer_read(out, book)
     } else if fields::is_word(word, b"check") {
-        calls::answer_check(book);
+        calls::answer_check(out, book)
     } else if fields::is_word(word, b"sheet") {
-        calls::answer_sheet(line, book);
+        calls::answer_sheet(out, line, book)
     } else if fields::is_word(word, b"round") {
-        calls::answer_round(line, book);
+        calls::answer_round(out, line, book)
     } else if fields::is_word(word, b"least") {
-        calls::answer_least(line, book);
+        calls::answer_least(out, line, book)
     } else if fields::is_word(word, b"front") {
-        calls::answer_front(line, book);
+        calls::answer_front(out, line, book)
     } else if fields::is_word(word, b"compare") {
-        calls::answer_compare(line, book);
+        calls::answer_compare(out, line, book)
     } else if fields::is_word(word, b"held") {
-        stories::answer_held(line, book);
+        stories::answer_held(out, line, book)
     } else {
-        printing::print_text(line);
+        printing::print_text(out, line)
     }
 }

@@ -2,81 +2,110 @@
 // answered by a word. Before each operation the sheet is filled with aa, and so is the buffer of a proposal's ticket; `touched` stands before an
 // answer that came with a change of a byte which it must keep. A proposal is lent the held book as one that is only read, so that its bytes need no
 // look.
+#![tactic(auto)]
+
 ghost use Rattle.std.specs.Prelude.{◌≤◌, length};
 ghost use Rattle.lending.specs.Rooms.{Roomy};
 
 use answers::Verdict;
 use lending::{keep_ticket, lend_change, lend_load, lend_proposal};
-use libc::STDOUT_FILENO;
 use limits::{Held, Relation, Sheet, Ticket};
 use numbers::smaller;
 use refusals::Refusal;
+use std::io;
+use std::io::Write;
 
 // Loads the book of a line, and does what its fields behind that ask for.
-pub fn answer_held(line: &[u8], book: &[u8]) {
+pub fn answer_held<W: Write>(out: &mut W, line: &[u8], book: &[u8]) -> io::Result<()> {
     let mut held = fields::lent_room();
     let loaded = lend_load(book, &mut held);
     match loaded {
         Verdict::Refused(refusal) => {
-            print_loaded(&held, 0);
-            print_refused(refusal);
+            print_loaded(out, &held, 0)?;
+            print_refused(out, refusal)?;
         }
         Verdict::Accepted(relations) => {
-            print_loaded(&held, Held::PREFIX + smaller(book.len(), Held::BOOK));
-            print_number(b"accepted:", relations);
+            print_loaded(out, &held, Held::PREFIX + smaller(book.len(), Held::BOOK))?;
+            print_number(out, b"accepted:", relations)?;
             let mut tickets = fields::large_room();
-            answer_fields(line, fields::field_end(line, 1), &mut held, &mut tickets);
+            answer_fields(
+                out,
+                line,
+                fields::field_end(line, 1),
+                &mut held,
+                &mut tickets,
+            )?;
         }
     }
-    io::write_all(STDOUT_FILENO, b"\n");
+    out.write_all(b"\n")
 }
 
 // Does what the fields of a line from a position on ask for. `given` is where the tickets that were given so far end in their buffer.
-fn answer_fields(line: &[u8], from: usize, held: &mut [u8], tickets: &mut [u8])
+fn answer_fields<W: Write>(
+    out: &mut W,
+    line: &[u8],
+    from: usize,
+    held: &mut [u8],
+    tickets: &mut [u8],
+) -> io::Result<()>
     requires { Roomy held.old × (from ≤ length line.now) }
 {
     let mut at = from;
     let mut given = 0;
     while at < line.len() {
         let end = fields::find(line, at + 1, b' ');
-        io::write_all(STDOUT_FILENO, b" ");
-        given = answer_field(&line[at + 1..end], held, tickets, given);
+        out.write_all(b" ")?;
+        given = answer_field(out, &line[at + 1..end], held, tickets, given)?;
         at = end;
     }
+    Ok(())
 }
 
 // Does what a field asks for, whose parts have a colon between them, and answers where the tickets end then.
-fn answer_field(field: &[u8], held: &mut [u8], tickets: &mut [u8], given: usize) -> usize
+fn answer_field<W: Write>(
+    out: &mut W,
+    field: &[u8],
+    held: &mut [u8],
+    tickets: &mut [u8],
+    given: usize,
+) -> io::Result<usize>
     requires { Roomy held.old }
 {
     let mut text = fields::large_room();
     let n = fields::put_spaced(field, &mut text);
-    answer_text(&text[..n], held, tickets, given)
+    answer_text(out, &text[..n], held, tickets, given)
 }
 
 // Does what a text asks for by the word that it begins with.
-fn answer_text(text: &[u8], held: &mut [u8], tickets: &mut [u8], given: usize) -> usize
+fn answer_text<W: Write>(
+    out: &mut W,
+    text: &[u8],
+    held: &mut [u8],
+    tickets: &mut [u8],
+    given: usize,
+) -> io::Result<usize>
     requires { Roomy held.old }
 {
     let end = fields::find(text, 0, b' ');
-    answer_operation(&text[..end], text, held, tickets, given)
+    answer_operation(out, &text[..end], text, held, tickets, given)
 }
 
 // A proposal may give one more ticket; a change gives none.
-fn answer_operation(
+fn answer_operation<W: Write>(
+    out: &mut W,
     word: &[u8],
     text: &[u8],
     held: &mut [u8],
     tickets: &mut [u8],
     given: usize,
-) -> usize
+) -> io::Result<usize>
     requires { Roomy held.old }
 {
     if is_proposal(word) {
-        return answer_proposal(word, text, held, tickets, given);
+        return answer_proposal(out, word, text, held, tickets, given);
     }
-    answer_change(word, text, held, tickets);
-    given
+    answer_change(out, word, text, held, tickets)?;
+    Ok(given)
 }
 
 // The word names a proposal.
@@ -88,7 +117,13 @@ fn is_proposal(word: &[u8]) -> bool {
 }
 
 // Makes the change that a text asks for, and prints its answer.
-fn answer_change(word: &[u8], text: &[u8], held: &mut [u8], tickets: &[u8])
+fn answer_change<W: Write>(
+    out: &mut W,
+    word: &[u8],
+    text: &[u8],
+    held: &mut [u8],
+    tickets: &[u8],
+) -> io::Result<()>
     requires { Roomy held.old }
 {
     let mut before = fields::field_room();
@@ -96,11 +131,18 @@ fn answer_change(word: &[u8], text: &[u8], held: &mut [u8], tickets: &[u8])
     let mut sheet = fields::lent_room();
     let n = fields::lent_field(text, 2, &sheet);
     let verdict = lend_change(word, text, held, tickets, &mut sheet, n);
-    print_change(verdict, &before, held, &sheet);
+    print_change(out, verdict, &before, held, &sheet)
 }
 
 // Makes the proposal that a text asks for, prints its answer, and keeps the ticket that it gives.
-fn answer_proposal(word: &[u8], text: &[u8], held: &[u8], tickets: &mut [u8], given: usize) -> usize
+fn answer_proposal<W: Write>(
+    out: &mut W,
+    word: &[u8],
+    text: &[u8],
+    held: &[u8],
+    tickets: &mut [u8],
+    given: usize,
+) -> io::Result<usize>
     requires { Roomy held.now }
 {
     let mut sheet = fields::lent_room();
@@ -109,19 +151,20 @@ fn answer_proposal(word: &[u8], text: &[u8], held: &[u8], tickets: &mut [u8], gi
     let verdict = lend_proposal(word, text, held, &mut sheet, n, &mut ticket);
     match verdict {
         Verdict::Refused(refusal) => {
-            print_proposed(&sheet, 0, &ticket, 0);
-            print_refused(refusal);
-            given
+            print_proposed(out, &sheet, 0, &ticket, 0)?;
+            print_refused(out, refusal)?;
+            Ok(given)
         }
         Verdict::Accepted(relations) => {
             print_proposed(
+                out,
                 &sheet,
                 sheet_length(relations),
                 &ticket,
                 ticket_length(word, text),
-            );
-            print_accepted(relations, &sheet);
-            keep_ticket(&ticket, tickets, given)
+            )?;
+            print_accepted(out, relations, &sheet)?;
+            Ok(keep_ticket(&ticket, tickets, given))
         }
     }
 }
@@ -137,22 +180,29 @@ fn ticket_length(word: &[u8], text: &[u8]) -> usize {
 }
 
 // A change's answer, with what its buffers were and are.
-fn print_change(verdict: Verdict, before: &[u8], held: &[u8], sheet: &[u8]) {
+fn print_change<W: Write>(
+    out: &mut W,
+    verdict: Verdict,
+    before: &[u8],
+    held: &[u8],
+    sheet: &[u8],
+) -> io::Result<()> {
     match verdict {
         Verdict::Refused(refusal) => {
-            print_kept(sheet, 0, before, held, 0);
-            print_refused(refusal);
+            print_kept(out, sheet, 0, before, held, 0)?;
+            print_refused(out, refusal)
         }
         Verdict::Accepted(relations) => {
             let book = heldbook::book_of(held);
             print_kept(
+                out,
                 sheet,
                 sheet_length(relations),
                 before,
                 held,
                 Held::PREFIX + smaller(book.len(), Held::BOOK),
-            );
-            print_accepted(relations, sheet);
+            )?;
+            print_accepted(out, relations, sheet)
         }
     }
 }
@@ -163,46 +213,64 @@ fn sheet_length(relations: usize) -> usize {
 }
 
 // Prints a number of relations and their sheet.
-fn print_accepted(relations: usize, sheet: &[u8]) {
-    print_number(b"accepted:", relations);
-    io::write_all(STDOUT_FILENO, b":");
-    printing::print_bytes(sheet, sheet_length(relations));
+fn print_accepted<W: Write>(out: &mut W, relations: usize, sheet: &[u8]) -> io::Result<()> {
+    print_number(out, b"accepted:", relations)?;
+    out.write_all(b":")?;
+    printing::print_bytes(out, sheet, sheet_length(relations))
 }
 
 // Tells that a byte was changed that must be kept: of a sheet from a position on, which is filled with aa, or of a held book's buffer from another on.
-fn print_kept(sheet: &[u8], from: usize, before: &[u8], held: &[u8], behind: usize) {
+fn print_kept<W: Write>(
+    out: &mut W,
+    sheet: &[u8],
+    from: usize,
+    before: &[u8],
+    held: &[u8],
+    behind: usize,
+) -> io::Result<()> {
     if !fields::is_kept(sheet, from) {
-        io::write_all(STDOUT_FILENO, b"touched:");
+        out.write_all(b"touched:")
     } else if !fields::is_same(before, held, behind) {
-        io::write_all(STDOUT_FILENO, b"touched:");
+        out.write_all(b"touched:")
+    } else {
+        Ok(())
     }
 }
 
 // Tells that a byte was changed that must be kept: of a sheet from a position on, or of a ticket's buffer from another on, both filled with aa.
-fn print_proposed(sheet: &[u8], from: usize, ticket: &[u8], behind: usize) {
+fn print_proposed<W: Write>(
+    out: &mut W,
+    sheet: &[u8],
+    from: usize,
+    ticket: &[u8],
+    behind: usize,
+) -> io::Result<()> {
     if !fields::is_kept(sheet, from) {
-        io::write_all(STDOUT_FILENO, b"touched:");
+        out.write_all(b"touched:")
     } else if !fields::is_kept(ticket, behind) {
-        io::write_all(STDOUT_FILENO, b"touched:");
+        out.write_all(b"touched:")
+    } else {
+        Ok(())
     }
 }
 
 // Tells that a byte of a held book's buffer from a position on was changed, which is filled with aa.
-fn print_loaded(held: &[u8], from: usize) {
-    if !fields::is_kept(held, from) {
-        io::write_all(STDOUT_FILENO, b"touched:");
+fn print_loaded<W: Write>(out: &mut W, held: &[u8], from: usize) -> io::Result<()> {
+    if fields::is_kept(held, from) {
+        return Ok(());
     }
+    out.write_all(b"touched:")
 }
 
 // Prints a word and a number.
-fn print_number(word: &[u8], n: usize) {
-    io::write_all(STDOUT_FILENO, word);
-    io::print_decimal(STDOUT_FILENO, n as u64);
+fn print_number<W: Write>(out: &mut W, word: &[u8], n: usize) -> io::Result<()> {
+    out.write_all(word)?;
+    write!(out, "{n}")
 }
 
 // Prints a refusal: its number and its place.
-fn print_refused(refusal: Refusal) {
+fn print_refused<W: Write>(out: &mut W, refusal: Refusal) -> io::Result<()> {
     let numbered = refusals::number_and_place(refusal);
-    print_number(b"refused:", numbers::wide(numbered.number));
-    print_number(b":", numbered.place);
+    print_number(out, b"refused:", numbers::wide(numbered.number))?;
+    print_number(out, b":", numbered.place)
 }
