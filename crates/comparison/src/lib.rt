@@ -135,6 +135,7 @@ pub fn compare_given(
 }
 
 // Two given words, widened into arrays that hold the longest ones.
+#[inline(never)]
 fn compare_long(
     text: &[u16],
     table: &[u16],

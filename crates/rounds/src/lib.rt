@@ -107,6 +107,7 @@ fn decide_bytes(
 }
 
 // The plan of a round whose words may be as long as their limit, widened into arrays for the longest.
+#[inline(never)]
 fn decide_long(text: &[u16], table: &[u16], n: usize, u: &[u8], v: &[u8], p: &[u8]) -> Plan
     requires { GivenShort text.now table.now n u.now v.now p.now }
     ensures { PlansRound text.now table.now n u.now v.now p.now result }
