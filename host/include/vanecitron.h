@@ -11,10 +11,10 @@
  * an array of steps, a rule has two sides, which are runs, and a book is a list of records in bytes ("Book bytes"); vanecitron_book.h writes them.
  *
  * The archive
- *   `rt staticlib vanecitron` at the root of the tree writes target/staticlib/libvanecitron.a. It is for x86-64 Linux (System V calling convention) and
+ *   `rt lib` in crates/vanecitron writes crates/vanecitron/out/libvanecitron.a. It is for x86-64 Linux (System V calling convention) and
  *   holds no code for another processor. It allocates no memory, keeps no state between calls, reads no file, and starts no thread. Its only undefined
  *   symbols are memcpy and memset of the C library (`nm -u`; host/test compares the list, and fails where the archive has a byte of data or bss).
- *   Build:  cc -I host/include program.c target/staticlib/libvanecitron.a
+ *   Build:  cc -I host/include program.c crates/vanecitron/out/libvanecitron.a
  *
  * Calls
  *   Calls are reentrant: any number of threads may call any functions at the same time, as long as no buffer that one call writes is used by another.
