@@ -1,7 +1,7 @@
 #!/usr/bin/env python3
 """Holds the C header and the Rust wrapper to the proved sources: limits, sizes, structs, outcomes, the version, and refusals.
 
-The list of refusals is the definition `numberAndPlace` (crates/refusals/specs/Refusals.antt) beside the enum `Refusal`: a case that has no number there, or whose number is missing
+The list of refusals is the definition `number_and_place` (crates/refusals/specs/Refusals.antt) beside the enum `Refusal`: a case that has no number there, or whose number is missing
 anywhere else (the header's macros and texts, the wrapper's reasons and texts), fails. It ends with 1 and a line for each fault.
 """
 
@@ -144,8 +144,8 @@ def versions(header):
 def structs():
     """The fields of the structs, in order and with their types; the wrapper and the header have no other structs."""
     fields = lambda body, form: re.findall(form, re.sub(r"/\*.*?\*/|//.*", "", body, flags=re.M), re.M)
-    proved = re.findall(r"^#\[repr\(C\)\]\npub struct (\w+) \{\n(.*?)^\}", INTERFACE, re.M | re.S)
-    raw = dict(re.findall(r"^#\[repr\(C\)\]\npub struct (\w+) \{\n(.*?)^\}", RAW, re.M | re.S))
+    of_c = re.compile(r"^#\[repr\(C\)\]\n(?:#\[derive\([\w, ]*\)\]\n)?pub struct (\w+) \{\n(.*?)^\}", re.M | re.S)
+    proved, raw = of_c.findall(INTERFACE), dict(of_c.findall(RAW))
     header = {name: body for body, name in re.findall(r"^typedef struct \{\n((?:    .*\n)*)\} (\w+);", HEADER, re.M)}
     c_names = {name: "vanecitron_" + re.sub(r"(?<!^)([A-Z])", r"_\1", name).lower() for name, _ in proved}
     if not proved:
@@ -173,7 +173,7 @@ def functions():
 def defined_refusals():
     """The number of each case by the definition, and a line for each case of the enum that it lacks or has twice."""
     definition = (ROOT / "crates/refusals/specs/Refusals.antt").read_text()
-    numbers = {case: int(number) for case, number in re.findall(r"^numberAndPlace \(?(\w+).*number = (\d+)", definition, re.M)}
+    numbers = {case: int(number) for case, number in re.findall(r"^number_and_place \(?(\w+).*number = (\d+)", definition, re.M)}
     enum = next(re.search(r"^pub enum Refusal \{\n(.*?)^\}", text, re.M | re.S) for text in SOURCES.values() if "pub enum Refusal {" in text)[1]
     cases = re.findall(r"^    (\w+)", enum, re.M)
     lines = [f"Refusal::{case} has no number in the definition" for case in cases if case not in numbers]
