@@ -1,11 +1,11 @@
 #!/usr/bin/env python3
-"""Holds docs/AUDIT.md to the tree that it speaks of. Run by .ci/run behind `rt ci`, whose logs it reads; it exits with 1 and a line for each fault.
+"""Holds docs/AUDIT.md to the tree that it speaks of. Run by .ci/run behind `rt ci`, whose log it reads; it exits with 1 and a line for each fault.
 
 Names. A name stands in back quotes, and the place in brackets behind it, or behind the last of several, says where it is declared:
   `name` (crate/File)      crates/crate/specs/File.antt; also a field of a record there
   `name` (crate/src)       the code of the crate: a type, a constant or a function
   `fn` (crate)             the same; `Type::fn` is a function of `impl Type`
-  `name` (`crates/..`)     the file itself
+  `name` (`crates/..`)     the file itself, also one of proofs
   edit: `label` (crate)    crates/crate/must-fail/label.edit; "edit:" holds up to the next semicolon
   vectors: `r1`            host/vectors/program/r1-*.in
   difftest: `name`         a test of host/difftest/tests, or a file there
@@ -39,7 +39,7 @@ LIST = "The definitions to read"
 # what the page calls by name and the tree does not declare: commands and words of the language
 WORDS = {"rt", "requires", "ensures", "main", "memcpy", "memset", "vectors", "worked", "edit", "difftest", "touched"}
 
-NAME = r"(?:[A-Z]\w*::)?[A-Za-z][\w′]*"
+NAME = r"(?:[A-Z]\w*::)?[A-Za-z][\w']*"
 PATH = r"\.?[\w*.-]+(?:/[\w*.-]+)+/?"
 PLACE = r"[a-z]\w*(?:/\w+)?"
 PLACES = re.compile(rf"{PLACE}(?: and {PLACE})*")
@@ -48,7 +48,7 @@ TOKEN = re.compile(r"`(?P<quoted>[^`\n]+)`|(?P<bracket>\([^()]*\))|(?P<label>edi
 LISTED = re.compile(rf"`{NAME}`(?:(?:,| and|, and) `{NAME}`)* \(`(crates/[^`]+)`\)")
 
 # a definition, a record, its fields; or a constructor of a data
-DECLARED_ANTT = re.compile(r"^\s*(?:(?:abbrev |unfoldable )?pub (?!mod |use )(?:record |data )?(?=[A-Za-z])|(?=[A-Za-z][\w′]* : ))([\w′]+)", re.M)
+DECLARED_ANTT = re.compile(r"^\s*(?:(?:abbrev |unfoldable )?pub (?!mod |use )(?:record |data )?(?=[A-Za-z])|(?=[A-Za-z][\w']* : ))([\w']+)", re.M)
 DECLARED_RT = re.compile(r"\b(?:fn|struct|enum|const|type) (\w+)")
 
 
@@ -75,10 +75,14 @@ class Tree:
             for name in names_of_code(path.read_text()):
                 self.files.setdefault(place, set()).add(name)
                 self.sources[place, name] = str(path.relative_to(root))
+        self.proofs = {str(path.relative_to(root)): set(DECLARED_ANTT.findall(path.read_text())) for path in root.glob("crates/*/proofs/*.antt")}
         self.edits = collections.defaultdict(set)
         for path in root.glob("crates/*/must-fail/*.edit"):
             self.edits[path.parts[-3]].add(path.stem)
-        self.crates = [line.split(":")[0].strip() for line in self.read("crates.txt").splitlines() if line.strip() and not line.startswith("#")]
+        heads = [line.split(":")[0].split() for line in self.read("crates.txt").splitlines() if line.strip() and not line.startswith("#")]
+        self.crates = [head[0] for head in heads]
+        # the programs, and the libraries for other languages: what they rest on is listed
+        self.linked = [head[0] for head in heads if "staticlib" in head or (root / "crates" / head[0] / "src/main.rt").is_file()]
         self.groups = re.findall(r"^# (.*)$", self.read("crates/cases/stdin"), re.M)
         self.inputs = {path.stem.split("-")[0] for path in root.glob("host/vectors/program/*.in")}
         tests = list(root.glob("host/difftest/tests/*.rs"))
@@ -106,6 +110,8 @@ class Tree:
     def has(self, kind, name, place):
         if kind == "edit":
             return name in self.edits[place]
+        if place in self.proofs:
+            return name in self.proofs[place]
         if place.startswith("crates/"):
             place = re.sub(r"^crates/(\w+)/(?:specs/(\w+)\.antt|src/.*)$", lambda m: f"{m[1]}/{m[2] or 'src'}", place)
         return name in self.files.get(place if "/" in place else f"{place}/src", ())
@@ -485,23 +491,27 @@ def promises(tree, page):
 
 
 def axioms(tree, page):
-    for path in sorted(tree.root.glob("crates/*/*/**/*.antt")):
-        if "Prim.Axiom" in path.read_text():
+    for path in sorted(path for part in ("specs", "proofs") for path in tree.root.glob(f"crates/*/{part}/**/*.antt")):
+        if re.search(r"Prim\.Axiom|^\s*axiom\s", path.read_text(), re.M):
             yield None, f"an axiom is named in {path.relative_to(tree.root)}", []
 
 
 def assumptions(tree, page):
-    """Each crate's last line in its log, beside what the page counts: nothing for a library, and for each program its number and names."""
+    """What each crate rests on, beside what the page counts: nothing for a library, and for each program its number and names. The log of `rt ci` has a crate's verdict, or that an
+    earlier run proved the same files; what a program and the library for C rest on has a log of its own, in full (tools/over_ci)."""
     counted = {crate: (number, set(QUOTED.findall(names))) for crate, number, names in re.findall(r"^\| `(\w+)` \| (\d+) \| (.*) \|$", page.text, re.M)}
+    gate = tree.read("target/log/ci.out")
     for crate in tree.crates:
-        log = tree.read(f"target/log/{crate}.out")
+        log = tree.read(f"target/log/{crate}.out") if crate in tree.linked else "".join(re.findall(rf"^== {crate}\n(?:.*\n)*?rt: {crate} proved$", gate, re.M))
         verdict = re.findall(r"^logic=proved .*$", log, re.M)
-        if not verdict:
+        is_kept = re.search(rf"^rt: {crate} is kept: ", gate, re.M)
+        if not (is_kept or re.search(rf"^rt: {crate} proved$", gate, re.M)) or not verdict and (crate in tree.linked or not is_kept):
             yield None, f"{crate} is not proved: run rt ci first", []
             continue
-        number = re.search(r" axioms=(\d+)", verdict[-1])
-        names = {name.strip() for names in re.findall(r"^axioms \w+: ([^(\n]*)", log, re.M) for name in names.split(",")}
-        if (number[1] if number else "0", names) != counted.get(crate, ("0", set())) or " foreign=" in verdict[-1]:
+        number = re.search(r" axioms=(\d+)", verdict[-1]) if verdict else None
+        names = set(re.findall(r"^  (\S+) +reached$", log, re.M))
+        names |= {name for some in re.findall(r"^axioms \w+: (.*) \(\d+ of the \d+ declared\)$", log, re.M) for name in some.split(", ")}
+        if (number[1] if number else "0", names) != counted.get(crate, ("0", set())) or verdict and " foreign=" in verdict[-1]:
             yield None, f"{crate} rests on {number[1] if number else 0} assumptions: {sorted(names)}", []
 
 
@@ -532,7 +542,7 @@ def main(argv=None):
     parser = argparse.ArgumentParser(description=__doc__, formatter_class=argparse.RawDescriptionHelpFormatter)
     parser.add_argument("--fix", action="store_true", help="rewrite places where a name is found at exactly one other, add missing ones, and correct counts and the version")
     parser.add_argument("--since", metavar="COMMIT", help="with --fix: a place counts only where it did not declare the name at COMMIT, so that a namesake is not taken for it")
-    parser.add_argument("--tree", action="store_true", help="only what the tree shows: neither the version nor the logs of rt ci")
+    parser.add_argument("--tree", action="store_true", help="only what the tree shows: neither the version nor the logs of the gate")
     parser.add_argument("--root", default=pathlib.Path(__file__).resolve().parent.parent, type=pathlib.Path, help=argparse.SUPPRESS)
     options = parser.parse_args(argv)
     if not options.since:

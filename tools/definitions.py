@@ -25,8 +25,8 @@ ENTRIES = ["entries", "removing", "heldbook", "vanecitron"]
 THEOREMS = ["theorems", "output", "worked"]
 TYPES = {"limits", "refusals", "output"}
 
-IMPORT = re.compile(r"^(?:ghost )?use Rattle·(\w+?)(?:·specs|·proofs)?\.specs\.((?:declared\.)?\w+)(?:\.[\w-]+)*(?:\.\{([^}]*)\}| as (\w+))?;?$", re.M)
-PUBLIC = re.compile(r"^(?:#\[no_mangle\]\n)?pub (?:extern \"C\" )?fn .*?^\{", re.M | re.S)
+IMPORT = re.compile(r"^(?:pub )?(?:ghost )?use Rattle\.(\w+)\.specs\.((?:declared\.)?\w+)((?:\.\w+)*)(?:\.\{([^}]*)\}| as (\w+))?;?$", re.M)
+PUBLIC = re.compile(r"^pub (?:extern \"C\" )?fn .*?^\{", re.M | re.S)
 
 # a function whose body, behind its contract, is not empty
 DOES = re.compile(r"^\{\n", re.M)
@@ -36,10 +36,13 @@ File = collections.namedtuple("File", "crate name kind", defaults=["file"])
 Type = collections.namedtuple("Type", "crate name kind", defaults=["type"])
 
 
-def imports(text):
-    """What a file imports from specs: the file or the type, with the names that it is known by there."""
-    for crate, module, names, alias in IMPORT.findall(text):
-        known = {part.split(" as ")[-1].strip() for part in names.split(",")} if names else {alias}
+def imports(text, crates):
+    """What a file imports from the specs of these crates: the file or the type, with the names that it is known by there."""
+    for crate, module, inside, names, alias in IMPORT.findall(text):
+        if crate not in crates:
+            # of the kit's library
+            continue
+        known = {part.split(" as ")[-1].strip() for part in names.split(",")} if names else {alias or f"{module}{inside}".split(".")[-1]}
         yield (Type(crate, module.removeprefix("declared.")) if module.startswith("declared.") else File(crate, module)), known
 
 
@@ -53,25 +56,25 @@ def contracts(text):
 
 def reached(root, crates):
     """Every file and type that the promises of these crates stand on: what led there first."""
-    found, todo = {}, []
+    found, todo, own = {}, [], order(root)
     for crate in crates:
         for path in sorted((root / "crates" / crate / "src").glob("*.rt")):
             text = path.read_text()
-            words = set(re.findall(r"[\w′]+", contracts(text)))
-            todo += [(target, crate) for target, known in imports(text) if known & words]
+            words = set(re.findall(r"[\w']+", contracts(text)))
+            todo += [(target, crate) for target, known in imports(text, own) if known & words]
     while todo:
         target, by = todo.pop(0)
         if target in found:
             continue
         found[target] = by
         if isinstance(target, File):
-            todo += [(next_, f"{target.crate}/{target.name}") for next_, _ in imports(path_of(root, target).read_text())]
+            todo += [(next_, f"{target.crate}/{target.name}") for next_, _ in imports(path_of(root, target).read_text(), own)]
     return found
 
 
 def order(root):
     """The crates of crates.txt in order."""
-    return [line.split(":")[0].strip() for line in (root / "crates.txt").read_text().splitlines() if line.strip() and not line.startswith("#")]
+    return [line.split(":")[0].split()[0] for line in (root / "crates.txt").read_text().splitlines() if line.strip() and not line.startswith("#")]
 
 
 def is_code(root, crate):

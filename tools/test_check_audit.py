@@ -37,9 +37,9 @@ PAGE = f"""# Page
 A refusal is told by `numbered` and `other` (`crates/format/specs/Refusals.antt`). From `crates/entries/src/lib.rt`:
 
     pub fn check(book: &[u8]) -> u8
-        ensures {{ checkOf }}
+        ensures {{ check_of }}
 
-`check` is the entry of crate `entries`; `rt` runs it. Its demand, from `crates/format/specs/Limits.antt`:
+`check` is the entry of crate `entries`; `rt` runs it, and `made_right` (`crates/format/proofs/Laws.antt`) is its lemma. Its demand, from `crates/format/specs/Limits.antt`:
 
     pub record Accepts (a : B) : Type 0 where
 
@@ -76,14 +76,15 @@ A refusal is told by `numbered` and `other` (`crates/format/specs/Refusals.antt`
 """
 
 FILES = {
-    "crates.txt": "# all\nformat:\ncongruence:\nentries: format\nremoving: entries\nheldbook: entries\nvanecitron: entries\n",
+    "crates.txt": "# all\nformat:\ncongruence:\nentries: format\nremoving: entries\nheldbook: entries\nvanecitron staticlib: entries\n",
     "crates/format/specs/Limits.antt": "-- limits\nabbrev pub most : ℕ\nmost = 64\n\npub record Accepts (a : B) : Type 0 where\n  -- why\n  pub loose : ℕ\n",
     "crates/format/specs/Refusals.antt": "unfoldable pub numbered : ℕ → ℕ\nnumbered n = n\n\npub data other : Type 0 where\n  named : ℕ → other\n",
     "crates/format/src/lib.rt": "pub struct Head {\n    x: u8,\n}\n\nimpl Head {\n    pub const MOST: u8 = 1; // fn gone\n    pub fn make(x: u8) -> Head\n    {}\n}\n",
+    "crates/format/proofs/Laws.antt": "pub made_right : A\nmade_right = a\n",
     "crates/format/must-fail/low.edit": "",
     "crates/format/must-fail/late.edit": "",
     "crates/congruence/specs/Starred.antt": "abbrev pub starred : List Case\nstarred =\n    -- a\n    book [] []\n    ∷ compared [] []\n    ∷ []\n",
-    "crates/entries/src/lib.rt": "// entries\npub fn check(book: &[u8]) -> u8\n    ensures { checkOf }\n{\n    0\n}\n\npub fn check_is_right()\n    ensures { x }\n{}\n",
+    "crates/entries/src/lib.rt": "// entries\npub fn check(book: &[u8]) -> u8\n    ensures { check_of }\n{\n    0\n}\n\npub fn check_is_right()\n    ensures { x }\n{}\n",
     "crates/entries/must-fail/late.edit": "",
     "crates/removing/src/lib.rt": "// prefixes\nfn part(book: &[u8]) -> u8\n    requires { x }\n{\n    0\n}\n\npub fn remove(book: &[u8]) -> u8\n{\n    0\n}\n",
     "crates/heldbook/src/lib.rt": "// held books\npub fn load(book: &[u8]) -> u8\n{\n    0\n}\n\npub fn add(held: &mut [u8]) -> u8\n{\n    0\n}\n",
@@ -265,6 +266,10 @@ class Names(Small):
             "docs/AUDIT.md:N: `make`: the page gives no place for it, found in crates/format/src/lib.rt",
         )
 
+    def test_a_lemma_of_a_proof_file(self):
+        self.change("docs/AUDIT.md", "`made_right` (`crates", "`made_left` (`crates")
+        self.faults("docs/AUDIT.md:N: `made_left`: not in crates/format/proofs/Laws.antt, found nowhere")
+
     def test_the_list_of_definitions(self):
         self.change("docs/AUDIT.md", "limits (`most`)", "limits (`starred`)")
         self.change("docs/AUDIT.md", "| `crates/congruence/specs/Starred.antt` | the table |\n", "")
@@ -286,7 +291,7 @@ class Names(Small):
 
 class Quotes(Small):
     def test_a_letter_that_differs(self):
-        self.change("docs/AUDIT.md", "        ensures { checkOf }", "        ensures { checkof }")
+        self.change("docs/AUDIT.md", "        ensures { check_of }", "        ensures { checkof }")
         self.faults("docs/AUDIT.md:N: not in crates/entries/src/lib.rt: pub fn check(book: &[u8]) -> u8")
 
     def test_white_space_counts(self):
@@ -351,10 +356,30 @@ class Promises(Small):
     def test_an_axiom(self):
         self.write("crates/format/proofs/check/Proof.antt", "use Prim.Axiom\n")
         self.faults("docs/AUDIT.md: an axiom is named in crates/format/proofs/check/Proof.antt")
+        self.write("crates/format/proofs/check/Proof.antt", "axiom pub given : A\n")
+        self.faults("docs/AUDIT.md: an axiom is named in crates/format/proofs/check/Proof.antt")
+
+
+GATE = """\
+rt: format is kept: an earlier run on this machine proved the same files over the same libraries
+== congruence
+fn congruence::x: proved
+logic=proved functions=3 sum=1
+rt: congruence proved
+rt: entries is kept: an earlier run on this machine proved the same files over the same libraries
+rt: removing is kept: an earlier run on this machine proved the same files over the same libraries
+rt: heldbook is kept: an earlier run on this machine proved the same files over the same libraries
+== vanecitron
+logic=proved functions=3 sum=1
+rt: vanecitron proved
+6 passed, 0 failed
+"""
+
+READS_AND_WRITES = "axioms libc: 2 reached of the 3 declared\n  libc::close\n  libc::read   reached\n  libc::write   reached\nlogic=proved functions=3 axioms=2 sum=1\n"
 
 
 class Toolchain(Small):
-    """The version, by a command `rt` of the test's own, and the logs of a check."""
+    """The version, by a command `rt` of the test's own, and the logs of the gate; crate `entries` is a program, too."""
 
     def setUp(self):
         super().setUp()
@@ -363,9 +388,10 @@ class Toolchain(Small):
         path = os.environ["PATH"]
         os.environ["PATH"] = f"{self.root / 'bin'}:{path}"
         self.addCleanup(os.environ.__setitem__, "PATH", path)
-        for crate in ("format", "congruence", "removing", "heldbook", "vanecitron"):
-            self.write(f"target/log/{crate}.out", "logic=proved functions=3\n")
-        self.write("target/log/entries.out", "axioms entries: libc::read, libc::write (2)\nlogic=proved functions=3 axioms=2\n")
+        self.write("crates/entries/src/main.rt", "// the program\n")
+        self.write("target/log/ci.out", GATE)
+        self.write("target/log/entries.out", READS_AND_WRITES)
+        self.write("target/log/vanecitron.out", "axioms libc: none reached of the 3 declared\n  libc::close\n  libc::read\n  libc::write\nlogic=proved functions=3 sum=1\n")
 
     def run_tool(self, *arguments):
         out = io.StringIO()
@@ -382,16 +408,28 @@ class Toolchain(Small):
         self.mends("`rt version` says `kit 2`.")
 
     def test_assumptions(self):
-        self.write("target/log/entries.out", "axioms entries: libc::read (1)\nlogic=proved functions=3 axioms=1\n")
+        self.write("target/log/entries.out", "axioms libc: 1 reached of the 3 declared\n  libc::close\n  libc::read   reached\n  libc::write\nlogic=proved functions=3 axioms=1\n")
         self.faults("docs/AUDIT.md: entries rests on 1 assumptions: ['libc::read']")
-        self.write("target/log/entries.out", "axioms entries: libc::read, libc::write (2)\nlogic=proved functions=3 axioms=2\n")
-        self.write("target/log/format.out", "axioms format: x (1)\nlogic=proved functions=3 axioms=1\n")
-        self.faults("docs/AUDIT.md: format rests on 1 assumptions: ['x']")
+        self.write("target/log/entries.out", READS_AND_WRITES)
+        self.change("target/log/ci.out", "fn congruence::x: proved\nlogic=proved functions=3 sum=1", "axioms congruence: x (1 of the 2 declared)\nlogic=proved functions=3 axioms=1 sum=1")
+        self.faults("docs/AUDIT.md: congruence rests on 1 assumptions: ['x']")
+        self.write("target/log/ci.out", GATE)
+        self.change("target/log/vanecitron.out", "  libc::read\n", "  libc::read   reached\n")
+        self.faults("docs/AUDIT.md: vanecitron rests on 0 assumptions: ['libc::read']")
+
+    def test_c_functions_of_its_own(self):
+        self.change("target/log/ci.out", "fn congruence::x: proved\nlogic=proved functions=3 sum=1", "logic=proved functions=3 foreign=x(1) sum=1")
+        self.faults("docs/AUDIT.md: congruence rests on 0 assumptions: []")
 
     def test_not_proved(self):
-        self.write("target/log/format.out", "logic=refused\n")
-        (self.root / "target/log/congruence.out").unlink()
-        self.faults("docs/AUDIT.md: format is not proved: run rt ci first", "docs/AUDIT.md: congruence is not proved: run rt ci first")
+        self.change("target/log/ci.out", "rt: format is kept: an earlier run on this machine proved the same files over the same libraries\n", "== format\nlogic=not-proved\nrt: format NOT PROVED\n")
+        self.change("target/log/ci.out", "rt: congruence proved\n", "")
+        (self.root / "target/log/vanecitron.out").unlink()
+        self.faults(
+            "docs/AUDIT.md: format is not proved: run rt ci first",
+            "docs/AUDIT.md: congruence is not proved: run rt ci first",
+            "docs/AUDIT.md: vanecitron is not proved: run rt ci first",
+        )
 
 
 if __name__ == "__main__":
