@@ -9,7 +9,7 @@ import unittest
 TOOL = os.path.join(os.path.dirname(os.path.abspath(__file__)), "moved")
 
 WORDS = """-- words
-use Prim.Native.Nat.{ℕ, _+_}
+use Rattle.std.specs.Prelude.{ℕ, ◌+◌}
 
 -- a word
 abbrev pub Word : Type 0
@@ -28,8 +28,8 @@ pub record Occurs (w : Word) (p : ℕ) : Type 0 where
   pub before : Word
   pub place : length before ≡ p
 
-infixl 2 _gives_
-abbrev pub _gives_ : Word → Next → Pair
+infixl 2 ◌gives◌
+abbrev pub ◌gives◌ : Word → Next → Pair
 word gives next = record { word = word; next = next }
 
 module _ (B : List Word) (i : ℕ) where
@@ -54,7 +54,7 @@ impl Head {
 
     // makes one { with a brace in the comment
     pub fn make(letters: usize) -> Made
-        ensures { λ r. ⌜ r ≡ madeHead letters ⌝ }
+        ensures { result ≡ made_head letters }
     {
         if letters > Self::MOST { return Made::Refused; }
         Made::Fine
@@ -65,14 +65,15 @@ fn inner(
     text: &[u8],
     n: usize,
 ) -> bool
-    requires { ⌜ n ≤ length (now text) ⌝ }
-    ensures { λ r. ⌜ r ≡ quiet {0} (now text) n ⌝ }
+    requires { n ≤ length text.now }
+    ensures quiet { result ≡ quiet {0} text.now n }
+    ensures short { n < 64 }
 {
     put(b"}", '{', n)
 }
 
 pub extern "C" fn check(book: &[u8]) -> u32
-    ensures { λ r. ⌜ r ≡ checkOf (now (book .entry)) ⌝ }
+    ensures { result ≡ check_of book.now }
 {
     0
 }
@@ -80,10 +81,10 @@ pub extern "C" fn check(book: &[u8]) -> u32
 fn silent() {}
 """
 
-LAWS = """use lib.ListN.{length}
-pub front-nil : (v : Word) → front [] v ≡ true
+LAWS = """use Rattle.std.specs.Prelude.{length}
+pub front_nil : (v : Word) → front [] v ≡ true
 unfolding front
-front-nil v = refl
+front_nil v = refl
 
 pub pick {ℓ} : {A : Type ℓ} (x : A) → A
 pick x = go x
@@ -91,12 +92,12 @@ pick x = go x
     go : A → A
     go y = y
 
-pub ruleset fronts = (front-nil, pick)
+pub ruleset fronts = (front_nil, pick)
 """
 
-PROOF = """use tie
-pub inner-spec : statement
-inner-spec = search fronts
+PROOF = """use Rattle.code.proofs.inner.Goals as goal
+pub returns : goal.returns
+returns c = search fronts
 """
 
 BASE = {
@@ -104,7 +105,7 @@ BASE = {
     "crates/words/specs/Lib.antt": "pub mod Words\n",
     "crates/words/proofs/Laws.antt": LAWS,
     "crates/code/src/lib.rt": CODE,
-    "crates/code/proofs/inner/Proof.antt": PROOF,
+    "crates/code/proofs/inner/Answers.antt": PROOF,
     "crates/code/proofs/Head/make/Proof.antt": PROOF,
 }
 
@@ -166,7 +167,7 @@ class Stayed(Repository):
         output = self.after()
         self.assertEqual(self.total(output, "definitions")[4], "7 (21)")
         self.assertEqual(self.total(output, "public promises")[4], "2 (4)")
-        self.assertEqual(self.total(output, "inner promises")[4], "1 (6)")
+        self.assertEqual(self.total(output, "inner promises")[4], "1 (7)")
         self.assertEqual(self.total(output, "lemmas")[4], "3 (9)")
         self.assertEqual(self.total(output, "function proofs")[4], "2 (4)")
         for kind in ("definitions", "public promises", "inner promises", "lemmas", "function proofs"):
@@ -174,12 +175,12 @@ class Stayed(Repository):
         self.assertIn("crate words: all stayed (7 definitions, 3 lemmas; 30 lines)", output)
 
     def test_comments_use_lines_and_white_space_do_not_count(self):
-        words = WORDS.replace("-- a word\n", "-- another\n-- remark\n").replace("{ℕ, _+_}", "{ℕ}").replace("  -- row 8\n", "")
+        words = WORDS.replace("-- a word\n", "-- another\n-- remark\n").replace("{ℕ, ◌+◌}", "{ℕ}").replace("  -- row 8\n", "")
         words = words.replace("front (x ∷ u) [] = false", "front ( x  ∷ u ) [] =\n    false -- never")
         words = words.replace("record { word = word; next = next }", "record {\n      word = word;\n      next = next;\n    }")
         code = CODE.replace("fn inner(\n    text: &[u8],\n    n: usize,\n)", "fn inner(text: &[u8], n: usize)").replace("use words::Word;\n", "")
-        proof = PROOF.replace("use tie", "use tie.{close,\n  open}\n-- remark")
-        output = self.after(crates__words__specs__Words_dot_antt=words, crates__code__src__lib_dot_rt=code, crates__code__proofs__inner__Proof_dot_antt=proof)
+        proof = PROOF.replace("use Rattle.code.proofs.inner.Goals as goal", "use Rattle.code.proofs.inner.Goals.{close,\n  open}\n-- remark")
+        output = self.after(crates__words__specs__Words_dot_antt=words, crates__code__src__lib_dot_rt=code, crates__code__proofs__inner__Answers_dot_antt=proof)
         for kind in ("definitions", "public promises", "inner promises", "lemmas", "function proofs"):
             self.assertEqual(self.total(output, kind)[:4], ["0 (0)"] * 4, kind)
 
@@ -189,7 +190,7 @@ class Stayed(Repository):
 
     def test_bodies_of_functions_do_not_count(self):
         output = self.edited("crates/code/src/lib.rt", """put(b"}", '{', n)""", "false")
-        self.assertEqual(self.total(output, "inner promises")[4], "1 (6)")
+        self.assertEqual(self.total(output, "inner promises")[4], "1 (7)")
         self.assertEqual(self.total(output, "public promises")[4], "2 (4)")
 
 
@@ -199,8 +200,8 @@ class Changed(Repository):
             ("[] = false", "[] = true", "front"),
             ("go : Word → Next", "go : Word → Word → Next", "Next"),
             ("pub before : Word\n", "", "Occurs"),
-            ("infixl 2", "infixl 3", "_gives_"),
-            ("word gives next = record { word", "word gives next = record { text", "_gives_"),
+            ("infixl 2", "infixl 3", "◌gives◌"),
+            ("word gives next = record { word", "word gives next = record { text", "◌gives◌"),
             ("go s\n", "go B\n", "row8"),
         ]:
             output = self.edited("crates/words/specs/Words.antt", old, new)
@@ -221,9 +222,9 @@ class Changed(Repository):
 
     def test_promises_public_inner_and_of_a_method(self):
         for old, new, name, kind in [
-            ("madeHead letters", "madeHead 1", "Head::make", "public promises"),
+            ("made_head letters", "made_head 1", "Head::make", "public promises"),
             ("make(letters: usize)", "make(letters: u8)", "Head::make", "public promises"),
-            ("checkOf", "checksOf", "check", "public promises"),
+            ("check_of", "checks_of", "check", "public promises"),
             ("n ≤ length", "n < length", "inner", "inner promises"),
         ]:
             output = self.edited("crates/code/src/lib.rt", old, new)
@@ -232,15 +233,26 @@ class Changed(Repository):
 
     def test_a_function_that_becomes_public_has_changed(self):
         output = self.edited("crates/code/src/lib.rt", "fn inner(", "pub fn inner(")
-        self.assertIn("changed  inner  (src/lib.rt, 6 to 6 lines, was an inner promise)", output)
+        self.assertIn("changed  inner  (src/lib.rt, 7 to 7 lines, was an inner promise)", output)
 
     def test_lemmas_and_function_proofs(self):
         output = self.edited("crates/words/proofs/Laws.antt", "    go y = y", "    go y = go y")
         self.assertIn("changed  pick  (proofs/Laws.antt, 5 to 5 lines)", output)
         output = self.edited("crates/words/proofs/Laws.antt", "unfolding front\n", "")
-        self.assertIn("changed  front-nil  (proofs/Laws.antt, 3 to 2 lines)", output)
+        self.assertIn("changed  front_nil  (proofs/Laws.antt, 3 to 2 lines)", output)
         output = self.after(crates__code__proofs__Head__make__Proof_dot_antt=PROOF + "-- a remark\nmore = 1\n")
         self.assertIn("changed  Head::make  (proofs/Head/make/Proof.antt, 2 to 3 lines)", output)
+
+    def test_the_files_of_a_function_are_one_proof(self):
+        goal = "use Rattle.code.proofs.inner.Goals as goal\n"
+        output = self.after(crates__code__proofs__inner__Answers_dot_antt=goal + "pub returns : goal.returns\nreturns c = refl\n", crates__code__proofs__inner__Invariants_dot_antt="pub loop : A\n")
+        self.assertIn("changed  inner  (proofs/inner, 2 to 3 lines, from proofs/inner/Answers.antt)", output)
+        self.assertEqual(self.total(output, "function proofs"), ["1 (2 to 3)", "0 (0)", "0 (0)", "0 (0)", "1 (2)"])
+
+    def test_a_clause_and_its_name(self):
+        for old, new in [("ensures short { n < 64 }", "ensures short { n < 65 }"), ("ensures short {", "ensures brief {")]:
+            output = self.edited("crates/code/src/lib.rt", old, new)
+            self.assertIn("changed  inner  (src/lib.rt, 7 to 7 lines)", output)
 
 
 class CameAndWent(Repository):
@@ -250,14 +262,14 @@ class CameAndWent(Repository):
         self.assertIn("came     Later  (specs/Words.antt, 3 lines)", output)
 
     def test_a_contract(self):
-        output = self.edited("crates/code/src/lib.rt", "fn silent() {}", "fn silent()\n    ensures { λ _. ⌜ True ⌝ }\n{}")
+        output = self.edited("crates/code/src/lib.rt", "fn silent() {}", "fn silent()\n    ensures { True }\n{}")
         self.assertIn("came     silent  (src/lib.rt, 2 lines)", output)
-        output = self.edited("crates/code/src/lib.rt", "    ensures { λ r. ⌜ r ≡ madeHead letters ⌝ }\n", "")
+        output = self.edited("crates/code/src/lib.rt", "        ensures { result ≡ made_head letters }\n", "")
         self.assertIn("went     Head::make  (src/lib.rt, 2 lines)", output)
 
     def test_a_proof(self):
-        output = self.after(crates__code__proofs__inner__Proof_dot_antt=None)
-        self.assertIn("went     inner  (proofs/inner/Proof.antt, 2 lines)", output)
+        output = self.after(crates__code__proofs__inner__Answers_dot_antt=None)
+        self.assertIn("went     inner  (proofs/inner/Answers.antt, 2 lines)", output)
 
 
 class Moved(Repository):
@@ -267,9 +279,9 @@ class Moved(Repository):
         self.assertIn("moved    row7  (specs/Basics.antt, 2 lines, from specs/Words.antt)", output)
 
     def test_from_proofs_to_specs(self):
-        law = "pub front-nil : (v : Word) → front [] v ≡ true\nunfolding front\nfront-nil v = refl\n"
+        law = "pub front_nil : (v : Word) → front [] v ≡ true\nunfolding front\nfront_nil v = refl\n"
         output = self.after(crates__words__proofs__Laws_dot_antt=LAWS.replace(law, ""), crates__words__specs__Nil_dot_antt=law)
-        self.assertIn("moved    front-nil  (specs/Nil.antt, 3 lines, from proofs/Laws.antt, was a lemma)", output)
+        self.assertIn("moved    front_nil  (specs/Nil.antt, 3 lines, from proofs/Laws.antt, was a lemma)", output)
 
     def test_a_renamed_crate(self):
         self.commit({path.replace("crates/code/", "crates/entries/"): text for path, text in BASE.items()})
@@ -282,7 +294,7 @@ class Moved(Repository):
         code = CODE.replace("n ≤ length", "n < length")
         self.commit({**{path.replace("crates/code/", "crates/entries/"): text for path, text in BASE.items()}, "crates/entries/src/lib.rt": code})
         output = self.moved(self.old)
-        self.assertIn("changed  inner  (src/lib.rt, 6 to 6 lines, from code/src/lib.rt)", output)
+        self.assertIn("changed  inner  (src/lib.rt, 7 to 7 lines, from code/src/lib.rt)", output)
 
     def test_the_same_name_for_another_thing_elsewhere(self):
         words = WORDS.replace("pub data Next : Type 0 where\n  end : Bool → Next\n  go : Word → Next\n", "")
@@ -306,7 +318,7 @@ class Options(Repository):
         self.assertIn("no crate nothing", self.moved(self.old, "--crate", "nothing", status=2))
 
     def test_public(self):
-        output = self.edited("crates/code/src/lib.rt", "checkOf", "checksOf", "--public")
+        output = self.edited("crates/code/src/lib.rt", "check_of", "checks_of", "--public")
         self.assertEqual(output, "same     code::Head::make\nchanged  code::check\n")
         output = self.edited("crates/code/src/lib.rt", "pub extern \"C\" fn check(", "pub fn check_book(", "--public")
         self.assertEqual(output, "same     code::Head::make\nwent     code::check\ncame     code::check_book\n")
