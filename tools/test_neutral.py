@@ -28,11 +28,24 @@ fn asked(kind: usize) -> Asked
     Asked::Addition
 }
 """
-TABLE = "pub words-hold : WordsHold\nwords-hold = (refl, tt)\n"
+TABLE = "pub words_hold : WordsHold\nwords_hold = (refl, tt)\n"
 LOG = """\
-/a/crates/words/proofs/Examples.antt:2:15: error: `words-hold`: as printed, the two types differ
-/a/crates/words/proofs/Laws.antt:1:1: error: `law`: `rw`: no
-/a/crates/words/proofs/Laws.antt:9:1: error: `later`: `law` was not admitted (it has holes), so this cannot be checked
+./proofs/Examples.antt:2:15: error: `words_hold`: computed as far as they go, the two types differ
+  expected type `1 ≡ 0`, but this has type `1 ≡ 1`
+./proofs/Laws.antt:1:1: error: `law`: `rw`: no
+./proofs/Laws.antt:9:1: error: 1 declaration that depends on `law`, which was rejected, was not checked: later
+./proofs/Laws.antt:12:1: error: 2 declarations that depend on `law`, which was not admitted, were not checked: latest, last (via latest)
+logic=not-proved
+"""
+FUNCTIONS = """\
+./proofs/Head/make/Proof.antt:19:11: error: `make_spec`: `search`: no proof of `c.args.x ≡ 1` was found
+./proofs/first/Proof.antt:5:5: error: 1 declaration that depends on `close`, which was not admitted, was not checked: first_spec
+note: src/lib.rt:33:9: it is not proved that what the function ensures holds when it returns (`returns-then-x-y`)
+fn numbers::larger: no proof: expected answers in ./proofs/larger/Answers.antt; `search` did not prove `returns-then-x-y`
+fn numbers::Head::make: not proved
+fn numbers::first: not proved; it calls `numbers::larger`, which is not proved
+fn numbers::second: no proof: it calls `numbers::larger`, which is not proved
+fn numbers::third: proved
 logic=not-proved
 """
 
@@ -43,20 +56,21 @@ class Neutral(unittest.TestCase):
 
     def test_symmetric_functions_are_turned(self):
         self.assertEqual(
-            [line for _, line in neutral.in_definition("same a b = eqb (length a) (length b) && isPrefix a b")],
-            ["same a b = eqb (length b) (length a) && isPrefix a b", "same a b = isPrefix a b && eqb (length a) (length b)"],
+            [line for _, line in neutral.in_definition("same a b = eqb (length a) (length b) && is_prefix a b")],
+            ["same a b = eqb (length b) (length a) && is_prefix a b", "same a b = is_prefix a b && eqb (length a) (length b)"],
         )
 
     def test_branches_are_swapped(self):
         self.assertEqual([line for _, line in neutral.in_definition("f x = cond (leb x 1) [] (x ∷ [])")], ["f x = cond (not (leb x 1)) (x ∷ []) []"])
 
     def test_sums_are_turned_as_a_whole(self):
-        self.assertEqual([line for _, line in neutral.in_definition("f r = getD (2 * r + 1) 0")], ["f r = getD (1 + 2 * r) 0"])
+        self.assertEqual([line for _, line in neutral.in_definition("f r = get_or (2 * r + 1) 0")], ["f r = get_or (1 + 2 * r) 0"])
+        self.assertEqual([line for _, line in neutral.in_definition("f r = (length r.items + (g r).start)")], ["f r = ((g r).start + length r.items)"])
         self.assertEqual(list(neutral.in_definition("f r = g (a - r + 1)")), [])
 
     def test_not_is_brought_in(self):
-        text = "use mathlib.Core.Bool.{cond}\nf x = cond (leb x 1) 0 x\n"
-        self.assertEqual([new for _, _, new in neutral.rewritings("specs/F.antt", text, "f x = ")], ["use mathlib.Core.Bool.{not, cond}\nf x = cond (not (leb x 1)) x 0\n"])
+        text = "use Rattle.std.specs.Prelude.{cond}\nf x = cond (leb x 1) 0 x\n"
+        self.assertEqual([new for _, _, new in neutral.rewritings("specs/F.antt", text, "f x = ")], ["use Rattle.std.specs.Prelude.{not, cond}\nf x = cond (not (leb x 1)) x 0\n"])
 
     def test_tests_and_branches_of_code(self):
         made = [new for _, _, new in neutral.rewritings("src/lib.rt", CODE, "if kind == 0 {")]
@@ -64,7 +78,11 @@ class Neutral(unittest.TestCase):
 
     def test_a_table_is_told_and_what_follows_from_a_failure_is_not(self):
         came = neutral.came_of(1, LOG, lambda name: TABLE if name == "proofs/Examples.antt" else "law = x\n")
-        self.assertEqual(came, neutral.Came("refused", {"words-hold": True, "law": False}))
+        self.assertEqual(came, neutral.Came("refused", {"words_hold": True, "law": False}))
+
+    def test_a_function_is_told_and_what_calls_it_is_not(self):
+        self.assertEqual(neutral.came_of(1, FUNCTIONS, lambda name: ""), neutral.Came("refused", {"Head::make": False, "larger": False}))
+        self.assertEqual(neutral.came_of(1, "error[E0425]: no\n", lambda name: "").status, "did not reach the prover")
 
     def test_verdicts(self):
         edit = neutral.Came("refused", {"table": True, "law": False})
