@@ -2,7 +2,7 @@
 """What the gate's time goes to: what a timed log of `rt ci` tells of it.
 
     rt ci 2>&1 | tools/gate_sums.py --timed LOG    copies the lines, and writes each to LOG behind the second at which it came
-    tools/gate_sums.py LOG            a line for each crate that has edits, dearest first, then one for all
+    tools/gate_sums.py LOG            a line for each crate that was proved and has edits, dearest first, then one for all
     tools/gate_sums.py --table LOG    a table by crate, in the log's order
 
 `rt ci` itself tells no times, and nothing of an edit before all are tried. So a proof's seconds are those from the end
@@ -54,7 +54,7 @@ def sums(lines, below):
 def report(crates, told):
     """Lines for a reader of the log."""
     for name, (proof, edits) in sorted(crates.items(), key=lambda item: -item[1][0]):
-        if edits:
+        if proof and edits:
             yield f"gate: {name}: proof within {proof} s, {edits} edits"
     proved = sum(proof > 0 for proof, _ in crates.values())
     edits = sum(edits for _, edits in crates.values())

@@ -11,7 +11,7 @@
  * an array of steps, a rule has two sides, which are runs, and a book is a list of records in bytes ("Book bytes"); vanecitron_book.h writes them.
  *
  * The archive
- *   `rt lib` in crates/vanecitron writes crates/vanecitron/out/libvanecitron.a. It is for x86-64 Linux (System V calling convention) and
+ *   `rt lib --cpu x86-64` in crates/vanecitron writes crates/vanecitron/out/libvanecitron.a. It is for x86-64 Linux (System V calling convention) and
  *   holds no code for another processor. It allocates no memory, keeps no state between calls, reads no file, and starts no thread. Its only undefined
  *   symbols are memcpy and memset of the C library (`nm -u`; host/test compares the list, and fails where the archive has a byte of data or bss).
  *   Build:  cc -I host/include program.c crates/vanecitron/out/libvanecitron.a
