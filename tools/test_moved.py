@@ -188,6 +188,11 @@ class Stayed(Repository):
         output = self.edited("crates/words/specs/Words.antt", "front B i", "front Bi")
         self.assertIn("changed  row8", output)
 
+    def test_hints_do_not_count(self):
+        for hint in ("#[inline(never)]", "#[tactic(auto, using(crate::proofs::Laws::front_nil))]"):
+            output = self.edited("crates/code/src/lib.rt", "fn inner(", f"{hint}\nfn inner(")
+            self.assertEqual(self.total(output, "inner promises")[4], "1 (7)")
+
     def test_bodies_of_functions_do_not_count(self):
         output = self.edited("crates/code/src/lib.rt", """put(b"}", '{', n)""", "false")
         self.assertEqual(self.total(output, "inner promises")[4], "1 (7)")
