@@ -19,7 +19,7 @@
 // the line, and a refused proposal gives no ticket.
 #![tactic(auto)]
 
-ghost use Rattle.std.specs.Prelude.{◌≤◌, length, IfOk};
+ghost use Rattle.std.specs.Prelude.{◌≡◌, ◌≤◌, length, IfOk, OnErr};
 ghost use Rattle.fields.specs.Places.{Filled};
 
 use std::io;
@@ -73,10 +73,11 @@ fn read_full<R: Read>(input: &mut R, buffer: &mut [u8]) -> usize
     done
 }
 
-// Answers the whole lines of a buffer's first bytes, and keeps what is behind them.
+// Answers the whole lines of a buffer's first bytes, and keeps what is behind them. Where an answer cannot be written, the buffer is as it was.
 fn answer_read_part<W: Write>(out: &mut W, buffer: &mut [u8], n: usize) -> io::Result<usize>
     requires { Filled n buffer.old }
-    ensures { IfOk result (λ kept. Filled kept buffer.new) }
+    ensures ok { IfOk result (λ kept. Filled kept buffer.new) }
+    ensures err { OnErr result (buffer.new ≡ buffer.old) }
 {
     let from = answer_all(out, &buffer[..n])?;
     Ok(fields::move_down(buffer, from, n))
