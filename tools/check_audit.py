@@ -4,7 +4,7 @@
 Names. A name stands in back quotes, and the place in brackets behind it, or behind the last of several, says where it is declared:
   `name` (crate/File)      crates/crate/specs/File.antt; also a field of a record there
   `name` (crate/src)       the code of the crate: a type, a constant or a function
-  `fn` (crate)             the same; `Type::fn` is a function of `impl Type`
+  `fn` (crate)             the same; `Type::fn` is a function of `impl Type` or of `impl Trait for Type`
   `name` (`crates/..`)     the file itself, also one of proofs
   edit: `label` (crate)    crates/crate/must-fail/label.edit; "edit:" holds up to the next semicolon
   vectors: `r1`            host/vectors/program/r1-*.in
@@ -135,7 +135,7 @@ def names_of_code(text):
     names, owner = set(), None
     for line in text.splitlines():
         line = line.split("//")[0]
-        begins = re.match(r"impl (\w+)", line)
+        begins = re.match(r"impl(?:<[^>]*>)? (?:.* for )?(\w+)", line)
         owner = begins[1] if begins else None if line.startswith("}") else owner
         for name in DECLARED_RT.findall(line):
             names.update([name, f"{owner}::{name}"] if owner else [name])

@@ -234,6 +234,12 @@ class Names(Small):
         self.change("docs/AUDIT.md", "`Tail::make` (format)", "`Head::make` (entries)")
         self.mends("`check` (entries), `loose` (format/Limits)", "`Head::make` (format)")
 
+    def test_a_method_of_a_trait(self):
+        with (self.root / "crates/format/src/lib.rt").open("a") as code:
+            code.write("\nimpl<T: Copy> From<Tail<T>> for Head {\n    fn from(tail: Tail<T>) -> Head {}\n}\n")
+        self.change("docs/AUDIT.md", "`Head::make` (format)", "`Head::make`, `Head::from` (format)")
+        self.assertEqual(self.run_tool()[0], 0)
+
     def test_what_a_comment_says_is_not_declared(self):
         self.change("docs/AUDIT.md", "`Head::make` (format)", "`gone` (format)")
         self.faults("docs/AUDIT.md:N: `gone`: not in crates/format/src, found nowhere")
