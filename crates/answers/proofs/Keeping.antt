@@ -6,6 +6,8 @@ use mathlib.Core.Path.{◌≡◌, refl}
 use native.Mathlib.Omega.{arith}
 use lib.Dec.{ltb}
 use lib.ListN.{length}
+use Rattle.std.specs.Prelude.{Result, Ok, Err}
+use Rattle.refusals.specs.declared.Refusal.{Refusal}
 use Rattle.words.specs.Words.{Word}
 use Rattle.words.specs.Relations.{relation_words}
 use Rattle.words.specs.Families.{words_of, family_of}
@@ -17,8 +19,6 @@ use Rattle.asked.specs.Least.{least_for}
 use Rattle.refusals.specs.declared.Refusal.TheVariants.{Narrow}
 use Rattle.format.specs.Book.{BookReading}
 use Rattle.loading.specs.Loading.{load_book}
-use Rattle.asked.specs.declared.Given.{Given}
-use Rattle.asked.specs.declared.Given.TheVariants as Givens
 use Rattle.asked.specs.Given.{on_given, one_of}
 use Rattle.loading.specs.Sheet.{cut_sheet}
 use Rattle.output.specs.Size.{output_most}
@@ -63,10 +63,10 @@ module _ (next_u next_v next_p next_u' next_v' next_p' : List ℕ) where
   made_kept (go u v p) c (Keeps.refusing n place) e = let z : ◌≡◌ {A = ℕ} 0 1 = cc in absurd (omega arith)
   made_kept (go u v p) c (Keeps.ending b) e = let z : ◌≡◌ {A = ℕ} 0 1 = cc in absurd (omega arith)
 
-  given_kept : (g : Given) (o : Next) (c : Answer) → Keeps c
+  given_kept : (g : Result (Unit {0}) Refusal) (o : Next) (c : Answer) → Keeps c
       → on_given g (λ r. RoundOutcome.after (refusal r) next_u next_v next_p) (writing o next_u next_v next_p) ≡ RoundOutcome.after c next_u' next_v' next_p' → Kept
-  given_kept Givens.Fine o c k e = made_kept o c k e
-  given_kept (Givens.Refused r) o c k e = same_buffers (refusal r) c e
+  given_kept (Ok _) o c k e = made_kept o c k e
+  given_kept (Err r) o c k e = same_buffers (refusal r) c e
 
   round_keeps : (book : List ℕ) (u v p : Word) (c : Answer) → Keeps c → round_of book u v p next_u next_v next_p ≡ RoundOutcome.after c next_u' next_v' next_p' → Kept
   unfolding round_of loaded_round
@@ -95,9 +95,9 @@ least_keeps : (book : List ℕ) (u : Word) (old : List ℕ) (offset n place : �
 unfolding least_of loaded_least
 least_keeps book u old offset n place buffer e = step (load_book book) refl
   where
-    asked : (w : Word) (g : Given) → on_given g (λ r. WordOutcome.after (refusal r) old) (placed_at offset w old) ≡ WordOutcome.after (refused n place) buffer → buffer ≡ old
-    asked w Givens.Fine d = placed_keeps offset old n place buffer w d
-    asked w (Givens.Refused r) d = cc
+    asked : (w : Word) (g : Result (Unit {0}) Refusal) → on_given g (λ r. WordOutcome.after (refusal r) old) (placed_at offset w old) ≡ WordOutcome.after (refused n place) buffer → buffer ≡ old
+    asked w (Ok _) d = placed_keeps offset old n place buffer w d
+    asked w (Err r) d = cc
 
     step : (o : BookReading) → load_book book ≡ o → buffer ≡ old
     step (BookReading.refused r) f = let d : WordOutcome.after (refusal r) old ≡ WordOutcome.after (refused n place) buffer = rw f at e in cc

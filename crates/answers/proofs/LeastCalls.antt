@@ -3,12 +3,14 @@ use Prim.Native.Nat.{ℕ, ◌-◌, ◌<◌, ◌≤◌}
 use mathlib.Core.Bool.{Bool, true, false}
 use mathlib.Core.List.{List, [], ◌++◌, append-nil}
 use mathlib.Core.Path.{◌≡◌, refl, sym, ap, ◌∙◌}
+use Rattle.std.proofs.Common.{Option, Some, None}
 use native.Mathlib.Omega.{arith}
 use borrow.Author.Rules.{rules}
 use borrow.Author.Tests.{lt-ltb, le-ltb, ltb-false}
 use lib.Dec.{ltb}
 use lib.ListN.{length, take, drop, replicate, length-replicate, length-drop, drop_of_length-le}
 use lib.Seq.{take_all}
+use Rattle.std.specs.Prelude.{Result, Ok, Err}
 use Rattle.words.specs.Words.{Word}
 use Rattle.words.specs.Writing.{over}
 use Rattle.layout.specs.Layout.{words_in}
@@ -16,8 +18,6 @@ use Rattle.layout.specs.Families.{family_by}
 use Rattle.limits.specs.Limits.{compared_most}
 use Rattle.refusals.specs.declared.Refusal.{Refusal}
 use Rattle.refusals.specs.declared.Refusal.TheVariants.{NoSpace, NoPrefix}
-use Rattle.asked.specs.declared.Given.{Given}
-use Rattle.asked.specs.declared.Given.TheVariants as Givens
 use Rattle.given.specs.Given.{Widened}
 use Rattle.asked.specs.Given.{one_of}
 use Rattle.given.proofs.Laws.{fine_short, fine_known}
@@ -25,12 +25,9 @@ use Rattle.overlap.specs.Pieces.{IsPiece, empty}
 use Rattle.least.specs.Writing.{Found, found, absent}
 use Rattle.moves.specs.declared.Mark.{Mark}
 use Rattle.moves.specs.State.{placed_mark, MarkFits}
-use Rattle.leastword.specs.declared.Counted.{Counted}
-use Rattle.leastword.specs.declared.Counted.TheVariants as Counts
 use Rattle.leastword.specs.Writing.{Asked, counted_of, PutFound}
 use Rattle.asked.specs.Least.{least_from}
 use Rattle.leastword.proofs.Rounds.{least_found}
-use Rattle.answers.specs.declared.WrittenWord.TheVariants as WrittenWords
 use Rattle.answers.specs.Answers.{wrote, of_written_word}
 use Rattle.answers.specs.Entries.{WordOutcome, lacks_space, placed_at, found_at, loaded_least}
 use Rattle.answers.specs.Parts.{LeastLoaded, LeastCounted, LeastWidenable}
@@ -57,29 +54,29 @@ some_space room offset long e = go (ltb room offset) refl
     go false q = let f : ltb (room - offset) long ≡ false = rw q at e in (ltb-false room offset q, ltb-false (room - offset) long f)
 
 -- what was counted is the length of a word that was found, or there is none
-counted_found : (f : Found) (long : ℕ) → Counts.Letters long ≡ counted_of f → (w : Word) × (f ≡ found w) × (long ≡ length w)
+counted_found : (f : Found) (long : ℕ) → Some long ≡ counted_of f → (w : Word) × (f ≡ found w) × (long ≡ length w)
 counted_found (found w) long e = let d : long ≡ length w = cc in (w, refl, d)
 counted_found absent long e = let z : ◌≡◌ {A = ℕ} 0 1 = cc in absurd (omega arith)
 
-counted_absent : (f : Found) → Counts.Absent ≡ counted_of f → f ≡ absent
+counted_absent : (f : Found) → None ≡ counted_of f → f ≡ absent
 counted_absent (found w) e = let z : ◌≡◌ {A = ℕ} 0 1 = cc in absurd (omega arith)
 counted_absent absent e = refl
 
 -- there is no such word, or it has so many letters
-module _ (text table : List ℕ) (n : ℕ) (u : Word) (piece : Mark) (a : Asked text table n u piece) (c : Counted)
+module _ (text table : List ℕ) (n : ℕ) (u : Word) (piece : Mark) (a : Asked text table n u piece) (c : Option ℕ)
     (k : c ≡ counted_of (least_from (words_in text table n) (family_by table n) (placed_mark text piece) u)) where
-  pub place_absent : (offset : ℕ) (buffer : List ℕ) → c ≡ Counts.Absent
-      → WordOutcome.after (of_written_word (WrittenWords.Refused NoPrefix)) buffer ≡ found_at offset (least_from (words_in text table n) (family_by table n) (placed_mark text piece) u) buffer
+  pub place_absent : (offset : ℕ) (buffer : List ℕ) → c ≡ None
+      → WordOutcome.after (of_written_word (Err NoPrefix)) buffer ≡ found_at offset (least_from (words_in text table n) (family_by table n) (placed_mark text piece) u) buffer
   place_absent offset buffer e =
       ap (λ (x : Found). found_at offset x buffer) (sym (counted_absent (least_from (words_in text table n) (family_by table n) (placed_mark text piece) u) (sym e ∙ k)))
 
-  pub place_counted : (letters : ℕ) → c ≡ Counts.Letters letters → LeastCounted text table n u piece letters
+  pub place_counted : (letters : ℕ) → c ≡ Some letters → LeastCounted text table n u piece letters
   place_counted letters e = record { asked = a; counted = sym e ∙ k }
 
 pub ruleset countings = (place_absent, place_counted, rules)
 
 -- the part of a buffer from an offset on is all that follows it
-module _ (offset : ℕ) (f : Found) (buffer : List ℕ) (long : ℕ) (k : Counts.Letters long ≡ counted_of f) (t : Bool) (e : t ≡ lacks_space (length buffer) offset long) where
+module _ (offset : ℕ) (f : Found) (buffer : List ℕ) (long : ℕ) (k : Some long ≡ counted_of f) (t : Bool) (e : t ≡ lacks_space (length buffer) offset long) where
   that : (w : Word) × (f ≡ found w) × (long ≡ length w)
   that = counted_found f long k
 
@@ -89,7 +86,7 @@ module _ (offset : ℕ) (f : Found) (buffer : List ℕ) (long : ℕ) (k : Counts
   lacks : (b : Bool) → t ≡ b → lacks_space (length buffer) offset (length that.0) ≡ b
   lacks b g = ap (lacks_space (length buffer) offset) (sym that.2) ∙ sym e ∙ g
 
-  pub place_refused : t ≡ true → WordOutcome.after (of_written_word (WrittenWords.Refused NoSpace)) buffer ≡ found_at offset f buffer
+  pub place_refused : t ≡ true → WordOutcome.after (of_written_word (Err NoSpace)) buffer ≡ found_at offset f buffer
   unfolding placed_at
   place_refused g = sym (placed ∙ rw (lacks true g))
 
@@ -103,8 +100,8 @@ module _ (offset : ℕ) (f : Found) (buffer : List ℕ) (long : ℕ) (k : Counts
     whole_rest : take (length buffer - offset) (drop offset buffer) ≡ drop offset buffer
     whole_rest = take_all (length buffer - offset) (drop offset buffer) (omega (arith, length-drop offset buffer))
 
-    pub place_written : (part : List ℕ) (r : Counted) → PutFound f (take (length buffer - offset) (drop offset buffer)) part r
-        → WordOutcome.after (of_written_word (WrittenWords.Wrote long)) (take offset buffer ++ (part ++ drop (length buffer - offset) (drop offset buffer))) ≡ found_at offset f buffer
+    pub place_written : (part : List ℕ) (r : Option ℕ) → PutFound f (take (length buffer - offset) (drop offset buffer)) part r
+        → WordOutcome.after (of_written_word (Ok long)) (take offset buffer ++ (part ++ drop (length buffer - offset) (drop offset buffer))) ≡ found_at offset f buffer
     unfolding placed_at
     place_written part r p =
         let d = length-drop offset buffer in
@@ -140,7 +137,7 @@ module _ (text table : List ℕ) (n : ℕ) (u : Word) (piece : Mark) (a : Asked 
 pub ruleset arrays = (long_widenable, short_widenable, rules)
 
 -- where the book has so many letters, a word that is fine can be asked for, with any piece that lies in the text
-pub fine_asked : (text table : List ℕ) (n letters : ℕ) → LeastLoaded text table n letters → (u : Word) → one_of letters u ≡ Givens.Fine
+pub fine_asked : (text table : List ℕ) (n letters : ℕ) → LeastLoaded text table n letters → (u : Word) → one_of letters u ≡ Ok tt
     → (piece : Mark) → MarkFits text piece → IsPiece (words_in text table n) (placed_mark text piece) → Asked text table n u piece
 fine_asked text table n letters k u f piece m p =
     record {
@@ -151,23 +148,24 @@ fine_asked text table n letters k u f piece m p =
       piece = p;
     }
 
+-- a word that is fine, behind the empty piece
+pub least_asked : (text table : List ℕ) (n letters : ℕ) → LeastLoaded text table n letters → (u : Word) → Ok tt ≡ one_of letters u
+    → Asked text table n u (record { at = 0; to = 0 })
+least_asked text table n letters k u e =
+    fine_asked text table n letters k u (sym e) (record { at = 0; to = 0 }) (record { up = omega arith; inside = omega arith; short = omega arith }) (empty refl)
+
 -- a given word
-module _ (text table : List ℕ) (n letters : ℕ) (k : LeastLoaded text table n letters) (u : Word) (g : Given) (e : g ≡ one_of letters u) where
-  pub least_refused : (buffer : List ℕ) (offset : ℕ) (r : Refusal) → g ≡ Givens.Refused r
-      → WordOutcome.after (of_written_word (WrittenWords.Refused r)) buffer ≡ loaded_least letters (words_in text table n) (family_by table n) u buffer offset
+module _ (text table : List ℕ) (n letters : ℕ) (k : LeastLoaded text table n letters) (u : Word) (g : Result (Unit {0}) Refusal) (e : g ≡ one_of letters u) where
+  pub least_refused : (buffer : List ℕ) (offset : ℕ) (r : Refusal) → g ≡ Err r
+      → WordOutcome.after (of_written_word (Err r)) buffer ≡ loaded_least letters (words_in text table n) (family_by table n) u buffer offset
   unfolding loaded_least
   least_refused buffer offset r f = sym (rw (sym e ∙ f))
 
-  module _ (f : g ≡ Givens.Fine) where
-    -- behind the empty piece
-    pub least_asked : Asked text table n u (record { at = 0; to = 0 })
-    least_asked =
-        fine_asked text table n letters k u (sym e ∙ f) (record { at = 0; to = 0 }) (record { up = omega arith; inside = omega arith; short = omega arith }) (empty refl)
-
-    pub least_placed : (buffer : List ℕ) (offset : ℕ) (o : WordOutcome) → o ≡ found_at offset (least_from (words_in text table n) (family_by table n) [] u) buffer
-        → o ≡ loaded_least letters (words_in text table n) (family_by table n) u buffer offset
-    unfolding loaded_least
-    least_placed buffer offset o h =
-        rw (sym e ∙ f) (h ∙ ap (λ (x : Found). found_at offset x buffer) (least_found (words_in text table n) (family_by table n) k.ready.grouped.checked.accepted u))
+  pub least_placed : g ≡ Ok tt → (buffer : List ℕ) (offset : ℕ) (o : WordOutcome)
+      → o ≡ found_at offset (least_from (words_in text table n) (family_by table n) [] u) buffer
+      → o ≡ loaded_least letters (words_in text table n) (family_by table n) u buffer offset
+  unfolding loaded_least
+  least_placed f buffer offset o h =
+      rw (sym e ∙ f) (h ∙ ap (λ (x : Found). found_at offset x buffer) (least_found (words_in text table n) (family_by table n) k.ready.grouped.checked.accepted u))
 
 pub ruleset given_leasts = (least_refused, least_asked, least_placed, rules)

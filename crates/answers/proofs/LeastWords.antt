@@ -10,6 +10,7 @@ use borrow.Author.Tests.{lt-ltb, le-ltb, ltb-false}
 use lib.Dec.{ltb}
 use lib.ListN.{length, get_or, take, drop, length-append, length-drop, get_or-append}
 use lib.Seq.{length-take-le, get_or-take, get_or-append-add, get_or-drop, drop_at, take_at}
+use Rattle.std.specs.Prelude.{Ok}
 use Rattle.words.specs.Words.{Word}
 use Rattle.words.specs.Relations.{Relation, relation_words}
 use Rattle.words.specs.Families.{words_of, family_of}
@@ -25,7 +26,6 @@ use Rattle.limits.specs.Limits.{compared_most, side_most}
 use Rattle.refusals.specs.declared.Refusal.TheVariants.{NoSpace}
 use Rattle.format.specs.Book.{Presentation, BookReading}
 use Rattle.loading.specs.Loading.{load_book}
-use Rattle.asked.specs.declared.Given.TheVariants as Givens
 use Rattle.asked.specs.Given.{given_of, one_of, pair_of}
 use Rattle.given.proofs.Laws.{fine_short, fine_both, fine_again}
 use Rattle.words.specs.Writing.{over}
@@ -143,7 +143,7 @@ module _ (relations : List Relation) (l : LeastWords relations house_rank) where
       congruent n e (inr (inr f)) = let z : ◌≡◌ {A = ℕ} 0 1 = cc in absurd (omega arith)
 
 -- an accepted book and a word that is fine
-placed_least : (book : List ℕ) (u : Word) (old : List ℕ) (offset : ℕ) (p : Presentation) → load_book book ≡ BookReading.read p → one_of p.letters u ≡ Givens.Fine
+placed_least : (book : List ℕ) (u : Word) (old : List ℕ) (offset : ℕ) (p : Presentation) → load_book book ≡ BookReading.read p → one_of p.letters u ≡ Ok tt
     → least_of book u old offset ≡ placed_at offset (least_for (words_of p.relations) (family_of p.relations) u) old
 unfolding least_of loaded_least
 placed_least book u old offset p e f = rw (e, f)

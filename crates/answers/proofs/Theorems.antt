@@ -7,6 +7,7 @@ use mathlib.Core.Path.{◌≡◌, refl, sym, ap, ◌∙◌}
 use native.Mathlib.Omega.{arith}
 use native.Mathlib.Decide.{dec_lt}
 use lib.ListN.{length}
+use Rattle.std.specs.Prelude.{Ok}
 use Rattle.words.specs.Words.{Word}
 use Rattle.words.specs.Relations.{Relation, relation_words}
 use Rattle.words.specs.Families.{words_of, family_of}
@@ -19,7 +20,6 @@ use Rattle.congruence.specs.Theorem.{Decision}
 use Rattle.congruence.proofs.Theorem.{rows_decide}
 use Rattle.format.specs.Book.{Presentation, BookReading, read_book}
 use Rattle.loading.specs.Loading.{load_book}
-use Rattle.asked.specs.declared.Given.TheVariants as Givens
 use Rattle.asked.specs.Given.{pair_of}
 use Rattle.asked.specs.Comparing.{answer_of, comparison_of}
 use Rattle.answers.specs.Answers.{Answer, accepted, same, different, refused}
@@ -102,7 +102,7 @@ spent_back n (Rows.CompareAnswer.spent m) e = let f : m ≡ n = cc in rw f
 
 -- an accepted book and two words that are fine
 compare_words : (book : List ℕ) (u v : Word) (allowance : ℕ) (p : Presentation) → load_book book ≡ BookReading.read p
-    → pair_of p.letters u v ≡ Givens.Fine → compare_of book u v allowance ≡ in_words (compare_under (words_of p.relations) (family_of p.relations) allowance u v)
+    → pair_of p.letters u v ≡ Ok tt → compare_of book u v allowance ≡ in_words (compare_under (words_of p.relations) (family_of p.relations) allowance u v)
 unfolding compare_of comparison_of answer_of in_words
 compare_words book u v allowance p e f = go (compare_under (words_of p.relations) (family_of p.relations) allowance u v) refl
   where

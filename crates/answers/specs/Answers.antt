@@ -1,17 +1,12 @@
--- What the entries answer, in document 01's words and numbers; and which answer each case of the code's enums is.
-use Rattle.std.specs.Prelude.{ℕ, Bool}
+-- What the entries answer, in document 01's words and numbers; and which answer each case of what the code returns is.
+use Rattle.std.specs.Prelude.{ℕ, Bool, Result, Ok, Err}
 use Rattle.refusals.specs.declared.Refusal.{Refusal}
 use Rattle.refusals.specs.Refusals.{number_and_place}
 use Rattle.asked.specs.declared.Comparison.{Comparison}
+use Rattle.changes.specs.declared.Round.{Round}
+use Rattle.changes.specs.declared.Round.TheVariants as Rounds
+use Rattle.rounds.specs.declared.Lengths.{Lengths}
 use Rattle.asked.specs.declared.Comparison.TheVariants as Comparisons
-use Rattle.answers.specs.declared.Verdict.{Verdict}
-use Rattle.answers.specs.declared.Verdict.TheVariants as Verdicts
-use Rattle.answers.specs.declared.Round.{Round}
-use Rattle.answers.specs.declared.Round.TheVariants as Rounds
-use Rattle.answers.specs.declared.Printed.{Printed}
-use Rattle.answers.specs.declared.Printed.TheVariants as Prints
-use Rattle.answers.specs.declared.WrittenWord.{WrittenWord}
-use Rattle.answers.specs.declared.WrittenWord.TheVariants as WrittenWords
 
 pub data Answer : Type 0 where
   -- a book is accepted, with its number of relations (document 01: rules)
@@ -32,24 +27,24 @@ pub data Answer : Type 0 where
 abbrev pub refusal : Refusal → Answer
 refusal r = refused (number_and_place r).number (number_and_place r).place
 
-abbrev pub of_verdict : Verdict → Answer
-of_verdict (Verdicts.Accepted n) = accepted n
-of_verdict (Verdicts.Refused r) = refusal r
+abbrev pub of_verdict : Result ℕ Refusal → Answer
+of_verdict (Ok n) = accepted n
+of_verdict (Err r) = refusal r
 
-abbrev pub of_round : Round → Answer
-of_round (Rounds.End b) = ended b
-of_round (Rounds.Next a b c) = next a b c
-of_round (Rounds.Refused r) = refusal r
+abbrev pub of_round : Result (Round Lengths) Refusal → Answer
+of_round (Ok (Rounds.End b)) = ended b
+of_round (Ok (Rounds.Next l)) = next l.u l.v l.p
+of_round (Err r) = refusal r
 
-abbrev pub of_comparison : Comparison → Answer
-of_comparison (Comparisons.Same n) = same n
-of_comparison (Comparisons.Different n) = different n
-of_comparison (Comparisons.Refused r) = refusal r
+abbrev pub of_comparison : Result Comparison Refusal → Answer
+of_comparison (Ok (Comparisons.Same n)) = same n
+of_comparison (Ok (Comparisons.Different n)) = different n
+of_comparison (Err r) = refusal r
 
-abbrev pub of_printed : Printed → Answer
-of_printed (Prints.Wrote n) = wrote n
-of_printed (Prints.Refused r) = refusal r
+-- of a least word, and of the program
+abbrev pub of_written_word : Result ℕ Refusal → Answer
+of_written_word (Ok n) = wrote n
+of_written_word (Err r) = refusal r
 
-abbrev pub of_written_word : WrittenWord → Answer
-of_written_word (WrittenWords.Wrote n) = wrote n
-of_written_word (WrittenWords.Refused r) = refusal r
+abbrev pub of_printed : Result ℕ Refusal → Answer
+of_printed printed = of_written_word printed

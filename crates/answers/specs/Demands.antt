@@ -2,7 +2,7 @@
 -- the least word (document 01, "The least equal run").
 -- Demand 1 (safety, refusals, lent buffers) has no record here: every function's check and the equalities with specs/Entries.antt are its statement; that a refusal
 -- keeps every lent byte is also said in words, in specs/Keeping.antt.
-use Rattle.std.specs.Prelude.{ℕ, ◌+◌, ◌*◌, ◌<◌, ◌≤◌, Bool, List, [], ◌++◌, ◌↔◌, ◌⊎◌, ◌≡◌, length, get_or, take, drop}
+use Rattle.std.specs.Prelude.{ℕ, ◌+◌, ◌*◌, ◌<◌, ◌≤◌, Bool, List, [], ◌++◌, ◌↔◌, ◌⊎◌, ◌≡◌, length, get_or, take, drop, Ok}
 use Rattle.words.specs.Words.{Word}
 use Rattle.words.specs.Relations.{Relation, relation_words}
 use Rattle.words.specs.Families.{distinct_words, word_of_side, words_of, family_of}
@@ -18,7 +18,6 @@ use Rattle.least.specs.Least.{LeastWord}
 use Rattle.limits.specs.Limits.{side_most, least_most, sheet_x, sheet_y, sheet_z, sheet_pieces, sheet_columns}
 use Rattle.format.specs.Book.{Presentation, BookReading, read_book}
 use Rattle.loading.specs.Loading.{load_book}
-use Rattle.asked.specs.declared.Given.TheVariants as Givens
 use Rattle.asked.specs.Given.{one_of, pair_of}
 use Rattle.answers.specs.Answers.{Answer, accepted, same, different, wrote, refused}
 use Rattle.answers.specs.Entries.{check_of, SheetOutcome, sheet_of, compare_of, WordOutcome, least_of}
@@ -90,7 +89,7 @@ pub record Decides (relations : List Relation) (u v : Word) (allowance : ℕ) (a
 -- what the comparison promises of its answer: it is the definition's; and of an accepted book and two words that are fine, it decides
 pub record Compared (book : List ℕ) (u v : Word) (allowance : ℕ) (answer : Answer) : Type 0 where
   pub is : answer ≡ compare_of book u v allowance
-  pub decides : (presentation : Presentation) → load_book book ≡ BookReading.read presentation → pair_of presentation.letters u v ≡ Givens.Fine
+  pub decides : (presentation : Presentation) → load_book book ≡ BookReading.read presentation → pair_of presentation.letters u v ≡ Ok tt
       → Decides presentation.relations u v allowance answer
 
 -- of a word w that is written into a lent buffer from an offset on: the answer is its length, the bytes from the offset on are w, and the buffer's length and
@@ -116,13 +115,13 @@ pub record WritesLeast (B : List Word) (u : Word) (old : List ℕ) (offset : ℕ
 -- what the least word promises of its outcome: it is the definition's; and of an accepted book and a word that is fine, the least word is written
 pub record LeastAnswered (book : List ℕ) (u : Word) (old : List ℕ) (offset : ℕ) (outcome : WordOutcome) : Type 0 where
   pub is : outcome ≡ least_of book u old offset
-  pub writes : (presentation : Presentation) → load_book book ≡ BookReading.read presentation → one_of presentation.letters u ≡ Givens.Fine
+  pub writes : (presentation : Presentation) → load_book book ≡ BookReading.read presentation → one_of presentation.letters u ≡ Ok tt
       → WritesLeast (relation_words presentation.relations) u old offset outcome
 
 -- of every accepted book and every word that is fine
 abbrev pub LeastWritten : Type 0
 LeastWritten = (book : List ℕ) (u : Word) (old : List ℕ) (offset : ℕ) (presentation : Presentation) → load_book book ≡ BookReading.read presentation
-    → one_of presentation.letters u ≡ Givens.Fine → WritesLeast (relation_words presentation.relations) u old offset (least_of book u old offset)
+    → one_of presentation.letters u ≡ Ok tt → WritesLeast (relation_words presentation.relations) u old offset (least_of book u old offset)
 
 -- the bytes that a call which answers with a length has written: so many, from its offset on
 abbrev pub written_bytes : ℕ → ℕ → List ℕ → Word
@@ -131,7 +130,7 @@ written_bytes n offset buffer = take n (drop offset buffer)
 -- of an accepted book and two words that are fine, of which each least word found room: a comparison that is allowed the rounds that it can need says 'same'
 -- exactly when what was written for the one word is what was written for the other
 abbrev pub LeastDecides : Type 0
-LeastDecides = (book : List ℕ) (u v : Word) (presentation : Presentation) → load_book book ≡ BookReading.read presentation → pair_of presentation.letters u v ≡ Givens.Fine
+LeastDecides = (book : List ℕ) (u v : Word) (presentation : Presentation) → load_book book ≡ BookReading.read presentation → pair_of presentation.letters u v ≡ Ok tt
     → (old : List ℕ) (offset m : ℕ) (buffer : List ℕ) → least_of book u old offset ≡ WordOutcome.after (wrote m) buffer
     → (old' : List ℕ) (offset' m' : ℕ) (buffer' : List ℕ) → least_of book v old' offset' ≡ WordOutcome.after (wrote m') buffer'
     → (allowance : ℕ) → (longest_suffix_piece (words_of presentation.relations) + 1) * length u ≤ allowance

@@ -1,5 +1,5 @@
 -- What each entry answers and leaves in its lent buffers, for every input whatever. Refusals come in the order of document 01, "Refusals by number".
-use Rattle.std.specs.Prelude.{ℕ, ◌*◌, ◌-◌, Bool, cond, ◌||◌, List, ◌++◌, ltb, length, take, drop}
+use Rattle.std.specs.Prelude.{ℕ, ◌*◌, ◌-◌, Bool, cond, ◌||◌, List, ◌++◌, ltb, length, take, drop, Result, Ok, Err}
 use Rattle.words.specs.Words.{Word}
 use Rattle.words.specs.Writing.{over}
 use Rattle.words.specs.Relations.{relation_words}
@@ -11,8 +11,6 @@ use Rattle.refusals.specs.declared.Refusal.TheVariants.{Narrow, NoSpace, NoPrefi
 use Rattle.limits.specs.Limits.{next_room, mark_most, sheet_columns}
 use Rattle.format.specs.Book.{Presentation, BookReading}
 use Rattle.loading.specs.Loading.{load_book}
-use Rattle.asked.specs.declared.Given.{Given}
-use Rattle.asked.specs.declared.Given.TheVariants as Givens
 use Rattle.asked.specs.Given.{on_given, one_of, triple_of}
 use Rattle.loading.specs.Sheet.{cut_sheet}
 use Rattle.asked.specs.Comparing.{comparison_of}
@@ -47,15 +45,15 @@ pub data RoundOutcome : Type 0 where
   after : Answer → List ℕ → List ℕ → List ℕ → RoundOutcome
 
 -- 12 of the three buffers, by their lengths, lowest first
-unfoldable pub room_of : ℕ → ℕ → ℕ → Given
+unfoldable pub room_of : ℕ → ℕ → ℕ → Result (Unit {0}) Refusal
 room_of room_u room_v room_p =
-    cond (ltb room_u next_room) (Givens.Refused (Narrow 0))
-    (cond (ltb room_v next_room) (Givens.Refused (Narrow 1))
-    (cond (ltb room_p mark_most) (Givens.Refused (Narrow 2)) Givens.Fine))
+    cond (ltb room_u next_room) (Err (Narrow 0))
+    (cond (ltb room_v next_room) (Err (Narrow 1))
+    (cond (ltb room_p mark_most) (Err (Narrow 2)) (Ok tt)))
 
 -- what is given to a round: 9 and 10 of u, v and p in turn, then 12
-unfoldable pub asked_of : ℕ → Word → Word → Word → ℕ → ℕ → ℕ → Given
-asked_of letters u v p room_u room_v room_p = on_given (triple_of letters u v p) Givens.Refused (room_of room_u room_v room_p)
+unfoldable pub asked_of : ℕ → Word → Word → Word → ℕ → ℕ → ℕ → Result (Unit {0}) Refusal
+asked_of letters u v p room_u room_v room_p = on_given (triple_of letters u v p) Err (room_of room_u room_v room_p)
 
 -- an end writes nothing; else the next u, v and p stand at the starts of the buffers
 abbrev pub writing : Next → List ℕ → List ℕ → List ℕ → RoundOutcome

@@ -1,21 +1,17 @@
 -- What the parts of an entry give once the book is loaded.
-use Rattle.std.specs.Prelude.{ℕ, ◌*◌, ◌<◌, ◌≤◌, cond, List, ◌≡◌, ltb, length}
+use Rattle.std.specs.Prelude.{ℕ, ◌*◌, ◌<◌, ◌≤◌, cond, Some, List, ◌≡◌, ltb, length}
 use Rattle.words.specs.Words.{Word}
 use Rattle.limits.specs.Limits.{letters_most, relations_most, sheet_columns}
 use Rattle.refusals.specs.declared.Refusal.TheVariants.{Narrow}
 use Rattle.moves.specs.declared.Mark.{Mark}
-use Rattle.moves.specs.State.{Ready, placed_mark}
+use Rattle.layout.specs.Families.{Ready}
+use Rattle.moves.specs.State.{placed_mark}
 use Rattle.layout.specs.Layout.{words_in}
 use Rattle.layout.specs.Families.{family_by}
-use Rattle.leastword.specs.declared.Counted.TheVariants as Counts
 use Rattle.leastword.specs.Writing.{Asked, counted_of}
 use Rattle.asked.specs.Least.{least_from}
-use Rattle.rounds.specs.declared.RoundLengths.{RoundLengths}
-use Rattle.rounds.specs.declared.RoundLengths.TheVariants as Lengths
 use Rattle.sheet.specs.Sheet.{sheet_bytes, SideIn}
 use Rattle.words.specs.Writing.{over}
-use Rattle.answers.specs.declared.Round.{Round}
-use Rattle.answers.specs.declared.Round.TheVariants as Rounds
 use Rattle.answers.specs.Answers.{accepted, refusal}
 use Rattle.answers.specs.Entries.{SheetOutcome}
 
@@ -32,7 +28,7 @@ pub record LeastLoaded (text table : List ℕ) (n letters : ℕ) : Type 0 where
 -- a word of which the least word behind a piece was asked, and has so many letters
 pub record LeastCounted (text table : List ℕ) (n : ℕ) (u : Word) (piece : Mark) (letters : ℕ) : Type 0 where
   pub asked : Asked text table n u piece
-  pub counted : Counts.Letters letters ≡ counted_of (least_from (words_in text table n) (family_by table n) (placed_mark text piece) u)
+  pub counted : Some letters ≡ counted_of (least_from (words_in text table n) (family_by table n) (placed_mark text piece) u)
 
 -- a word of which the least word behind a piece can be asked, and an array that has room for it
 pub record LeastWidenable (text table : List ℕ) (n : ℕ) (u : Word) (piece : Mark) (wide : List ℕ) : Type 0 where
@@ -44,8 +40,3 @@ unfoldable pub accepted_sheet : List ℕ → ℕ → List ℕ → SheetOutcome
 accepted_sheet table relations sheet =
     cond (ltb (length sheet) (sheet_columns * (2 * relations))) (SheetOutcome.after (refusal (Narrow 0)) sheet)
     (SheetOutcome.after (accepted relations) (over (sheet_bytes table (2 * relations)) sheet))
-
--- a round that was made, as an answer
-abbrev pub answered_round : RoundLengths → Round
-answered_round (Lengths.End b) = Rounds.End b
-answered_round (Lengths.Next a b c) = Rounds.Next a b c

@@ -1,8 +1,7 @@
 -- What the program's lines say, in the words of the other entries (document 01, "The program"): the first line is the answer of the check of the book, and each line
 -- behind `book R` is what the comparison answers for that book, those two words and that allowance.
-use Rattle.std.specs.Prelude.{ℕ, ◌+◌, ◌-◌, ◌<◌, ◌≤◌, List, [], ◌++◌, ◌≡◌, length, take}
+use Rattle.std.specs.Prelude.{ℕ, ◌+◌, ◌-◌, ◌<◌, ◌≤◌, List, [], ◌++◌, ◌≡◌, length, take, Some, None}
 use Rattle.words.specs.Words.{Word, part}
-use Rattle.limits.specs.declared.Record.TheVariants.{Whole, CutOff}
 use Rattle.limits.specs.Limits.{record_prefix, comparison_kind, comparison_fixed_payload, input_most}
 use Rattle.format.specs.Book.{field, record_at}
 use Rattle.spelling.specs.Lines.{line_of, pair_line_of}
@@ -39,9 +38,9 @@ pub record Asks (input : List ℕ) (at : ℕ) (u v : Word) (allowance end : ℕ)
 
 -- it is refused: by 1 where the input ends inside it, by 2 where it is of another kind, by 3 where its length does not fit what its payload says
 pub data Stops (input : List ℕ) (at : ℕ) : ℕ → Type 0 where
-  short : record_at input at ≡ CutOff → Stops input at 1
-  kind : (kind from to : ℕ) → record_at input at ≡ Whole kind from to → ¬ (kind ≡ comparison_kind) → Stops input at 2
-  misfit : (from to : ℕ) → record_at input at ≡ Whole comparison_kind from to
+  short : record_at input at ≡ None → Stops input at 1
+  kind : (kind from to : ℕ) → record_at input at ≡ Some (record { kind = kind; from = from; to = to }) → ¬ (kind ≡ comparison_kind) → Stops input at 2
+  misfit : (from to : ℕ) → record_at input at ≡ Some (record { kind = comparison_kind; from = from; to = to })
       → ¬ (to - from ≡ comparison_fixed_payload + field input (from + 4) + field input (from + 6)) → Stops input at 3
 
 -- the lines of the records from a position of the input on, under the book before them

@@ -20,110 +20,71 @@
 #![tactic(auto)]
 
 ghost use Rattle.std.specs.Prelude.{◌≡◌, ◌≤◌, length, IfOk, OnErr};
-ghost use Rattle.fields.specs.Places.{Filled};
 
+use fields::Fields;
 use std::io;
 use std::io::{Read, Write};
 
 fn main(rt: HostRuntime) -> io::Result<()> {
-    let mut buffer = fields::large_room();
+    let mut buffer = rooms::room::<{ fields::LARGE }>(0);
     answer_input(&mut rt.stdin(), &mut rt.stdout(), &mut buffer)
 }
 
 // Answers an input by way of a buffer, which is longer than any line. It holds the prefix of a line that was not read to its end from one turn to
-// the next; the input has ended long before the last turn.
+// the next; the input has ended long before the last turn. A read that fails ends its turn alone.
 fn answer_input<R: Read, W: Write>(
     input: &mut R,
     out: &mut W,
     buffer: &mut [u8],
 ) -> io::Result<()> {
     let mut kept = 0;
-    let mut left = 256usize;
-    while 0 < left {
-        let n = read_behind(input, buffer, kept);
-        kept = answer_read_part(out, buffer, n)?;
-        left -= 1;
+    for _ in 0..256 {
+        let _ = rooms::read_behind(input, buffer, &mut kept);
+        kept = answer_read_part(out, buffer, kept)?;
     }
     Ok(())
 }
 
-// Reads behind the first bytes of a buffer, and answers how many there are then.
-fn read_behind<R: Read>(input: &mut R, buffer: &mut [u8], kept: usize) -> usize
-    requires { kept ≤ length buffer.old }
-    ensures { Filled result buffer.new }
-{
-    let more = read_full(input, &mut buffer[kept..]);
-    kept + more
-}
-
-// Reads until a buffer is full, the input ends or a read fails, and answers how many bytes were read.
-fn read_full<R: Read>(input: &mut R, buffer: &mut [u8]) -> usize
-    ensures { Filled result buffer.new }
-{
-    let mut done = 0;
-    while done < buffer.len() {
-        let Ok(more) = input.read(&mut buffer[done..]) else {
-            return done;
-        };
-        if more == 0 {
-            return done;
-        }
-        done += more;
-    }
-    done
-}
-
-// Answers the whole lines of a buffer's first bytes, and keeps what is behind them. Where an answer cannot be written, the buffer is as it was.
+// Answers the whole lines of a buffer's first bytes, keeps what is behind them, and answers how long that is. Where an answer cannot be written, the
+// buffer is as it was.
 fn answer_read_part<W: Write>(out: &mut W, buffer: &mut [u8], n: usize) -> io::Result<usize>
-    requires { Filled n buffer.old }
-    ensures ok { IfOk result (λ kept. Filled kept buffer.new) }
+    requires { n ≤ length buffer.old }
+    ensures ok { IfOk result (λ kept. kept ≤ length buffer.new) }
     ensures err { OnErr result (buffer.new ≡ buffer.old) }
 {
-    let from = answer_all(out, &buffer[..n])?;
-    Ok(fields::move_down(buffer, from, n))
+    let answered = answer_all(out, &buffer[..n])?;
+    buffer.copy_within(answered..n, 0);
+    Ok(n - answered)
 }
 
 // Answers each whole line, and tells where the last one ends.
-fn answer_all<W: Write>(out: &mut W, input: &[u8]) -> io::Result<usize> {
-    let mut at = 0;
-    while at < input.len() {
-        let end = fields::find(input, at, b'\n');
-        if end == input.len() {
-            return Ok(at);
-        }
-        answer_line(out, &input[at..end])?;
-        at = end + 1;
+fn answer_all<W: Write>(out: &mut W, input: &[u8]) -> io::Result<usize>
+    ensures { IfOk result (λ end. end ≤ length input.now) }
+{
+    let Some(last) = input.iter().rposition(|&byte| byte == b'\n') else {
+        return Ok(0);
+    };
+    for line in input[..last].split(|&byte| byte == b'\n') {
+        answer_line(out, line)?;
     }
-    Ok(at)
+    Ok(last + 1)
 }
 
-// Answers a line. Whatever it asks for, its first field is a book.
-fn answer_line<W: Write>(out: &mut W, line: &[u8]) -> io::Result<()> {
-    let end = fields::find(line, 0, b' ');
-    let mut book = fields::field_room();
-    let n = fields::put_field(line, 1, &mut book);
-    answer_call(out, &line[..end], line, &book[..n])
-}
-
-// Answers a line by the word that it begins with.
-fn answer_call<W: Write>(out: &mut W, word: &[u8], line: &[u8], book: &[u8]) -> io::Result<()> {
-    if fields::is_word(word, b"read") {
-        calls::answer_read(out, book)
-    } else if fields::is_word(word, b"check") {
-        calls::answer_check(out, book)
-    } else if fields::is_word(word, b"sheet") {
-        calls::answer_sheet(out, line, book)
-    } else if fields::is_word(word, b"round") {
-        calls::answer_round(out, line, book)
-    } else if fields::is_word(word, b"least") {
-        calls::answer_least(out, line, book)
-    } else if fields::is_word(word, b"front") {
-        calls::answer_front(out, line, book)
-    } else if fields::is_word(word, b"compare") {
-        calls::answer_compare(out, line, book)
-    } else if fields::is_word(word, b"held") {
-        stories::answer_held(out, line, book)
-    } else {
-        printing::print_text(out, line)
+// Answers a line by the word that it begins with. Whatever it asks for, its first field is a book.
+fn answer_line<W: Write>(out: &mut W, text: &[u8]) -> io::Result<()> {
+    let line = Fields::new(text, b' ');
+    let mut room = rooms::room::<{ fields::ROOM }>(0);
+    let n = line.put(1, &mut room);
+    let book = &room[..n];
+    match line.field(0) {
+        b"read" => calls::answer_read(out, book),
+        b"check" => calls::answer_check(out, book),
+        b"sheet" => calls::answer_sheet(out, line, book),
+        b"round" => calls::answer_round(out, line, book),
+        b"least" => calls::answer_least(out, line, book),
+        b"front" => calls::answer_front(out, line, book),
+        b"compare" => calls::answer_compare(out, line, book),
+        b"held" => stories::answer_held(out, text, book),
+        _ => printing::print_text(out, text),
     }
 }

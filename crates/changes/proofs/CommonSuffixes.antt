@@ -126,8 +126,8 @@ module _ (text : List ℕ) (x y room l : ℕ) (v : Agreeing text x y room l) whe
     pub agreeing_stop : (get_or text (x - 1 - l) 0 ≡ get_or text (y - 1 - l) 0 → ⊥) → AgreeBack text x y room l
     agreeing_stop d = record { within = v.within; at = v.agreed.at; apart = λ _. d }
 
-  pub agreeing_end : room ≤ l → AgreeBack text x y room l
-  agreeing_end h = record { within = v.within; at = v.agreed.at; apart = λ k. absurd (omega arith) }
+  pub agreeing_end : room ≤ l → AgreeBack text x y room room
+  agreeing_end h = record { within = omega arith; at = λ k b. v.agreed.at k (omega (arith, v.within)); apart = λ k. absurd (omega arith) }
 
 pub ruleset agreeings = (agreeing_start, agreeing_more, agreeing_stop, back_some, back_far, back_at, agreeing_end, rules)
 

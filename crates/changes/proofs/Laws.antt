@@ -9,7 +9,7 @@ use lib.ListN.{length, drop}
 use Rattle.words.specs.Words.{Word, is_prefix, part}
 use Rattle.layout.specs.Layout.{Span}
 use Rattle.changes.specs.declared.Change.{Change}
-use Rattle.changes.specs.declared.Plan.TheVariants.{Go}
+use Rattle.changes.specs.declared.Round.TheVariants.{Next}
 use Rattle.sites.specs.declared.Site.{Site}
 use Rattle.changes.specs.Asked.{TailHas}
 use Rattle.changes.specs.Changes.{cut_by, tail_by, put_both, mark_after, plan6, plan7, rest_at, plan8}
@@ -29,20 +29,20 @@ pub ruleset changes_made = (cut_made, tail_made, rules)
 -- plans by their changes
 module _ (c d : Change) where
   pub made8 : (s t : Site) (l k : ℕ) → c ≡ cut_by (s.stop - l - s.start) → d ≡ cut_by (t.stop - l - t.start)
-      → Go c d (record { from = s.stop - l; to = s.stop; cut = k }) ≡ plan8 s t l k
+      → Next (record { u = c; v = d; mark = record { from = s.stop - l; to = s.stop; cut = k } }) ≡ plan8 s t l k
   unfolding plan8
   made8 s t l k e f = rw (e, f)
 
   module _ (a : Change) where
-    pub made4 : (m : ℕ) (z : Site) (l k : ℕ) → c ≡ tail_by z m → d ≡ tail_by z l → a ≡ cut_by k → Go c d a ≡ put_both m z l k
+    pub made4 : (m : ℕ) (z : Site) (l k : ℕ) → c ≡ tail_by z m → d ≡ tail_by z l → a ≡ cut_by k → Next (record { u = c; v = d; mark = a }) ≡ put_both m z l k
     unfolding put_both
     made4 m z l k e f g = rw (e, f, g)
 
-    pub made6 : (s t : Site) (k : ℕ) → c ≡ cut_by (s.tail - s.start) → d ≡ tail_by s (t.stop - t.start) → a ≡ cut_by k → Go c d a ≡ plan6 s t k
+    pub made6 : (s t : Site) (k : ℕ) → c ≡ cut_by (s.tail - s.start) → d ≡ tail_by s (t.stop - t.start) → a ≡ cut_by k → Next (record { u = c; v = d; mark = a }) ≡ plan6 s t k
     unfolding plan6
     made6 s t k e f g = rw (e, f, g)
 
-    pub made7 : (s t : Site) (k : ℕ) → c ≡ tail_by t (s.stop - s.start) → d ≡ cut_by (t.tail - t.start) → a ≡ cut_by k → Go c d a ≡ plan7 s t k
+    pub made7 : (s t : Site) (k : ℕ) → c ≡ tail_by t (s.stop - s.start) → d ≡ cut_by (t.tail - t.start) → a ≡ cut_by k → Next (record { u = c; v = d; mark = a }) ≡ plan7 s t k
     unfolding plan7
     made7 s t k e f g = rw (e, f, g)
 

@@ -1,13 +1,14 @@
 // What plans are made of: the changes of one word, the plans that two sites give by their positions alone, and what is read to cut equal ends.
-// A word is two slices, a head part and what follows it.
+// A word is a `Joined`: a head part, and what follows it.
 #![tactic(auto)]
 
-ghost use Rattle.std.specs.Prelude.{◌≡◌, ◌++◌};
+ghost use Rattle.std.specs.Prelude.{◌≡◌};
 ghost use Rattle.sites.specs.Sites.{SiteInText, SitesInText};
 ghost use Rattle.changes.specs.Asked.{BackRoom, AgreeBack, SitesUpwards, TailHas, SitesHave};
 ghost use Rattle.changes.specs.Changes.{cut_by, tail_by, put_both, mark_after, plan6, plan7, shared_suffix, rest_at, plan8};
+ghost use Rattle.joined.specs.Words.{word_of};
 
-use numbers::smaller;
+use joined::Joined;
 use sites::Site;
 
 // The next word is text[from..to], and then the old word without its first `cut` letters.
@@ -18,14 +19,23 @@ pub struct Change {
     pub cut: usize,
 }
 
-// The end, with 'same' for true, or the changes of u, v and the front mark p.
+// The changes of u, v and the front mark p.
 #[derive(Clone, Copy)]
-pub enum Plan {
+pub struct Changes {
+    pub u: Change,
+    pub v: Change,
+    pub mark: Change,
+}
+
+// One round: its end, with 'same' for true, or what it goes on with. Of `Changes` this is the plan of a round.
+#[derive(Clone, Copy)]
+pub enum Round<T> {
     End(bool),
-    Go(Change, Change, Change),
+    Next(T),
 }
 
 // Only cuts n letters.
+#[tactic(auto, using(crate::proofs::Laws::changes_made))]
 pub fn cut_by(n: usize) -> Change
     ensures { result ≡ cut_by n }
 {
@@ -37,6 +47,7 @@ pub fn cut_by(n: usize) -> Change
 }
 
 // Puts the Z at s in the place of n letters.
+#[tactic(auto, using(crate::proofs::Laws::changes_made))]
 fn put_tail(s: Site, n: usize) -> Change
     ensures { result ≡ tail_by s n }
 {
@@ -48,13 +59,19 @@ fn put_tail(s: Site, n: usize) -> Change
 }
 
 // The tail at z takes the place of m letters of u and of l letters of v.
-pub fn put_both(m: usize, z: Site, l: usize, k: usize) -> Plan
+#[tactic(auto, using(crate::proofs::Laws::mades))]
+pub fn put_both(m: usize, z: Site, l: usize, k: usize) -> Round<Changes>
     ensures { result ≡ put_both m z l k }
 {
-    Plan::Go(put_tail(z, m), put_tail(z, l), cut_by(k))
+    Round::Next(Changes {
+        u: put_tail(z, m),
+        v: put_tail(z, l),
+        mark: cut_by(k),
+    })
 }
 
 // The front mark after row 5.
+#[tactic(auto, using(crate::proofs::Laws::afters))]
 pub fn mark_after(text: &[u16], s: Site, p: &[u16]) -> Change
     requires { SiteInText text.now s }
     ensures { result ≡ mark_after text.now s p.now }
@@ -66,23 +83,29 @@ pub fn mark_after(text: &[u16], s: Site, p: &[u16]) -> Change
 }
 
 // Row 6.
-pub fn put_on_v(s: Site, t: Site, k: usize) -> Plan
+#[tactic(auto, using(crate::proofs::Laws::mades))]
+pub fn put_on_v(s: Site, t: Site, k: usize) -> Round<Changes>
     requires { SitesUpwards s t }
     ensures { result ≡ plan6 s t k }
 {
-    let c = cut_by(s.tail - s.start);
-    let z = put_tail(s, t.stop - t.start);
-    Plan::Go(c, z, cut_by(k))
+    Round::Next(Changes {
+        u: cut_by(s.tail - s.start),
+        v: put_tail(s, t.stop - t.start),
+        mark: cut_by(k),
+    })
 }
 
 // Row 7.
-pub fn put_on_u(s: Site, t: Site, k: usize) -> Plan
+#[tactic(auto, using(crate::proofs::Laws::mades))]
+pub fn put_on_u(s: Site, t: Site, k: usize) -> Round<Changes>
     requires { SitesUpwards s t }
     ensures { result ≡ plan7 s t k }
 {
-    let z = put_tail(t, s.stop - s.start);
-    let c = cut_by(t.tail - t.start);
-    Plan::Go(z, c, cut_by(k))
+    Round::Next(Changes {
+        u: put_tail(t, s.stop - s.start),
+        v: cut_by(t.tail - t.start),
+        mark: cut_by(k),
+    })
 }
 
 // How many letters before x and before y agree, of at most `room`.
@@ -90,48 +113,46 @@ fn agree_back(text: &[u16], x: usize, y: usize, room: usize) -> usize
     requires { BackRoom text.now x y room }
     ensures { AgreeBack text.now x y room result }
 {
-    let mut l = 0;
-    while l < room {
+    for l in 0..room {
         if text[x - 1 - l] != text[y - 1 - l] {
             return l;
         }
-        l += 1;
     }
-    l
+    room
 }
 
 // How many letters of the Z at s and of the Z at t agree at their ends.
+#[tactic(auto, using(crate::proofs::CommonSuffixes::shared_suffixes))]
 pub fn common_suffix(text: &[u16], s: Site, t: Site) -> usize
     requires { SitesInText text.now s t }
     ensures { result ≡ shared_suffix text.now s t }
 {
-    let room = smaller(s.stop - s.tail, t.stop - t.tail);
+    let room = (s.stop - s.tail).min(t.stop - t.tail);
     agree_back(text, s.stop, t.stop, room)
 }
 
 // Whether Z without its last l letters follows X and Y.
-pub fn rest_at(text: &[u16], s: Site, l: usize, a: &[u16], b: &[u16]) -> bool
+#[tactic(auto, using(crate::proofs::Laws::rests))]
+pub fn rest_at(text: &[u16], s: Site, l: usize, word: &Joined) -> bool
     requires { TailHas text.now s l }
-    ensures { result ≡ rest_at text.now s l (a.now ++ b.now) }
+    ensures { result ≡ rest_at text.now s l (word_of word.now) }
 {
-    joined::begins(text, s.tail, s.stop - l, a, b, s.tail - s.start)
+    word.has_part_at(text, s.tail, s.stop - l, s.tail - s.start)
 }
 
 // Row 8, where it goes on.
-pub fn cut_heads(s: Site, t: Site, l: usize, k: usize) -> Plan
+pub fn cut_heads(s: Site, t: Site, l: usize, k: usize) -> Round<Changes>
     requires { SitesHave s t l }
     ensures { result ≡ plan8 s t l k }
 {
     let x = s.stop - l;
-    let c = cut_by(x - s.start);
-    let d = cut_by(t.stop - l - t.start);
-    Plan::Go(
-        c,
-        d,
-        Change {
+    Round::Next(Changes {
+        u: cut_by(x - s.start),
+        v: cut_by(t.stop - l - t.start),
+        mark: Change {
             from: x,
             to: s.stop,
             cut: k,
         },
-    )
+    })
 }

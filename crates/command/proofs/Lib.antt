@@ -1,2 +1,2 @@
--- The program's reading and writing stay within their buffers.
+-- The program's writing stays within its buffer.
 pub mod Laws

@@ -6,6 +6,7 @@ use mathlib.Core.Path.{◌≡◌, refl, sym, ap, ◌∙◌, subst}
 use native.Mathlib.Omega.{arith}
 use borrow.Author.Rules.{rules}
 use lib.ListN.{length, take}
+use Rattle.std.specs.Prelude.{Result, Ok, Err}
 use Rattle.words.specs.Words.{Word}
 use Rattle.overlap.proofs.Facts.{rigid_of_c4}
 use Rattle.congruence.specs.Rows.{Next, round}
@@ -16,20 +17,18 @@ use Rattle.layout.specs.Layout.{words_in}
 use Rattle.layout.specs.Families.{family_by}
 use Rattle.refusals.specs.declared.Refusal.{Refusal}
 use Rattle.refusals.specs.declared.Refusal.TheVariants.{Spent}
-use Rattle.asked.specs.declared.Given.{Given}
-use Rattle.asked.specs.declared.Given.TheVariants as Givens
 use Rattle.given.specs.Given.{Widened}
 use Rattle.asked.specs.Given.{given_of, pair_of}
 use Rattle.given.proofs.Laws.{fine_short, fine_both}
 use Rattle.limits.specs.Limits.{compared_most}
 use Rattle.moves.specs.declared.State.{State}
-use Rattle.moves.specs.declared.Move.{Move}
-use Rattle.moves.specs.declared.Move.TheVariants as Moves
+use Rattle.changes.specs.declared.Round.{Round}
+use Rattle.changes.specs.declared.Round.TheVariants as Rounds
 use Rattle.moves.specs.State.{placed_word, placed_mark, Fitting, StateReady, MoveFits, RoundMade}
 use Rattle.comparison.specs.declared.Progress.{Progress}
 use Rattle.comparison.specs.declared.Progress.TheVariants.{Ended, Paused}
 use Rattle.asked.specs.declared.Comparison.{Comparison}
-use Rattle.asked.specs.declared.Comparison.TheVariants.{Same, Different, Refused}
+use Rattle.asked.specs.declared.Comparison.TheVariants.{Same, Different}
 use Rattle.comparison.specs.Rounds.{MadeRounds, ended, paused, rounds_from, answered, rounds_of, Progressed}
 use Rattle.comparison.specs.Widening.{ReadyToWiden, Widenable}
 use Rattle.asked.specs.Comparing.{answer_of, comparison_of}
@@ -53,17 +52,23 @@ going_start text table n first second s budget p =
     record { poised = p; allowed = omega arith; same = rw e }
 
 module _ (text table : List ℕ) (n : ℕ) (first second : Word) (start : State) (budget : ℕ) (s : State) (done : ℕ) (g : Going text table n first second start budget s done)
-    (r : Move) (f : RoundMade text table n first second s r) where
+    (r : Round State) (f : RoundMade text table n first second s r) where
   -- whatever is left, an end ends it
-  end_of : (left : ℕ) (b : Bool) → r ≡ Moves.End b → ended b done ≡ state_rounds text table n first second left done s
+  end_of : (left : ℕ) (b : Bool) → r ≡ Rounds.End b → ended b done ≡ state_rounds text table n first second left done s
   unfolding rounds_from
   end_of zero b e = let q = rw e at f.same in rw (← q)
   end_of (suc left) b e = let q = rw e at f.same in rw (← q)
 
-  pub going_end : (b : Bool) → r ≡ Moves.End b → Progressed text table n first second start budget (Ended b done)
+  pub going_end : (b : Bool) → r ≡ Rounds.End b → Progressed text table n first second start budget (Ended b done)
   going_end b e = record { same = end_of (budget - done) b e ∙ sym g.same; stands = tt }
 
-  module _ (t : State) (e : r ≡ Moves.Next t) where
+  -- an end that is seen once all rounds are made
+  pub going_ended : (b : Bool) → r ≡ Rounds.End b → budget ≤ done → Progressed text table n first second start budget (Ended b budget)
+  going_ended b e h =
+      let z : done ≡ budget = omega (arith, h, g.allowed) in
+      subst (λ (k : ℕ). Progressed text table n first second start budget (Ended b k)) z (going_end b e)
+
+  module _ (t : State) (e : r ≡ Rounds.Next t) where
     due : go (placed_word text first t.u) (placed_word text second t.v) (placed_mark text t.mark) ≡ round (words_in text table n) (family_by table n) (placed_word text first s.u) (placed_word text second s.v) (placed_mark text s.mark)
     due = rw e at f.same
 
@@ -75,10 +80,15 @@ module _ (text table : List ℕ) (n : ℕ) (first second : Word) (start : State)
     unfolding rounds_from
     one_more left = rw (← due)
 
-    pub going_paused : budget ≤ done → Progressed text table n first second start budget (Paused s done)
-    going_paused h =
+    paused_now : budget ≤ done → Progressed text table n first second start budget (Paused s done)
+    paused_now h =
         let z : budget - done ≡ 0 = omega arith in
         record { same = paused_here ∙ sym (rw z at g.same); stands = g.poised.standing }
+
+    pub going_paused : budget ≤ done → Progressed text table n first second start budget (Paused s budget)
+    going_paused h =
+        let z : done ≡ budget = omega (arith, h, g.allowed) in
+        subst (λ (k : ℕ). Progressed text table n first second start budget (Paused s k)) z (paused_now h)
 
     pub going_more : done < budget → Going text table n first second start budget t (done + 1)
     going_more h =
@@ -89,7 +99,7 @@ module _ (text table : List ℕ) (n : ℕ) (first second : Word) (start : State)
           same = (rw z at g.same) ∙ one_more (budget - (done + 1));
         }
 
-pub ruleset goings = (going_start, going_end, going_paused, going_more, rules)
+pub ruleset goings = (going_start, going_end, going_ended, going_paused, going_more, rules)
 
 -- the rows' answer for two words, from the start
 pub whole_poised : (text table : List ℕ) (n : ℕ) (u v : Word) → Fitting text table n u v
@@ -125,15 +135,15 @@ module _ (text table : List ℕ) (n : ℕ) (u v : Word) (allowance : ℕ) (r : P
   told : compare_under (words_in text table n) (family_by table n) allowance u v ≡ answered (rounds_of text u v r)
   told = sym (ap answered d.same ∙ answered_rounds (words_in text table n) (family_by table n) allowance 0 u v [])
 
-  pub compared_same : (b : Bool) (k : ℕ) → r ≡ Ended b k → b ≡ true → Same k ≡ answer_of (words_in text table n) (family_by table n) u v allowance
+  pub compared_same : (b : Bool) (k : ℕ) → r ≡ Ended b k → b ≡ true → Ok (Same k) ≡ answer_of (words_in text table n) (family_by table n) u v allowance
   unfolding answer_of
   compared_same b k e f = sym (rw (told, e, f))
 
-  pub compared_different : (b : Bool) (k : ℕ) → r ≡ Ended b k → b ≡ false → Different k ≡ answer_of (words_in text table n) (family_by table n) u v allowance
+  pub compared_different : (b : Bool) (k : ℕ) → r ≡ Ended b k → b ≡ false → Ok (Different k) ≡ answer_of (words_in text table n) (family_by table n) u v allowance
   unfolding answer_of
   compared_different b k e f = sym (rw (told, e, f))
 
-  pub compared_spent : (s : State) (k : ℕ) → r ≡ Paused s k → Refused (Spent k) ≡ answer_of (words_in text table n) (family_by table n) u v allowance
+  pub compared_spent : (s : State) (k : ℕ) → r ≡ Paused s k → Err (Spent k) ≡ answer_of (words_in text table n) (family_by table n) u v allowance
   unfolding answer_of
   compared_spent s k e = sym (rw (told, e))
 
@@ -144,27 +154,27 @@ module _ (text table : List ℕ) (n : ℕ) (u v : Word) (a c a' c' : List ℕ) (
   pub widened_fitting : Fitting text table n (take (length u) a') (take (length v) c')
   widened_fitting = rw (x.same, y.same) w.fitting
 
-  pub widened_answer : (allowance : ℕ) (r : Comparison) → r ≡ answer_of (words_in text table n) (family_by table n) (take (length u) a') (take (length v) c') allowance
+  pub widened_answer : (allowance : ℕ) (r : Result Comparison Refusal) → r ≡ answer_of (words_in text table n) (family_by table n) (take (length u) a') (take (length v) c') allowance
       → r ≡ answer_of (words_in text table n) (family_by table n) u v allowance
   widened_answer allowance r e = rw (x.same, y.same) at e
 
 pub ruleset widenings = (widened_fitting, widened_answer, rules)
 
 -- given words
-module _ (text table : List ℕ) (n letters : ℕ) (u v : Word) (allowance : ℕ) (g : Given) (e : g ≡ pair_of letters u v) where
-  pub given_refused : (r : Refusal) → g ≡ Givens.Refused r → Refused r ≡ comparison_of letters (words_in text table n) (family_by table n) u v allowance
+module _ (text table : List ℕ) (n letters : ℕ) (u v : Word) (allowance : ℕ) (g : Result (Unit {0}) Refusal) (e : g ≡ pair_of letters u v) where
+  pub given_refused : (r : Refusal) → g ≡ Err r → Err r ≡ comparison_of letters (words_in text table n) (family_by table n) u v allowance
   unfolding comparison_of
   given_refused r f = rw (← e, f)
 
-  pub given_compared : (x : Comparison) → g ≡ Givens.Fine → x ≡ answer_of (words_in text table n) (family_by table n) u v allowance → x ≡ comparison_of letters (words_in text table n) (family_by table n) u v allowance
+  pub given_compared : (x : Result Comparison Refusal) → g ≡ Ok tt → x ≡ answer_of (words_in text table n) (family_by table n) u v allowance → x ≡ comparison_of letters (words_in text table n) (family_by table n) u v allowance
   unfolding comparison_of
   given_compared x f h = rw (← e, f) h
 
-pub given_widenable : (text table : List ℕ) (n letters : ℕ) (u v : Word) (a c : List ℕ) (g : Given) → ReadyToWiden text table n u v a c → g ≡ pair_of letters u v → g ≡ Givens.Fine
+pub given_widenable : (text table : List ℕ) (n letters : ℕ) (u v : Word) (a c : List ℕ) → ReadyToWiden text table n u v a c → Ok tt ≡ pair_of letters u v
     → Widenable text table n u v a c
 unfolding pair_of
-given_widenable text table n letters u v a c g r e f =
-    let b = fine_both (given_of 0 compared_most letters u) (given_of 1 compared_most letters v) (sym e ∙ f) in
+given_widenable text table n letters u v a c r e =
+    let b = fine_both (given_of 0 compared_most letters u) (given_of 1 compared_most letters v) (sym e) in
     let short_u = fine_short 0 compared_most letters u b.0 in
     let short_v = fine_short 1 compared_most letters v b.1 in
     record {

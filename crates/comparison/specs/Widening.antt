@@ -2,7 +2,8 @@
 use Rattle.std.specs.Prelude.{ℕ, ◌≤◌, List, length}
 use Rattle.words.specs.Words.{Word}
 use Rattle.limits.specs.Limits.{compared_most}
-use Rattle.moves.specs.State.{Ready, Fitting}
+use Rattle.moves.specs.State.{Fitting}
+use Rattle.layout.specs.Families.{Ready}
 
 -- two words within the limit, under a checked presentation, and two arrays that have room for them
 pub record Widenable (text table : List ℕ) (n : ℕ) (first second : Word) (a c : List ℕ) : Type 0 where

@@ -67,8 +67,8 @@ module _ (longest : List ℕ) (start n a : ℕ) (s : Tailing longest start n a) 
                 (λ g. s.none m (omega (arith, l, g, h)) u);
           }
 
-  pub tail_end : n ≤ a → a ≡ n - tail_by longest start (start + n)
-  tail_end h = tail_is (λ l. absurd (omega (arith, l, h)))
+  pub tail_end : n ≤ a → n ≡ n - tail_by longest start (start + n)
+  tail_end h = let e : n ≡ a = omega (arith, h, s.upto) in e ∙ tail_is (λ l. absurd (omega (arith, l, h)))
 
 pub ruleset tails = (tail_first, tail_asked, tail_found, tail_more, tail_end, rules)
 
@@ -116,24 +116,6 @@ module _ (longest table : List ℕ) (i : ℕ) (f : InTables longest table i) (s 
           omega (arith, c, h, g, b, t)
 
 pub ruleset ends = (cells_start, length_small, start_inside, start_short, x_short, x_here, tail_here, z_short, z_here, rules)
-
--- both are written, and the number of pieces
-module _ (longest table : List ℕ) (i : ℕ) where
-  pub second_inside : InTables longest table i → (x : ℕ) → z_start_cell i < length (set table (x_end_cell i) x)
-  second_inside f x = let r = f.room in let l = length-set table (x_end_cell i) x in omega (arith, r, l)
-
-  pub third_inside : InTables longest table i → (x z : ℕ) → pieces_cell i < length (set (set table (x_end_cell i) x) (z_start_cell i) z)
-  third_inside f x z =
-      let r = f.pieces in
-      let l = length-set table (x_end_cell i) x in
-      let m = length-set (set table (x_end_cell i) x) (z_start_cell i) z in
-      omega (arith, r, l, m)
-
-  pub word_cut : (x z p : ℕ) → x ≡ x_by longest table i → z ≡ z_by longest table i → p ≡ number_by longest table i
-      → set (set (set table (x_end_cell i) x) (z_start_cell i) z) (pieces_cell i) p ≡ cut_word longest table i
-  word_cut x z p d e g = rw (d, e, g)
-
-pub ruleset writing = (second_inside, third_inside, word_cut, rules)
 
 -- the loop over the words
 

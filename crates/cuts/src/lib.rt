@@ -10,22 +10,20 @@ ghost use Rattle.cuts.specs.Cutting.{Tail, tail_by, x_by, z_by, cut_word, CutBy}
 
 use layout::{Table, length_of, start_of};
 use loose::is_piece;
-use numbers::{narrow, wide};
 use products::number_of;
 
 // At which place of the word of n letters from `start` on the longest piece that ends it starts.
+#[tactic(auto, using(crate::proofs::Cutting::tails))]
 fn tail_start(longest: &[u8], start: usize, n: u8) -> u8
     requires { Tail longest.now start (start + n) × (n ≤ word_most) }
     ensures { result ≡ n - tail_by longest.now start (start + n) }
 {
-    let mut a = 0;
-    while a < n {
+    for a in 0..n {
         if is_piece(longest, start, a, n) {
             return a;
         }
-        a += 1;
     }
-    a
+    n
 }
 
 // Where place a of the word that starts at `start` is in the text.
@@ -33,10 +31,11 @@ fn position(start: usize, a: u8) -> u16
     requires { (a ≤ word_most) × (start ≤ text_room) }
     ensures { result ≡ start + a }
 {
-    narrow(start + wide(a))
+    (start + usize::from(a)) as u16
 }
 
 // X ends with the longest piece at the word's start, which the fence does not let go past the word's end.
+#[tactic(auto, using(crate::proofs::Cutting::ends))]
 fn x_end(longest: &[u8], table: &[u16], i: usize) -> u16
     requires { InTables longest.now table.now i }
     ensures { result ≡ x_by longest.now table.now i }
@@ -47,6 +46,7 @@ fn x_end(longest: &[u8], table: &[u16], i: usize) -> u16
 }
 
 // Z starts with the longest piece that ends the word.
+#[tactic(auto, using(crate::proofs::Cutting::ends))]
 fn z_start(longest: &[u8], table: &[u16], i: usize) -> u16
     requires { InTables longest.now table.now i }
     ensures { result ≡ z_by longest.now table.now i }
@@ -74,9 +74,7 @@ pub fn cut(longest: &[u8], table: &mut [u16], n: usize)
     requires { AllInTables longest.now table.old n }
     ensures { CutBy longest.now table.old n table.new }
 {
-    let mut i = 0;
-    while i < n {
+    for i in 0..n {
         cut_word(longest, table, i);
-        i += 1;
     }
 }

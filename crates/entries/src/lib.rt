@@ -8,60 +8,49 @@ ghost use Rattle.answers.specs.Answers.{of_verdict, of_round, of_comparison, of_
 ghost use Rattle.answers.specs.Entries.{check_of, SheetOutcome, sheet_of, RoundOutcome, round_of, WordOutcome, OutputOutcome, output_of};
 ghost use Rattle.answers.specs.Demands.{Compared, LeastAnswered};
 
-pub use answers::{Printed, Round, Verdict, WrittenWord};
 use asked::Comparison;
-use format::Reading;
-use layout::{Table, Text};
+use layout::{RelationWords, Table, Text};
 use loaded::{accepted_sheet, loaded_round};
 use placing::loaded_least;
 use program::Output;
 use refusals::Refusal;
+use rounds::{Lengths, Round};
 
 // Checks a book.
-pub fn check_book(book: &[u8]) -> Verdict
+#[tactic(auto, using(answers::proofs::Laws::checks))]
+pub fn check_book(book: &[u8]) -> Result<usize, Refusal>
     ensures { of_verdict result ≡ check_of book.now }
 {
     let mut text = [0u16; Text::ROOM];
     let mut table = [0u16; Table::ROOM];
-    let loaded = presentation::load(book, &mut text, &mut table);
-    match loaded {
-        Reading::Read(_, relations) => Verdict::Accepted(relations),
-        Reading::Refused(refusal) => Verdict::Refused(refusal),
-    }
+    let size = presentation::load(book, &mut text, &mut table)?;
+    Ok(size.relations)
 }
 
 // Writes the cut sheet of a book at the start of a lent buffer.
-pub fn cut_sheet(book: &[u8], sheet: &mut [u8]) -> Verdict
+#[tactic(auto, using(answers::proofs::Laws::cut_sheets))]
+pub fn cut_sheet(book: &[u8], sheet: &mut [u8]) -> Result<usize, Refusal>
     ensures { SheetOutcome.after (of_verdict result) sheet.new ≡ sheet_of book.now sheet.old }
 {
     let mut text = [0u16; Text::ROOM];
     let mut table = [0u16; Table::ROOM];
-    let loaded = presentation::load(book, &mut text, &mut table);
-    match loaded {
-        Reading::Read(_, relations) => accepted_sheet(&table, relations, sheet),
-        Reading::Refused(refusal) => Verdict::Refused(refusal),
-    }
+    let size = presentation::load(book, &mut text, &mut table)?;
+    accepted_sheet(&table, size.relations, sheet)
 }
 
 // Compares two words under a book, with an allowance of rounds.
-pub fn compare(book: &[u8], u: &[u8], v: &[u8], allowance: u32) -> Comparison
+pub fn compare(book: &[u8], u: &[u8], v: &[u8], allowance: u32) -> Result<Comparison, Refusal>
     ensures { Compared book.now u.now v.now allowance (of_comparison result) }
 {
     let mut text = [0u16; Text::ROOM];
     let mut table = [0u16; Table::ROOM];
-    let loaded = presentation::load(book, &mut text, &mut table);
-    match loaded {
-        Reading::Read(letters, _) => comparison::compare_once(
-            &text,
-            &table,
-            layout::count_of(&table),
-            letters,
-            u,
-            v,
-            allowance,
-        ),
-        Reading::Refused(refusal) => Comparison::Refused(refusal),
-    }
+    let size = presentation::load(book, &mut text, &mut table)?;
+    let words = RelationWords {
+        text: &text,
+        table: &table,
+        n: layout::count_of(&table),
+    };
+    comparison::compare_once(&words, size.letters, u, v, allowance)
 }
 
 // Makes one round from u, v and the front mark p, and writes the next ones at the starts of three lent buffers.
@@ -73,56 +62,42 @@ pub fn single_round(
     nu: &mut [u8],
     nv: &mut [u8],
     np: &mut [u8],
-) -> Round
+) -> Result<Round<Lengths>, Refusal>
     ensures { RoundOutcome.after (of_round result) nu.new nv.new np.new ≡ round_of book.now u.now v.now p.now nu.old nv.old np.old }
 {
     let mut text = [0u16; Text::ROOM];
     let mut table = [0u16; Table::ROOM];
-    let loaded = presentation::load(book, &mut text, &mut table);
-    match loaded {
-        Reading::Read(letters, _) => loaded_round(
-            &text,
-            &table,
-            layout::count_of(&table),
-            letters,
-            u,
-            v,
-            p,
-            nu,
-            nv,
-            np,
-        ),
-        Reading::Refused(refusal) => Round::Refused(refusal),
-    }
+    let size = presentation::load(book, &mut text, &mut table)?;
+    let words = RelationWords {
+        text: &text,
+        table: &table,
+        n: layout::count_of(&table),
+    };
+    loaded_round(&words, size.letters, u, v, p, nu, nv, np)
 }
 
 // Writes the least word that is congruent to u into the part of a lent buffer from an offset on.
-pub fn least_word(book: &[u8], u: &[u8], buffer: &mut [u8], offset: usize) -> WrittenWord
+pub fn least_word(book: &[u8], u: &[u8], buffer: &mut [u8], offset: usize) -> Result<usize, Refusal>
     ensures { LeastAnswered book.now u.now buffer.old offset (WordOutcome.after (of_written_word result) buffer.new) }
 {
     let mut text = [0u16; Text::ROOM];
     let mut table = [0u16; Table::ROOM];
-    let loaded = presentation::load(book, &mut text, &mut table);
-    match loaded {
-        Reading::Read(letters, _) => loaded_least(
-            &text,
-            &table,
-            layout::count_of(&table),
-            letters,
-            u,
-            buffer,
-            offset,
-        ),
-        Reading::Refused(refusal) => WrittenWord::Refused(refusal),
-    }
+    let size = presentation::load(book, &mut text, &mut table)?;
+    let words = RelationWords {
+        text: &text,
+        table: &table,
+        n: layout::count_of(&table),
+    };
+    loaded_least(&words, size.letters, u, buffer, offset)
 }
 
 // Writes what the program of document 01 prints for an input at the start of a lent buffer, which must have room for the longest output of all.
-pub fn print_program(input: &[u8], out: &mut [u8]) -> Printed
+#[tactic(auto, using(answers::proofs::Laws::prints))]
+pub fn print_program(input: &[u8], out: &mut [u8]) -> Result<usize, Refusal>
     ensures { OutputOutcome.after (of_printed result) out.new ≡ output_of input.now out.old }
 {
     if out.len() < Output::MOST {
-        return Printed::Refused(Refusal::Narrow(0));
+        return Err(Refusal::Narrow(0));
     }
-    Printed::Wrote(program::write_program(input, out))
+    Ok(program::write_program(input, out))
 }

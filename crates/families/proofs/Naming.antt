@@ -7,8 +7,9 @@ use native.Mathlib.Omega.{arith}
 use native.Mathlib.Decide.{ℕ_discrete}
 use borrow.Author.Rules.{rules}
 use borrow.Author.Tests.{eq-eqb, ne_eqb}
-use lib.ListN.{length, get_or, set, length-set}
+use lib.ListN.{length, set, length-set}
 use lib.Seq.{get_or-set_same, get_or-set_other, ext_get_or}
+use Rattle.std.proofs.lemmas.List.{set-get_or}
 use Rattle.words.specs.Families.{merged}
 use Rattle.words.proofs.Families.{renamed, length_merged, merged_at}
 use Rattle.layout.specs.Places.{words_most, family_from, family_cell, next_from, next_cell, first_from}
@@ -60,12 +61,6 @@ module _ (table₀ : List ℕ) (n i : ℕ) (table : List ℕ) (s : Starting tabl
 
 pub ruleset starts = (start_first, start_next, start_more, start_end, rules)
 
--- a cell that gets the number it has
-set_kept : (t : List ℕ) (p : ℕ) → set t p (get_or t p 0) ≡ t
-set_kept t p = ext_get_or 0 _ _ (length-set t p (get_or t p 0)) (λ k h. by_cases (ℕ_discrete k p)
-    (λ e. rw e (get_or-set_same t p (get_or t p 0) 0 (omega (arith, length-set t p (get_or t p 0), h, e))))
-    (λ e. get_or-set_other t p k (get_or t p 0) 0 e))
-
 -- one word goes over, or stays
 module _ (table : List ℕ) (i low high : ℕ) (a : Nameable table i low) where
   module _ (f : ℕ) (e : f ≡ family_at table i) where
@@ -73,7 +68,7 @@ module _ (table : List ℕ) (i low high : ℕ) (a : Nameable table i low) where
     name_changed h v d = rw (eq-eqb (family_at table i) high (sym e ∙ h), d)
 
     pub name_left : (f ≡ high → ⊥) → table ≡ renamed_at table i low high
-    name_left h = rw (ne_eqb (family_at table i) high (λ d. h (e ∙ d))) (sym (set_kept table (family_cell i)))
+    name_left h = rw (ne_eqb (family_at table i) high (λ d. h (e ∙ d))) (sym (set-get_or table (family_cell i) 0))
 
 pub ruleset names = (name_changed, name_left, rules)
 

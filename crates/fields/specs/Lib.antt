@@ -1,2 +1,2 @@
--- Positions in a line and in a buffer: the first bytes of one, and a place from another on.
+-- How many of the first bytes of a buffer are meant.
 pub mod Places

@@ -1,97 +1,74 @@
-// The text of a line: where its fields begin and end, the bytes and the numbers that they write, and bytes written in hexadecimal again. A field ends at a
-// space or at the line's end.
+// The fields of a text, with the bytes and the numbers that they write, and what a buffer is filled with before it is lent.
 #![tactic(auto)]
 
-ghost use Rattle.std.specs.Prelude.{◌≡◌, ◌≤◌, ◌<◌, length};
-ghost use Rattle.fields.specs.Places.{Behind, Filled};
+ghost use Rattle.std.specs.Prelude.{◌≡◌, ◌<◌, ◌↔◌, take, drop, All, IsTrue};
+ghost use Rattle.fields.specs.Places.{Filled};
 
-use limits::ComparisonRecord;
+// How many bytes the room of a field has, and that of a buffer which is lent.
+pub const ROOM: usize = 8192;
 
-// The position of a byte from a position on, or the end.
-pub fn find(s: &[u8], at: usize, b: u8) -> usize
-    requires { at ≤ length s.now }
-    ensures { Behind at result s.now }
-{
-    let mut i = at;
-    while i < s.len() {
-        if s[i] == b {
-            return i;
-        }
-        i += 1;
+// Room for the longest lines, records and least words: a least word has up to 262,144 letters.
+pub const LARGE: usize = 270336;
+
+// What a buffer is filled with before it is lent.
+pub const FILL: u8 = 0xaa;
+
+// A text whose fields have a byte between them.
+#[derive(Clone, Copy)]
+pub struct Fields<'a> {
+    text: &'a [u8],
+    between: u8,
+}
+
+impl<'a> Fields<'a> {
+    // Those of a text, by the byte between them: a space in a line, a colon in an operation on a held book.
+    pub fn new(text: &'a [u8], between: u8) -> Self {
+        Fields { text, between }
     }
-    i
-}
 
-// Where a field of a line begins, the fields counted from 0, or the line's end.
-fn field_start(line: &[u8], number: usize) -> usize
-    ensures { result ≤ length line.now }
-{
-    let mut at = 0;
-    let mut left = number;
-    while 0 < left {
-        let end = find(line, at, b' ');
-        if end == line.len() {
-            return end;
-        }
-        at = end + 1;
-        left -= 1;
+    // A field, the fields counted from 0. Where there are fewer, it has no bytes.
+    pub fn field(self, number: usize) -> &'a [u8] {
+        let between = self.between;
+        self.text
+            .split(|&byte| byte == between)
+            .nth(number)
+            .unwrap_or(&[])
     }
-    at
+
+    // Writes the bytes of a field at the start of a buffer, and answers how many.
+    pub fn put(self, number: usize, out: &mut [u8]) -> usize
+        ensures { Filled result out.new }
+    {
+        put_bytes(self.field(number), out)
+    }
+
+    // The number of a field.
+    pub fn number(self, number: usize) -> u32 {
+        decimal(self.field(number))
+    }
+
+    // The number of a field, at most a buffer's length.
+    pub fn lent(self, number: usize, buffer: &[u8]) -> usize
+        ensures { Filled result buffer.now }
+    {
+        buffer.len().min(self.number(number) as usize)
+    }
 }
 
-// Where a field of a line ends.
-pub fn field_end(line: &[u8], number: usize) -> usize
-    ensures { result ≤ length line.now }
-{
-    let start = field_start(line, number);
-    find(line, start, b' ')
-}
-
-// Writes the bytes of a field at the start of a buffer, and answers how many.
-pub fn put_field(line: &[u8], number: usize, out: &mut [u8]) -> usize
+// Writes the bytes of a hexadecimal text at the start of a buffer, as many as it has room for, and answers how many. A last digit with none behind it
+// writes nothing.
+fn put_bytes(text: &[u8], out: &mut [u8]) -> usize
     ensures { Filled result out.new }
 {
-    let start = field_start(line, number);
-    let end = find(line, start, b' ');
-    put_bytes(&line[start..end], out)
-}
-
-// The number of a field.
-pub fn number_field(line: &[u8], number: usize) -> u32 {
-    let start = field_start(line, number);
-    let end = find(line, start, b' ');
-    decimal(&line[start..end])
-}
-
-// The number of a field, at most a buffer's length.
-pub fn lent_field(line: &[u8], number: usize, buffer: &[u8]) -> usize
-    ensures { Filled result buffer.now }
-{
-    let n = number_field(line, number) as usize;
-    if buffer.len() < n {
-        return buffer.len();
+    for (byte, pair) in out.iter_mut().zip(text.chunks_exact(2)) {
+        *byte = 16 * digit(pair[0]) + digit(pair[1]);
     }
-    n
-}
-
-// Writes the bytes of a hexadecimal text at the start of a buffer, as many as it has room for, and answers how many.
-fn put_bytes(field: &[u8], out: &mut [u8]) -> usize
-    ensures { Filled result out.new }
-{
-    let mut i = 0;
-    let mut n = 0;
-    while 1 < field.len() - i {
-        if n == out.len() {
-            return n;
-        }
-        out[n] = 16 * digit(field[i]) + digit(field[i + 1]);
-        n += 1;
-        i += 2;
-    }
-    n
+    out.len().min(text.len() / 2)
 }
 
 // The value of a hexadecimal digit.
+// Kept: a case's answer must not change. Here `A` to `F` count 0, as every byte does that is no digit; `to_digit` takes them for digits, and
+// `from_str_radix` refuses a text that has any other byte.
 fn digit(c: u8) -> u8
     ensures { result < 16 }
 {
@@ -102,184 +79,31 @@ fn digit(c: u8) -> u8
     }
 }
 
-// The value of a decimal text, at most the largest allowance, which is the largest number of four bytes.
-fn decimal(field: &[u8]) -> u32 {
-    let mut n = 0u64;
-    let mut i = 0;
-    while i < field.len() {
-        n = least(
-            10 * n + digit(field[i]) as u64,
-            ComparisonRecord::ALLOWANCE as u64,
-        );
-        i += 1;
-    }
-    n as u32
+// The value of a decimal text, at most the largest number of four bytes.
+// Kept: a case's answer must not change. `parse` refuses a text whose number is larger, or that has a byte which is no decimal digit.
+fn decimal(text: &[u8]) -> u32 {
+    text.iter().fold(0u32, |value, &c| {
+        value.saturating_mul(10).saturating_add(u32::from(digit(c)))
+    })
 }
 
-fn least(a: u64, b: u64) -> u64
-    ensures { result ≤ b }
+// The first bytes of a buffer, or all that it has where it has fewer.
+pub fn front(buffer: &[u8], n: usize) -> &[u8]
+    ensures { result.now ≡ take n buffer.now }
 {
-    if a < b { a } else { b }
+    &buffer[..n.min(buffer.len())]
 }
 
-// Two texts are the same.
-pub fn is_word(a: &[u8], b: &[u8]) -> bool {
-    if a.len() != b.len() {
-        return false;
-    }
-    let mut i = 0;
-    while i < a.len() {
-        if a[i] != b[i] {
-            return false;
-        }
-        i += 1;
-    }
-    true
-}
-
-// Writes the first bytes of a buffer in hexadecimal at the start of another, as many as it has room for, and answers how long the text is.
-pub fn put_digits(bytes: &[u8], n: usize, out: &mut [u8]) -> usize
-    ensures { Filled result out.new }
+// The bytes of a buffer behind its first ones.
+pub fn behind(buffer: &[u8], n: usize) -> &[u8]
+    ensures { result.now ≡ drop n buffer.now }
 {
-    let mut i = 0;
-    let mut at = 0;
-    while i < bytes.len() {
-        if i == n {
-            return at;
-        }
-        if out.len() - at < 2 {
-            return at;
-        }
-        out[at] = glyph(bytes[i] / 16);
-        out[at + 1] = glyph(bytes[i] % 16);
-        at += 2;
-        i += 1;
-    }
-    at
+    &buffer[n.min(buffer.len())..]
 }
 
-// The hexadecimal digit of a value.
-fn glyph(value: u8) -> u8 {
-    match value {
-        0..=9 => b'0' + value,
-        10..=15 => b'a' - 10 + value,
-        _ => b'?',
-    }
-}
-
-// A buffer for the bytes of a field. The promise is the length alone, so that no proof counts the bytes.
-pub fn field_room() -> [u8; 8192]
-    ensures { 8192 ≡ length result }
+// The bytes are those that a buffer is filled with before it is lent.
+pub fn is_kept(bytes: &[u8]) -> bool
+    ensures { IsTrue result ↔ All (λ byte. byte ≡ FILL) bytes.now }
 {
-    [0; 8192]
-}
-
-// A buffer to be lent, filled with aa.
-pub fn lent_room() -> [u8; 8192]
-    ensures { 8192 ≡ length result }
-{
-    [0xaa; 8192]
-}
-
-// A larger buffer, filled with aa, for the longest lines, records and least words: a least word has up to 262,144 letters.
-pub fn large_room() -> [u8; 270336]
-    ensures { 270336 ≡ length result }
-{
-    [0xaa; 270336]
-}
-
-// The bytes of a buffer from a position on are aa.
-pub fn is_kept(buffer: &[u8], from: usize) -> bool {
-    let mut i = from;
-    while i < buffer.len() {
-        if buffer[i] != 0xaa {
-            return false;
-        }
-        i += 1;
-    }
-    true
-}
-
-// A position lies before an offset, or behind the first n from it on.
-fn is_outside(offset: usize, n: usize, i: usize) -> bool {
-    if i < offset {
-        return true;
-    }
-    n <= i - offset
-}
-
-// The bytes of a buffer are aa but for n of them from an offset on.
-pub fn is_kept_outside(buffer: &[u8], offset: usize, n: usize) -> bool {
-    let mut i = 0;
-    while i < buffer.len() {
-        if is_outside(offset, n, i) {
-            if buffer[i] != 0xaa {
-                return false;
-            }
-        }
-        i += 1;
-    }
-    true
-}
-
-// Moves a part of a buffer to its start, and answers how long it is.
-pub fn move_down(buffer: &mut [u8], from: usize, to: usize) -> usize
-    requires { to ≤ length buffer.old }
-    ensures { Filled result buffer.new }
-{
-    let mut i = 0;
-    let mut at = from;
-    while at < to {
-        buffer[i] = buffer[at];
-        i += 1;
-        at += 1;
-    }
-    i
-}
-
-// A space for a colon, and any other byte as it is.
-fn spaced(c: u8) -> u8 {
-    if c == b':' { b' ' } else { c }
-}
-
-// Writes a text with a space for each colon at the start of a buffer, as much of it as there is room for, and answers how long it is.
-pub fn put_spaced(text: &[u8], out: &mut [u8]) -> usize
-    ensures { Filled result out.new }
-{
-    let mut n = 0;
-    while n < text.len() {
-        if n == out.len() {
-            return n;
-        }
-        out[n] = spaced(text[n]);
-        n += 1;
-    }
-    n
-}
-
-// Copies a buffer to the start of another, as much of it as there is room for.
-pub fn copy(from: &[u8], to: &mut [u8]) {
-    let mut i = 0;
-    while i < from.len() {
-        if i == to.len() {
-            return;
-        }
-        to[i] = from[i];
-        i += 1;
-    }
-}
-
-// Two buffers of one length have the same bytes from a position on.
-pub fn is_same(a: &[u8], b: &[u8], from: usize) -> bool {
-    if a.len() != b.len() {
-        return false;
-    }
-    let mut i = from;
-    while i < a.len() {
-        if a[i] != b[i] {
-            return false;
-        }
-        i += 1;
-    }
-    true
+    bytes.iter().all(|&byte| byte == FILL)
 }

@@ -8,31 +8,29 @@ use lib.Dec.{leb, ltb}
 use lib.ListN.{length, drop, length-append, get_or-append, length-drop, drop_of_length-le}
 use lib.Seq.{get_or-append-add, drop-append-add, drop-append-le, take-append-le, take-append_seam}
 use borrow.Author.Tests.{lt-ltb, le-ltb, le-leb, lt-leb, ltb-true, ltb-false, leb-true, leb-false}
+use Rattle.std.specs.Prelude.{Option, Some, None, Result, Ok, Err}
 use Rattle.words.specs.Words.{part}
 use Rattle.words.specs.Relations.{Relation}
 use Rattle.limits.specs.declared.Record.{Record}
-use Rattle.limits.specs.declared.Record.TheVariants.{Whole, CutOff}
 use Rattle.limits.specs.Limits.{relation_kind, relations_most}
 use Rattle.refusals.specs.declared.Refusal.{Refusal}
 use Rattle.refusals.specs.declared.Refusal.TheVariants.{Short, Length}
-use Rattle.format.specs.declared.HeadReading.{HeadReading}
-use Rattle.format.specs.declared.HeadReading.TheVariants as Heads
-use Rattle.format.specs.declared.RelationReading.{RelationReading}
-use Rattle.format.specs.declared.RelationReading.TheVariants as Relations
+use Rattle.format.specs.declared.HeadFields.{HeadFields}
+use Rattle.format.specs.declared.RelationFields.{RelationFields}
 use Rattle.format.specs.Book.{Presentation, BookReading, adding, without, read, refused, byte, field, record_at, differs, head_at, fields_at, relation_at, addition_at, relation_in, on_head, on_relation, relations_from, read_book}
 use Rattle.format.specs.Bytes.{relation_bytes, RelationWithin, AreBytes, AdditionsRead}
 use Rattle.format.proofs.Readings.{passed, relation_or_refused, passed_whole, whole_at, relation_read, relation_within, fuel_suffices}
 use Rattle.format.proofs.Unique.{relation_lies, head_lies, relation_bytes_lem}
 
 -- a relation by its fields, where the checks before them pass
-relation_of_fields : (letters count place : ℕ) (book : List ℕ) (at kind from to : ℕ) (o : RelationReading) → record_at book at ≡ Whole kind from to
+relation_of_fields : (letters count place : ℕ) (book : List ℕ) (at kind from to : ℕ) (o : Result RelationFields Refusal) → record_at book at ≡ Some (record { kind = kind; from = from; to = to })
     → differs kind 2 ≡ false → leb 32 count ≡ false → fields_at letters place book from to ≡ o → relation_at letters count place book at ≡ o
 unfolding relation_at
 relation_of_fields letters count place book at kind from to o w k c f = rw (w, k, c) f
 
 -- an addition that was read is a relation that was read, and nothing lies behind its record
-pub addition_read : (letters count place : ℕ) (bytes : List ℕ) (left right to : ℕ) → addition_at letters count place bytes ≡ Relations.Read left right to
-    → (relation_at letters count place bytes 0 ≡ Relations.Read left right to) × (to ≡ length bytes)
+pub addition_read : (letters count place : ℕ) (bytes : List ℕ) (left right to : ℕ) → addition_at letters count place bytes ≡ Ok (record { left = left; right = right; end = to })
+    → (relation_at letters count place bytes 0 ≡ Ok (record { left = left; right = right; end = to })) × (to ≡ length bytes)
 unfolding addition_at
 addition_read letters count place bytes left right to e =
     let other = relation_or_refused left right to in
@@ -42,13 +40,13 @@ addition_read letters count place bytes left right to e =
     let c = passed (leb 32 count) _ _ _ (other _) b.1 in
     let d = passed (ltb a.2 (length bytes)) _ _ _ (other _) c.1 in
     let f = ltb-false a.2 (length bytes) d.0 in
-    let g = relation_of_fields letters count place bytes 0 a.0 a.1 a.2 (Relations.Read left right to) a.3 b.0 c.0 d.1 in
+    let g = relation_of_fields letters count place bytes 0 a.0 a.1 a.2 (Ok (record { left = left; right = right; end = to })) a.3 b.0 c.0 d.1 in
     let l = relation_lies letters count place bytes 0 left right to g in
     (g, omega (arith, w.end, w.fits, l.size))
 
 module _ (letters count place : ℕ) (bytes : List ℕ) (left right to : ℕ) where
   -- its bytes are those of what was read
-  pub addition_bytes : AreBytes bytes → addition_at letters count place bytes ≡ Relations.Read left right to → bytes ≡ relation_bytes (relation_in bytes left right to)
+  pub addition_bytes : AreBytes bytes → addition_at letters count place bytes ≡ Ok (record { left = left; right = right; end = to }) → bytes ≡ relation_bytes (relation_in bytes left right to)
   addition_bytes are e =
       let r = addition_read letters count place bytes left right to e in
       let b = relation_bytes_lem letters count place bytes 0 left right to are (relation_lies letters count place bytes 0 left right to r.0) in
@@ -56,37 +54,37 @@ module _ (letters count place : ℕ) (bytes : List ℕ) (left right to : ℕ) wh
       b ∙ rw (drop_of_length-le bytes h) (append-nil (relation_bytes (relation_in bytes left right to)))
 
   -- it is within the limits
-  pub addition_within : addition_at letters count place bytes ≡ Relations.Read left right to → RelationWithin letters (relation_in bytes left right to)
+  pub addition_within : addition_at letters count place bytes ≡ Ok (record { left = left; right = right; end = to }) → RelationWithin letters (relation_in bytes left right to)
   addition_within e =
       let r = addition_read letters count place bytes left right to e in
       relation_within letters count bytes 0 left right to (relation_read letters count place bytes 0 left right to r.0)
 
   -- and there is room for it
-  pub addition_few : addition_at letters count place bytes ≡ Relations.Read left right to → count < relations_most
+  pub addition_few : addition_at letters count place bytes ≡ Ok (record { left = left; right = right; end = to }) → count < relations_most
   addition_few e =
       let r = addition_read letters count place bytes left right to e in
       (relation_read letters count place bytes 0 left right to r.0).room
 
 -- where nothing lies behind its record, it is read as any relation
-addition_same : (letters count place : ℕ) (bytes : List ℕ) → ((kind from to : ℕ) → record_at bytes 0 ≡ Whole kind from to → to ≡ length bytes)
+addition_same : (letters count place : ℕ) (bytes : List ℕ) → ((kind from to : ℕ) → record_at bytes 0 ≡ Some (record { kind = kind; from = from; to = to }) → to ≡ length bytes)
     → addition_at letters count place bytes ≡ relation_at letters count place bytes 0
 unfolding addition_at relation_at
 addition_same letters count place bytes f = go (record_at bytes 0) refl
   where
-    go : (o : Record) → record_at bytes 0 ≡ o → addition_at letters count place bytes ≡ relation_at letters count place bytes 0
-    go CutOff q = rw q
-    go (Whole kind from to) q = let e = f kind from to q in rw (q, le-ltb to (length bytes) (omega arith))
+    go : (o : Option Record) → record_at bytes 0 ≡ o → addition_at letters count place bytes ≡ relation_at letters count place bytes 0
+    go None q = rw q
+    go (Some whole) q = let e = f whole.kind whole.from whole.to q in rw (q, le-ltb whole.to (length bytes) (omega arith))
 
 -- a record, and what is read of it, so many places further on
-abbrev moved_record : ℕ → Record → Record
-moved_record n CutOff = CutOff
-moved_record n (Whole kind from to) = Whole kind (n + from) (n + to)
+abbrev moved_record : ℕ → Option Record → Option Record
+moved_record n None = None
+moved_record n (Some whole) = Some (record { kind = whole.kind; from = n + whole.from; to = n + whole.to })
 
-abbrev moved : ℕ → RelationReading → RelationReading
-moved n (Relations.Refused r) = Relations.Refused r
-moved n (Relations.Read left right to) = Relations.Read (n + left) (n + right) (n + to)
+abbrev moved : ℕ → Result RelationFields Refusal → Result RelationFields Refusal
+moved n (Err r) = Err r
+moved n (Ok fields) = Ok (record { left = n + fields.left; right = n + fields.right; end = n + fields.end })
 
-moved_cond : (n : ℕ) (b : Bool) (x y : RelationReading) → moved n (cond b x y) ≡ cond b (moved n x) (moved n y)
+moved_cond : (n : ℕ) (b : Bool) (x y : Result RelationFields Refusal) → moved n (cond b x y) ≡ cond b (moved n x) (moved n y)
 moved_cond n true x y = refl
 moved_cond n false x y = refl
 
@@ -160,9 +158,9 @@ module _ (pre s : List ℕ) where
   unfolding relation_at
   relation_moved letters count place at = go (record_at s at) refl
     where
-      go : (o : Record) → record_at s at ≡ o → relation_at letters count place (pre ++ s) (length pre + at) ≡ moved (length pre) (relation_at letters count place s at)
-      go CutOff q = rw (record_moved at, q)
-      go (Whole kind from to) q = rw (record_moved at, q, fields_moved letters place from to) (simp moved_cond)
+      go : (o : Option Record) → record_at s at ≡ o → relation_at letters count place (pre ++ s) (length pre + at) ≡ moved (length pre) (relation_at letters count place s at)
+      go None q = rw (record_moved at, q)
+      go (Some whole) q = rw (record_moved at, q, fields_moved letters place whole.from whole.to) (simp moved_cond)
 
 -- bytes behind a record change nothing
 module _ (s t : List ℕ) where
@@ -178,7 +176,7 @@ module _ (s t : List ℕ) where
   relation_stays_in : (left right to : ℕ) → left ≤ right → right ≤ to → to ≤ length s → relation_in (s ++ t) left right to ≡ relation_in s left right to
   relation_stays_in left right to h k l = rw (part_stays left right h (omega arith), part_stays right to k l)
 
-  record_stays : (at kind from to : ℕ) → record_at s at ≡ Whole kind from to → record_at (s ++ t) at ≡ Whole kind from to
+  record_stays : (at kind from to : ℕ) → record_at s at ≡ Some (record { kind = kind; from = from; to = to }) → record_at (s ++ t) at ≡ Some (record { kind = kind; from = from; to = to })
   unfolding record_at
   record_stays at kind from to e =
       let w = whole_at s at kind from to e in
@@ -199,16 +197,16 @@ module _ (s t : List ℕ) where
   unfolding fields_at
   fields_stay letters place from to h k = rw (byte_stays from (omega arith), byte_stays (from + 1) (omega arith), part_stays (from + 2) to h k)
 
-  relation_stays : (letters count place at left right to : ℕ) → relation_at letters count place s at ≡ Relations.Read left right to
-      → relation_at letters count place (s ++ t) at ≡ Relations.Read left right to
+  relation_stays : (letters count place at left right to : ℕ) → relation_at letters count place s at ≡ Ok (record { left = left; right = right; end = to })
+      → relation_at letters count place (s ++ t) at ≡ Ok (record { left = left; right = right; end = to })
   relation_stays letters count place at left right to e =
       let l = relation_lies letters count place s at left right to e in
       let h = l.end in
       let c = lt-leb 32 count l.room in
-      relation_of_fields letters count place (s ++ t) at 2 (at + 4) to (Relations.Read left right to) (record_stays at 2 (at + 4) to l.whole) refl c
+      relation_of_fields letters count place (s ++ t) at 2 (at + 4) to (Ok (record { left = left; right = right; end = to })) (record_stays at 2 (at + 4) to l.whole) refl c
       (fields_stay letters place (at + 4) to (omega arith) l.fits ∙ l.fields)
 
-  head_stays : (most place letters to : ℕ) → head_at most place s 0 ≡ Heads.Read letters to → head_at most place (s ++ t) 0 ≡ Heads.Read letters to
+  head_stays : (most place letters to : ℕ) → head_at most place s 0 ≡ Ok (record { letters = letters; end = to }) → head_at most place (s ++ t) 0 ≡ Ok (record { letters = letters; end = to })
   unfolding head_at
   head_stays most place letters to e =
       let l = head_lies most place s letters to e in
@@ -222,7 +220,7 @@ all_read zero presentation book at h = refl
 all_read (suc fuel) presentation book at h = rw (le-leb (length book) at h)
 
 -- where something is, the next relation is read
-one_read : (fuel : ℕ) (presentation : Presentation) (book : List ℕ) (at : ℕ) (o : RelationReading) → at < length book
+one_read : (fuel : ℕ) (presentation : Presentation) (book : List ℕ) (at : ℕ) (o : Result RelationFields Refusal) → at < length book
     → relation_at presentation.letters (length presentation.relations) at book at ≡ o
     → relations_from (suc fuel) presentation book at ≡ on_relation o (λ left right to. relations_from fuel (adding presentation (relation_in book left right to)) book to)
 unfolding relations_from
@@ -239,7 +237,7 @@ end_stays larger presentation book bytes at last h m e =
 
 -- one step of reading a book with bytes behind it
 step_stays : (larger : ℕ) (presentation : Presentation) (book bytes : List ℕ) (at left right to : ℕ) (o : BookReading) → at < length book
-    → length book + length bytes ≤ at + larger → relation_at presentation.letters (length presentation.relations) at book at ≡ Relations.Read left right to
+    → length book + length bytes ≤ at + larger → relation_at presentation.letters (length presentation.relations) at book at ≡ Ok (record { left = left; right = right; end = to })
     → ((larger : ℕ) → length book + length bytes ≤ to + larger → relations_from larger (adding presentation (relation_in book left right to)) (book ++ bytes) to ≡ o)
     → relations_from larger presentation (book ++ bytes) at ≡ o
 step_stays zero presentation book bytes at left right to o h m e f = absurd (omega arith)
@@ -249,7 +247,7 @@ step_stays (suc larger) presentation book bytes at left right to o h m e f =
     let l = relation_lies letters count at book at left right to e in
     let a = relation_stays book bytes letters count at at left right to e in
     let b = relation_stays_in book bytes left right to (omega arith) (omega arith) l.fits in
-    one_read larger presentation (book ++ bytes) at (Relations.Read left right to) (omega (arith, length-append book bytes)) a ∙ rw b (f larger (omega arith))
+    one_read larger presentation (book ++ bytes) at (Ok (record { left = left; right = right; end = to })) (omega (arith, length-append book bytes)) a ∙ rw b (f larger (omega arith))
 
 -- a book that is read, with bytes behind it: what is left to read are those
 from_stays : (fuel larger : ℕ) (presentation : Presentation) (book bytes : List ℕ) (at : ℕ) (last : Presentation) → at ≤ length book → length book ≤ at + fuel
@@ -261,36 +259,36 @@ from_stays (suc fuel) larger presentation book bytes at last h k m e =
     go (leb (length book) at) (relation_at presentation.letters (length presentation.relations) at book at) refl refl e (λ left right to larger.
     from_stays fuel larger (adding presentation (relation_in book left right to)) book bytes to last)
   where
-    go : (b : Bool) (o : RelationReading) → leb (length book) at ≡ b → relation_at presentation.letters (length presentation.relations) at book at ≡ o
+    go : (b : Bool) (o : Result RelationFields Refusal) → leb (length book) at ≡ b → relation_at presentation.letters (length presentation.relations) at book at ≡ o
         → cond b (read presentation) (on_relation o (λ left right to. relations_from fuel (adding presentation (relation_in book left right to)) book to)) ≡ read last
         → ((left right to larger : ℕ) → to ≤ length book → length book ≤ to + fuel → length book + length bytes ≤ to + larger
         → relations_from fuel (adding presentation (relation_in book left right to)) book to ≡ read last
         → relations_from larger (adding presentation (relation_in book left right to)) (book ++ bytes) to ≡ relations_from (length bytes) last (book ++ bytes) (length book))
         → relations_from larger presentation (book ++ bytes) at ≡ relations_from (length bytes) last (book ++ bytes) (length book)
     go true o p q e f = let g = leb-true (length book) at p in end_stays larger presentation book bytes at last (omega arith) m e
-    go false (Relations.Refused x) p q e f = absurd (let z : ◌≡◌ {A = ℕ} 0 1 = cc in omega arith)
-    go false (Relations.Read left right to) p q e f =
-        let l = relation_lies presentation.letters (length presentation.relations) at book at left right to q in
-        step_stays larger presentation book bytes at left right to _ (leb-false (length book) at p) m q (λ larger n.
-        f left right to larger l.fits (omega arith) n e)
+    go false (Err x) p q e f = absurd (let z : ◌≡◌ {A = ℕ} 0 1 = cc in omega arith)
+    go false (Ok fields) p q e f =
+        let l = relation_lies presentation.letters (length presentation.relations) at book at fields.left fields.right fields.end q in
+        step_stays larger presentation book bytes at fields.left fields.right fields.end _ (leb-false (length book) at p) m q (λ larger n.
+        f fields.left fields.right fields.end larger l.fits (omega arith) n e)
 
 book_stays : (book bytes : List ℕ) (presentation : Presentation) → read_book book ≡ read presentation
     → read_book (book ++ bytes) ≡ relations_from (length bytes) presentation (book ++ bytes) (length book)
 unfolding read_book
 book_stays book bytes presentation e = go (head_at 64 0 book 0) refl e
   where
-    go : (o : HeadReading) → head_at 64 0 book 0 ≡ o
+    go : (o : Result HeadFields Refusal) → head_at 64 0 book 0 ≡ o
         → on_head o (λ letters to. relations_from (length book) (record { letters = letters; relations = [] }) book to) ≡ read presentation
         → read_book (book ++ bytes) ≡ relations_from (length bytes) presentation (book ++ bytes) (length book)
-    go (Heads.Refused x) q e = absurd (let z : ◌≡◌ {A = ℕ} 0 1 = cc in omega arith)
-    go (Heads.Read letters to) q e =
-        let l = head_lies 64 0 book letters to q in
-        rw (head_stays book bytes 64 0 letters to q)
-        (from_stays (length book) (length (book ++ bytes)) (record { letters = letters; relations = [] }) book bytes to presentation
+    go (Err x) q e = absurd (let z : ◌≡◌ {A = ℕ} 0 1 = cc in omega arith)
+    go (Ok fields) q e =
+        let l = head_lies 64 0 book fields.letters fields.end q in
+        rw (head_stays book bytes 64 0 fields.letters fields.end q)
+        (from_stays (length book) (length (book ++ bytes)) (record { letters = fields.letters; relations = [] }) book bytes fields.end presentation
         (omega arith) (omega arith) (omega (arith, length-append book bytes)) e)
 
 -- the relation behind the book is read as it is by itself
-end_read : (book : List ℕ) (x : ℕ) (xs : List ℕ) (presentation : Presentation) (o : RelationReading)
+end_read : (book : List ℕ) (x : ℕ) (xs : List ℕ) (presentation : Presentation) (o : Result RelationFields Refusal)
     → relation_at presentation.letters (length presentation.relations) (length book) (x ∷ xs) 0 ≡ o
     → relations_from (suc (length xs)) presentation (book ++ (x ∷ xs)) (length book)
     ≡ on_relation (moved (length book) o) (λ left right to. relations_from (length xs) (adding presentation (relation_in (book ++ (x ∷ xs)) left right to)) (book ++ (x ∷ xs)) to)
@@ -304,7 +302,7 @@ end_read book x xs presentation o e =
 
 -- what is read is the next relation
 next_read : (book bytes : List ℕ) (presentation : Presentation) (left right to : ℕ) → read_book book ≡ read presentation
-    → addition_at presentation.letters (length presentation.relations) (length book) bytes ≡ Relations.Read left right to
+    → addition_at presentation.letters (length presentation.relations) (length book) bytes ≡ Ok (record { left = left; right = right; end = to })
     → read_book (book ++ bytes) ≡ read (adding presentation (relation_in bytes left right to))
 next_read book [] presentation left right to e f =
     let r = addition_read presentation.letters (length presentation.relations) (length book) [] left right to f in
@@ -319,26 +317,26 @@ next_read book (x ∷ xs) presentation left right to e f =
     let c : relation_in (book ++ bytes) (n + left) (n + right) (n + to) ≡ relation_in bytes left right to = rw (a, b) in
     let d = all_read (length xs) (adding presentation (relation_in (book ++ bytes) (n + left) (n + right) (n + to))) (book ++ bytes) (n + to)
     (omega (arith, length-append book bytes, r.1)) in
-    book_stays book bytes presentation e ∙ end_read book x xs presentation (Relations.Read left right to) r.0 ∙ d ∙ ap (λ (t : Relation). read (adding presentation t)) c
+    book_stays book bytes presentation e ∙ end_read book x xs presentation (Ok (record { left = left; right = right; end = to })) r.0 ∙ d ∙ ap (λ (t : Relation). read (adding presentation t)) c
 
 -- what is refused is refused there
 next_refused : (book bytes : List ℕ) (presentation : Presentation) (r : Refusal) → read_book book ≡ read presentation
-    → addition_at presentation.letters (length presentation.relations) (length book) bytes ≡ Relations.Refused r
-    → 1 ≤ length bytes → ((kind from to : ℕ) → record_at bytes 0 ≡ Whole kind from to → to ≡ length bytes)
+    → addition_at presentation.letters (length presentation.relations) (length book) bytes ≡ Err r
+    → 1 ≤ length bytes → ((kind from to : ℕ) → record_at bytes 0 ≡ Some (record { kind = kind; from = from; to = to }) → to ≡ length bytes)
     → read_book (book ++ bytes) ≡ refused r
 next_refused book [] presentation r e f h k = absurd (omega arith)
 next_refused book (x ∷ xs) presentation r e f h k =
     let s = addition_same presentation.letters (length presentation.relations) (length book) (x ∷ xs) k in
-    book_stays book (x ∷ xs) presentation e ∙ end_read book x xs presentation (Relations.Refused r) (sym s ∙ f)
+    book_stays book (x ∷ xs) presentation e ∙ end_read book x xs presentation (Err r) (sym s ∙ f)
 
 -- bytes behind a relation's record are 3
-addition_behind : (letters count place : ℕ) (bytes : List ℕ) (from to : ℕ) → record_at bytes 0 ≡ Whole relation_kind from to → count < relations_most → to < length bytes
-    → addition_at letters count place bytes ≡ Relations.Refused (Length place)
+addition_behind : (letters count place : ℕ) (bytes : List ℕ) (from to : ℕ) → record_at bytes 0 ≡ Some (record { kind = relation_kind; from = from; to = to }) → count < relations_most → to < length bytes
+    → addition_at letters count place bytes ≡ Err (Length place)
 unfolding addition_at
 addition_behind letters count place bytes from to w h l = rw (w, lt-leb 32 count h, lt-ltb to (length bytes) l)
 
 -- no bytes are 1
-addition_none : (letters count place : ℕ) → addition_at letters count place [] ≡ Relations.Refused (Short place)
+addition_none : (letters count place : ℕ) → addition_at letters count place [] ≡ Err (Short place)
 unfolding addition_at record_at
 addition_none letters count place = refl
 

@@ -7,15 +7,13 @@ use native.Mathlib.Omega.{arith}
 use lib.ListN.{length, drop, length-append}
 use lib.Seq.{get_or-append-add, drop-append-add, drop-append_seam, take_at}
 use borrow.Author.Tests.{eq-eqb, le-ltb, le-leb, lt-leb}
+use Rattle.std.specs.Prelude.{Some, Ok}
 use Rattle.words.specs.Words.{part}
 use Rattle.words.specs.Relations.{Relation}
-use Rattle.limits.specs.declared.Record.TheVariants.{Whole}
 use Rattle.limits.specs.Limits.{letters_most, relations_most, outside}
 use Rattle.words.specs.Letters.{unknown_in}
 use Rattle.words.specs.Letters.{first_unknown}
 use Rattle.letters.proofs.Letters.{of_known, unknown_append}
-use Rattle.format.specs.declared.HeadReading.TheVariants as Heads
-use Rattle.format.specs.declared.RelationReading.TheVariants as Relations
 use Rattle.format.specs.Book.{read, byte, field, record_at, differs, head_at, fields_at, relation_at, relation_in, relations_from, read_book}
 use Rattle.format.specs.Bytes.{record_bytes, head_bytes, relation_bytes, relations_bytes, book_bytes, RelationWithin, AllWithin, none, more, ReadBytes}
 
@@ -48,7 +46,7 @@ module _ (pre : List ℕ) (kind : ℕ) (payload rest book : List ℕ) (e : book 
   record_length : length book ≡ length pre + 4 + length payload + length rest
   record_length = rw (e, length-append pre (record_bytes kind payload ++ rest), length-append payload rest) (omega arith)
 
-  pub record_there : record_at book (length pre) ≡ Whole kind (length pre + 4) (length pre + 4 + length payload)
+  pub record_there : record_at book (length pre) ≡ Some (record { kind = kind; from = length pre + 4; to = length pre + 4 + length payload })
   unfolding record_at
   record_there =
       let l = record_length in
@@ -87,7 +85,7 @@ module _ (letters count : ℕ) (r : Relation) (w : RelationWithin letters r) (pr
       rw letters_part (le-ltb (first_unknown letters (r.left ++ r.right)) (length (r.left ++ r.right)) (omega arith))
 
   fields_there : (place : ℕ) → fields_at letters place book (length pre + 4) (length pre + 4 + length payload)
-      ≡ Relations.Read (length pre + 4 + 2) (length pre + 4 + 2 + length r.left) (length pre + 4 + length payload)
+      ≡ Ok (record { left = length pre + 4 + 2; right = length pre + 4 + 2 + length r.left; end = length pre + 4 + length payload })
   unfolding fields_at
   fields_there place =
       let l = length-append r.left r.right in
@@ -103,7 +101,7 @@ module _ (letters count : ℕ) (r : Relation) (w : RelationWithin letters r) (pr
       )
 
   pub relation_there : (place : ℕ) → count < relations_most → relation_at letters count place book (length pre)
-      ≡ Relations.Read (length pre + 4 + 2) (length pre + 4 + 2 + length r.left) (length pre + 4 + length payload)
+      ≡ Ok (record { left = length pre + 4 + 2; right = length pre + 4 + 2 + length r.left; end = length pre + 4 + length payload })
   unfolding relation_at
   relation_there place h = rw (record_there pre 2 payload rest book e, lt-leb 32 count h) (fields_there place)
 
@@ -143,7 +141,7 @@ from_bytes letters (suc fuel) done (r ∷ rs) pre book (more w all) h e f =
 
 -- the head
 head_there : (letters : ℕ) (rest book : List ℕ) → 1 ≤ letters → letters ≤ letters_most → book ≡ head_bytes letters ++ rest
-    → head_at letters_most 0 book 0 ≡ Heads.Read letters 5
+    → head_at letters_most 0 book 0 ≡ Ok (record { letters = letters; end = 5 })
 unfolding head_at
 head_there letters rest book h k e =
     let a = record_there [] 1 (letters ∷ []) rest book e in

@@ -2,26 +2,24 @@
 use Prim.Native.Nat.{ℕ, zero, suc, ◌+◌, ◌-◌, ◌≤◌, ◌<◌}
 use mathlib.Core.Bool.{Bool, true, false, ◌||◌, cond}
 use mathlib.Core.List.{List, [], ◌∷◌, ◌++◌}
-use mathlib.Core.Path.{◌≡◌, refl, sym, subst}
+use mathlib.Core.Path.{◌≡◌, refl, sym, ap, subst}
 use native.Mathlib.Omega.{arith}
 use lib.Dec.{eqb, leb, ltb}
 use lib.ListN.{length, get_or, length-append}
 use borrow.Author.Tests.{eqb-true, not-false, ltb-false, leb-false, le-leb}
+use Rattle.std.specs.Prelude.{Option, Some, None, Result, Ok, Err}
 use Rattle.words.specs.Words.{part}
 use Rattle.words.specs.Relations.{Relation}
 use Rattle.words.proofs.Tests.{or_neither}
 use Rattle.words.proofs.Parts.{part_length, part_at}
 use Rattle.limits.specs.declared.Record.{Record}
-use Rattle.limits.specs.declared.Record.TheVariants.{Whole, CutOff}
 use Rattle.limits.specs.Limits.{letters_most, relations_most, side_most, outside}
 use Rattle.refusals.specs.declared.Refusal.{Refusal}
 use Rattle.words.specs.Letters.{unknown_in}
 use Rattle.words.specs.Letters.{first_unknown}
 use Rattle.letters.proofs.Letters.{known_of}
-use Rattle.format.specs.declared.HeadReading.{HeadReading}
-use Rattle.format.specs.declared.HeadReading.TheVariants as Heads
-use Rattle.format.specs.declared.RelationReading.{RelationReading}
-use Rattle.format.specs.declared.RelationReading.TheVariants as Relations
+use Rattle.format.specs.declared.HeadFields.{HeadFields}
+use Rattle.format.specs.declared.RelationFields.{RelationFields}
 use Rattle.format.specs.Book.{Presentation, adding, read, byte, field, record_at, on_whole, differs, head_at, fields_at, relation_at, relation_in, on_head, on_relation, relations_from, read_book, FuelSuffices}
 use Rattle.format.specs.Bytes.{RelationWithin, AllWithin, none, more, Within, ReadWithin}
 
@@ -30,14 +28,27 @@ pub passed : {A : Type 0} (b : Bool) (stop x good : A) → (stop ≡ good → �
 passed true stop x good f e = absurd (f e)
 passed false stop x good f e = (refl, e)
 
-cut_or_whole : (kind from to : ℕ) → CutOff ≡ Whole kind from to → ⊥
+cut_or_whole : (kind from to : ℕ) → ◌≡◌ {A = Option Record} None (Some (record { kind = kind; from = from; to = to })) → ⊥
 cut_or_whole kind from to e = let z : ◌≡◌ {A = ℕ} 0 1 = cc in omega arith
 
-pub head_or_refused : (letters to : ℕ) (r : Refusal) → Heads.Refused r ≡ Heads.Read letters to → ⊥
+pub head_or_refused : (letters to : ℕ) (r : Refusal) → ◌≡◌ {A = Result HeadFields Refusal} (Err r) (Ok (record { letters = letters; end = to })) → ⊥
 head_or_refused letters to r e = let z : ◌≡◌ {A = ℕ} 0 1 = cc in omega arith
 
-pub relation_or_refused : (left right to : ℕ) (r : Refusal) → Relations.Refused r ≡ Relations.Read left right to → ⊥
+pub relation_or_refused : (left right to : ℕ) (r : Refusal) → ◌≡◌ {A = Result RelationFields Refusal} (Err r) (Ok (record { left = left; right = right; end = to })) → ⊥
 relation_or_refused left right to r e = let z : ◌≡◌ {A = ℕ} 0 1 = cc in omega arith
+
+-- records, and the fields that were read of them, are the same part by part
+pub whole_parts : (a b : Record) → ◌≡◌ {A = Option Record} (Some a) (Some b) → (a.kind ≡ b.kind) × (a.from ≡ b.from) × (a.to ≡ b.to)
+whole_parts a b e = let q : a ≡ b = cc in (ap (λ (r : Record). r.kind) q, ap (λ (r : Record). r.from) q, ap (λ (r : Record). r.to) q)
+
+pub head_parts : (a b : HeadFields) → ◌≡◌ {A = Result HeadFields Refusal} (Ok a) (Ok b) → (a.letters ≡ b.letters) × (a.end ≡ b.end)
+head_parts a b e = let q : a ≡ b = cc in (ap (λ (r : HeadFields). r.letters) q, ap (λ (r : HeadFields). r.end) q)
+
+pub relation_parts : (a b : RelationFields) → ◌≡◌ {A = Result RelationFields Refusal} (Ok a) (Ok b)
+    → (a.left ≡ b.left) × (a.right ≡ b.right) × (a.end ≡ b.end)
+relation_parts a b e =
+    let q : a ≡ b = cc in
+    (ap (λ (r : RelationFields). r.left) q, ap (λ (r : RelationFields). r.right) q, ap (λ (r : RelationFields). r.end) q)
 
 -- numbers that do not differ are equal
 pub equal_of : (m n : ℕ) → differs m n ≡ false → m ≡ n
@@ -53,19 +64,20 @@ pub record WholeAt (book : List ℕ) (at kind from to : ℕ) : Type 0 where
   pub end : to ≡ at + 4 + field book at
   pub fits : to ≤ length book
 
-pub whole_at : (book : List ℕ) (at kind from to : ℕ) → record_at book at ≡ Whole kind from to → WholeAt book at kind from to
+pub whole_at : (book : List ℕ) (at kind from to : ℕ) → record_at book at ≡ Some (record { kind = kind; from = from; to = to }) → WholeAt book at kind from to
 unfolding record_at
 whole_at book at kind from to e =
     let a = passed (ltb (length book) (at + 4)) _ _ _ (cut_or_whole kind from to) e in
     let b = passed (ltb (length book) (at + 4 + field book at)) _ _ _ (cut_or_whole kind from to) a.1 in
     let f = ltb-false (length book) (at + 4 + field book at) b.0 in
-    let g : to ≡ at + 4 + field book at = cc in
-    record { kinds = cc; start = cc; end = g; fits = omega arith }
+    let q = whole_parts _ _ b.1 in
+    let g : to ≡ at + 4 + field book at = sym q.2 in
+    record { kinds = sym q.0; start = sym q.1; end = g; fits = omega arith }
 
-pub passed_whole : {A : Type 0} (o : Record) (short : A) (next : ℕ → ℕ → ℕ → A) (good : A) → (short ≡ good → ⊥) → on_whole o short next ≡ good
-    → (kind : ℕ) × (from : ℕ) × (to : ℕ) × (o ≡ Whole kind from to) × (next kind from to ≡ good)
-passed_whole CutOff short next good f e = absurd (f e)
-passed_whole (Whole kind from to) short next good f e = (kind, from, to, refl, e)
+pub passed_whole : {A : Type 0} (o : Option Record) (short : A) (next : ℕ → ℕ → ℕ → A) (good : A) → (short ≡ good → ⊥) → on_whole o short next ≡ good
+    → (kind : ℕ) × (from : ℕ) × (to : ℕ) × (o ≡ Some (record { kind = kind; from = from; to = to })) × (next kind from to ≡ good)
+passed_whole None short next good f e = absurd (f e)
+passed_whole (Some whole) short next good f e = (whole.kind, whole.from, whole.to, refl, e)
 
 -- a head that was read
 pub record HeadRead (most : ℕ) (book : List ℕ) (at letters to : ℕ) : Type 0 where
@@ -74,7 +86,7 @@ pub record HeadRead (most : ℕ) (book : List ℕ) (at letters to : ℕ) : Type 
   pub behind : at < to
   pub fits : to ≤ length book
 
-pub head_read : (most place : ℕ) (book : List ℕ) (at letters to : ℕ) → head_at most place book at ≡ Heads.Read letters to → HeadRead most book at letters to
+pub head_read : (most place : ℕ) (book : List ℕ) (at letters to : ℕ) → head_at most place book at ≡ Ok (record { letters = letters; end = to }) → HeadRead most book at letters to
 unfolding head_at
 head_read most place book at letters to e =
     let other = head_or_refused letters to in
@@ -85,8 +97,9 @@ head_read most place book at letters to e =
     let d = passed (outside 1 most (byte book a.1)) _ _ _ (other _) c.1 in
     let l = equal_of (a.2 - a.1) 1 c.0 in
     let r = inside_of 1 most (byte book a.1) d.0 in
-    let x : byte book a.1 ≡ letters = cc d.1 in
-    let y : a.2 ≡ to = cc d.1 in
+    let v = head_parts _ _ d.1 in
+    let x : byte book a.1 ≡ letters = v.0 in
+    let y : a.2 ≡ to = v.1 in
     record { some = omega arith; few = omega arith; behind = omega (arith, w.start); fits = omega (arith, w.fits) }
 
 -- a relation that was read: where its words lie, both within the limits
@@ -100,7 +113,7 @@ pub record RelationRead (letters count : ℕ) (book : List ℕ) (at left right t
   pub fits : to ≤ length book
   pub known : (q : ℕ) → left ≤ q → q < to → byte book q < letters
 
-pub relation_read : (letters count place : ℕ) (book : List ℕ) (at left right to : ℕ) → relation_at letters count place book at ≡ Relations.Read left right to
+pub relation_read : (letters count place : ℕ) (book : List ℕ) (at left right to : ℕ) → relation_at letters count place book at ≡ Ok (record { left = left; right = right; end = to })
     → RelationRead letters count book at left right to
 unfolding relation_at fields_at
 relation_read letters count place book at left right to e =
@@ -116,9 +129,10 @@ relation_read letters count place book at left right to e =
     let l = equal_of (a.2 - a.1) (2 + byte book a.1 + byte book (a.1 + 1)) d.0 in
     let p = inside_of 1 64 (byte book a.1) o.0 in
     let q = inside_of 1 64 (byte book (a.1 + 1)) o.1 in
-    let x : a.1 + 2 ≡ left = cc g.1 in
-    let y : a.1 + 2 + byte book a.1 ≡ right = cc g.1 in
-    let z : a.2 ≡ to = cc g.1 in
+    let v = relation_parts _ _ g.1 in
+    let x : a.1 + 2 ≡ left = v.0 in
+    let y : a.1 + 2 + byte book a.1 ≡ right = v.1 in
+    let z : a.2 ≡ to = v.2 in
     let k = leb-false 32 count c.0 in
     let n = part_length book (a.1 + 2) a.2 (omega (arith, w.fits)) in
     let u = known_of letters (part book (a.1 + 2) a.2) (ltb-false (first_unknown letters (part book (a.1 + 2) a.2)) (length (part book (a.1 + 2) a.2)) g.0) in
@@ -183,15 +197,15 @@ from_within (suc fuel) presentation book at last w e =
     go (leb (length book) at) (relation_at presentation.letters (length presentation.relations) at book at) refl e (λ left right to.
     from_within fuel (adding presentation (relation_in book left right to)) book to last)
   where
-    go : (b : Bool) (o : RelationReading) → relation_at presentation.letters (length presentation.relations) at book at ≡ o
+    go : (b : Bool) (o : Result RelationFields Refusal) → relation_at presentation.letters (length presentation.relations) at book at ≡ o
         → cond b (read presentation) (on_relation o (λ left right to. relations_from fuel (adding presentation (relation_in book left right to)) book to)) ≡ read last
         → ((left right to : ℕ) → Within (adding presentation (relation_in book left right to))
         → relations_from fuel (adding presentation (relation_in book left right to)) book to ≡ read last → Within last)
         → Within last
     go true o q e r = same_read presentation last e w
-    go false (Relations.Refused x) q e r = absurd (let z : ◌≡◌ {A = ℕ} 0 1 = cc in omega arith)
-    go false (Relations.Read left right to) q e r =
-        r left right to (within_more presentation book at left right to w (relation_read presentation.letters (length presentation.relations) at book at left right to q)) e
+    go false (Err x) q e r = absurd (let z : ◌≡◌ {A = ℕ} 0 1 = cc in omega arith)
+    go false (Ok fields) q e r =
+        r fields.left fields.right fields.end (within_more presentation book at fields.left fields.right fields.end w (relation_read presentation.letters (length presentation.relations) at book at fields.left fields.right fields.end q)) e
 
 -- a head with no relations yet
 pub within_head : (most : ℕ) (book : List ℕ) (at letters to : ℕ) → most ≤ letters_most → HeadRead most book at letters to
@@ -202,11 +216,11 @@ pub read_within : ReadWithin
 unfolding read_book
 read_within book presentation e = go (head_at 64 0 book 0) refl e
   where
-    go : (o : HeadReading) → head_at 64 0 book 0 ≡ o
+    go : (o : Result HeadFields Refusal) → head_at 64 0 book 0 ≡ o
         → on_head o (λ letters to. relations_from (length book) (record { letters = letters; relations = [] }) book to) ≡ read presentation → Within presentation
-    go (Heads.Refused x) q e = absurd (let z : ◌≡◌ {A = ℕ} 0 1 = cc in omega arith)
-    go (Heads.Read letters to) q e =
-        from_within (length book) (record { letters = letters; relations = [] }) book to presentation (within_head 64 book 0 letters to (omega arith) (head_read 64 0 book 0 letters to q)) e
+    go (Err x) q e = absurd (let z : ◌≡◌ {A = ℕ} 0 1 = cc in omega arith)
+    go (Ok fields) q e =
+        from_within (length book) (record { letters = fields.letters; relations = [] }) book fields.end presentation (within_head 64 book 0 fields.letters fields.end (omega arith) (head_read 64 0 book 0 fields.letters fields.end q)) e
 
 pub fuel_suffices : FuelSuffices
 unfolding relations_from
@@ -217,13 +231,13 @@ fuel_suffices (suc fuel) (suc larger) presentation book at h l =
     go (leb (length book) at) (relation_at presentation.letters (length presentation.relations) at book at) refl (λ left right to k.
     fuel_suffices fuel larger (adding presentation (relation_in book left right to)) book to k (omega arith))
   where
-    go : (b : Bool) (o : RelationReading) → relation_at presentation.letters (length presentation.relations) at book at ≡ o
+    go : (b : Bool) (o : Result RelationFields Refusal) → relation_at presentation.letters (length presentation.relations) at book at ≡ o
         → ((left right to : ℕ) → length book ≤ to + fuel
         → relations_from larger (adding presentation (relation_in book left right to)) book to ≡ relations_from fuel (adding presentation (relation_in book left right to)) book to)
         → cond b (read presentation) (on_relation o (λ left right to. relations_from larger (adding presentation (relation_in book left right to)) book to))
         ≡ cond b (read presentation) (on_relation o (λ left right to. relations_from fuel (adding presentation (relation_in book left right to)) book to))
     go true o q f = refl
-    go false (Relations.Refused x) q f = refl
-    go false (Relations.Read left right to) q f =
-        let r = relation_read presentation.letters (length presentation.relations) at book at left right to q in
-        f left right to (omega (arith, r.behind, r.left_some, r.right_some))
+    go false (Err x) q f = refl
+    go false (Ok fields) q f =
+        let r = relation_read presentation.letters (length presentation.relations) at book at fields.left fields.right fields.end q in
+        f fields.left fields.right fields.end (omega (arith, r.behind, r.left_some, r.right_some))

@@ -6,16 +6,14 @@ use mathlib.Core.Path.{◌≡◌, refl}
 use lib.Dec.{leb}
 use lib.ListN.{length}
 use native.Mathlib.Omega.{arith}
+use Rattle.std.specs.Prelude.{Option, Some, None, Result, Ok, Err}
 use Rattle.limits.specs.declared.Record.{Record}
-use Rattle.limits.specs.declared.Record.TheVariants.{Whole, CutOff}
 use Rattle.limits.specs.Limits.{letters_most}
 use Rattle.refusals.specs.declared.Refusal.{Refusal}
 use Rattle.refusals.specs.declared.Refusal.TheVariants.{Short, Kind, Length, Range, UnknownLetter, TooMany}
 use Rattle.refusals.specs.Refusals.{number_and_place}
-use Rattle.format.specs.declared.HeadReading.{HeadReading}
-use Rattle.format.specs.declared.HeadReading.TheVariants as Heads
-use Rattle.format.specs.declared.RelationReading.{RelationReading}
-use Rattle.format.specs.declared.RelationReading.TheVariants as Relations
+use Rattle.format.specs.declared.HeadFields.{HeadFields}
+use Rattle.format.specs.declared.RelationFields.{RelationFields}
 use Rattle.format.specs.Book.{Presentation, adding, BookReading, read, refused, record_at, on_whole, head_at, fields_at, relation_at, addition_at, relation_in, on_head, on_relation, relations_from, read_book}
 use Rattle.format.proofs.Readings.{whole_at}
 
@@ -37,19 +35,19 @@ refusal_place place r RecordRefusal.unknown_there = refl
 refusal_place place r RecordRefusal.many_there = refl
 
 -- what reading a record gives: its refusal, or a position up to n
-pub data HeadUpto (n place : ℕ) : HeadReading → Type 0 where
-  refused_at : {r : Refusal} → RecordRefusal place r → HeadUpto n place (Heads.Refused r)
-  read_to : {letters to : ℕ} → to ≤ n → HeadUpto n place (Heads.Read letters to)
+pub data HeadUpto (n place : ℕ) : Result HeadFields Refusal → Type 0 where
+  refused_at : {r : Refusal} → RecordRefusal place r → HeadUpto n place (Err r)
+  read_to : {fields : HeadFields} → fields.end ≤ n → HeadUpto n place (Ok fields)
 
-pub data RelationUpto (n place : ℕ) : RelationReading → Type 0 where
-  refused_at : {r : Refusal} → RecordRefusal place r → RelationUpto n place (Relations.Refused r)
-  read_to : {left right to : ℕ} → to ≤ n → RelationUpto n place (Relations.Read left right to)
+pub data RelationUpto (n place : ℕ) : Result RelationFields Refusal → Type 0 where
+  refused_at : {r : Refusal} → RecordRefusal place r → RelationUpto n place (Err r)
+  read_to : {fields : RelationFields} → fields.end ≤ n → RelationUpto n place (Ok fields)
 
-head_cond : (n place : ℕ) (b : Bool) (x y : HeadReading) → HeadUpto n place x → HeadUpto n place y → HeadUpto n place (cond b x y)
+head_cond : (n place : ℕ) (b : Bool) (x y : Result HeadFields Refusal) → HeadUpto n place x → HeadUpto n place y → HeadUpto n place (cond b x y)
 head_cond n place true x y h k = h
 head_cond n place false x y h k = k
 
-relation_cond : (n place : ℕ) (b : Bool) (x y : RelationReading) → RelationUpto n place x → RelationUpto n place y → RelationUpto n place (cond b x y)
+relation_cond : (n place : ℕ) (b : Bool) (x y : Result RelationFields Refusal) → RelationUpto n place x → RelationUpto n place y → RelationUpto n place (cond b x y)
 relation_cond n place true x y h k = h
 relation_cond n place false x y h k = k
 
@@ -57,10 +55,10 @@ ruleset uptos = (head_cond, relation_cond, HeadUpto.refused_at, HeadUpto.read_to
 
 module _ (book : List ℕ) (at place : ℕ) where
   -- a record that is there, by its checks
-  upto_whole : {A : Type 0} (P : A → Type 0) (none : A) (next : ℕ → ℕ → ℕ → A) → P none → ((kind from to : ℕ) → to ≤ length book → P (next kind from to)) → (o : Record)
+  upto_whole : {A : Type 0} (P : A → Type 0) (none : A) (next : ℕ → ℕ → ℕ → A) → P none → ((kind from to : ℕ) → to ≤ length book → P (next kind from to)) → (o : Option Record)
       → record_at book at ≡ o → P (on_whole o none next)
-  upto_whole P none next s f CutOff e = s
-  upto_whole P none next s f (Whole kind from to) e = f kind from to (whole_at book at kind from to e).fits
+  upto_whole P none next s f None e = s
+  upto_whole P none next s f (Some whole) e = f whole.kind whole.from whole.to (whole_at book at whole.kind whole.from whole.to e).fits
 
   pub head_upto : (most : ℕ) → HeadUpto (length book) place (head_at most place book at)
   unfolding head_at
@@ -89,17 +87,17 @@ relations_upto (suc fuel) p book at h =
     (relation_upto book at at p.letters (length p.relations))
   where
     step : ((left right to : ℕ) → to ≤ length book → BookUpto (length book) (relations_from fuel (adding p (relation_in book left right to)) book to)) → (b : Bool)
-        (o : RelationReading) → RelationUpto (length book) at o
+        (o : Result RelationFields Refusal) → RelationUpto (length book) at o
         → BookUpto (length book) (cond b (read p) (on_relation o (λ left right to. relations_from fuel (adding p (relation_in book left right to)) book to)))
     step f true o k = BookUpto.read_whole
-    step f false (Relations.Refused r) (RelationUpto.refused_at k) = BookUpto.refused_at h k
-    step f false (Relations.Read left right to) (RelationUpto.read_to k) = f left right to k
+    step f false (Err r) (RelationUpto.refused_at k) = BookUpto.refused_at h k
+    step f false (Ok fields) (RelationUpto.read_to k) = f fields.left fields.right fields.end k
 
 pub book_upto : (book : List ℕ) → BookUpto (length book) (read_book book)
 unfolding read_book
 book_upto book = step (head_at letters_most 0 book 0) (head_upto book 0 0 letters_most)
   where
-    step : (o : HeadReading) → HeadUpto (length book) 0 o
+    step : (o : Result HeadFields Refusal) → HeadUpto (length book) 0 o
         → BookUpto (length book) (on_head o (λ letters to. relations_from (length book) (record { letters = letters; relations = [] }) book to))
-    step (Heads.Refused r) (HeadUpto.refused_at k) = BookUpto.refused_at {place = 0} (omega arith) k
-    step (Heads.Read letters to) (HeadUpto.read_to k) = relations_upto (length book) (record { letters = letters; relations = [] }) book to k
+    step (Err r) (HeadUpto.refused_at k) = BookUpto.refused_at {place = 0} (omega arith) k
+    step (Ok fields) (HeadUpto.read_to k) = relations_upto (length book) (record { letters = fields.letters; relations = [] }) book fields.end k

@@ -10,25 +10,24 @@ use lib.Dec.{leb}
 use lib.ListN.{length, get_or, take, drop, length-append, length-take, length-drop, take-append-drop, drop_of_length-le}
 use lib.Seq.{take-suc, drop-cons, drop-drop, take_at, drop_at}
 use borrow.Author.Tests.{leb-true}
+use Rattle.std.specs.Prelude.{Some, Result, Ok, Err}
 use Rattle.words.specs.Words.{part}
 use Rattle.words.specs.Relations.{Relation}
 use Rattle.words.proofs.Parts.{part_length}
-use Rattle.limits.specs.declared.Record.TheVariants.{Whole}
 use Rattle.limits.specs.Limits.{relations_most, outside}
 use Rattle.words.specs.Letters.{unknown_in}
-use Rattle.format.specs.declared.HeadReading.{HeadReading}
-use Rattle.format.specs.declared.HeadReading.TheVariants as Heads
-use Rattle.format.specs.declared.RelationReading.{RelationReading}
-use Rattle.format.specs.declared.RelationReading.TheVariants as Relations
+use Rattle.format.specs.declared.HeadFields.{HeadFields}
+use Rattle.format.specs.declared.RelationFields.{RelationFields}
 use Rattle.format.specs.Book.{Presentation, adding, without, read, byte, field, record_at, differs, head_at, fields_at, relation_at, relation_start, relation_in, on_head, on_relation, relations_from, read_book}
 use Rattle.format.specs.Bytes.{head_bytes, relation_bytes, relations_bytes, book_bytes, RelationWithin, AllWithin, none, more, Within, AreBytes, BytesUnique}
-use Rattle.format.proofs.Readings.{passed, head_or_refused, relation_or_refused, equal_of, whole_at, passed_whole, relation_read, within_snoc}
+use Rattle.format.proofs.Readings.{passed, head_or_refused, relation_or_refused, head_parts, relation_parts, equal_of, whole_at, passed_whole, relation_read, within_snoc}
 use Rattle.format.proofs.Bytes.{record_there}
+use Rattle.refusals.specs.declared.Refusal.{Refusal}
 
 -- where the parts of a relation that was read lie
 pub record RelationLies (letters count place : ℕ) (book : List ℕ) (at left right to : ℕ) : Type 0 where
-  pub whole : record_at book at ≡ Whole 2 (at + 4) to
-  pub fields : fields_at letters place book (at + 4) to ≡ Relations.Read left right to
+  pub whole : record_at book at ≡ Some (record { kind = 2; from = at + 4; to = to })
+  pub fields : fields_at letters place book (at + 4) to ≡ Ok (record { left = left; right = right; end = to })
   pub room : count < relations_most
   pub size : to ≡ at + 4 + field book at
   pub kind : field book (at + 2) ≡ 2
@@ -37,7 +36,7 @@ pub record RelationLies (letters count place : ℕ) (book : List ℕ) (at left r
   pub end : to ≡ at + 4 + 2 + byte book (at + 4) + byte book (at + 4 + 1)
   pub fits : to ≤ length book
 
-pub relation_lies : (letters count place : ℕ) (book : List ℕ) (at left right to : ℕ) → relation_at letters count place book at ≡ Relations.Read left right to
+pub relation_lies : (letters count place : ℕ) (book : List ℕ) (at left right to : ℕ) → relation_at letters count place book at ≡ Ok (record { left = left; right = right; end = to })
     → RelationLies letters count place book at left right to
 unfolding relation_at fields_at
 relation_lies letters count place book at left right to e =
@@ -52,9 +51,10 @@ relation_lies letters count place book at left right to e =
     let g = passed (unknown_in letters (part book (a.1 + 2) a.2)) _ _ _ (other _) f.1 in
     let k = equal_of a.0 2 b.0 in
     let l = equal_of (a.2 - a.1) (2 + byte book a.1 + byte book (a.1 + 1)) d.0 in
-    let x : a.1 + 2 ≡ left = cc g.1 in
-    let y : a.1 + 2 + byte book a.1 ≡ right = cc g.1 in
-    let z : a.2 ≡ to = cc g.1 in
+    let v = relation_parts _ _ g.1 in
+    let x : a.1 + 2 ≡ left = v.0 in
+    let y : a.1 + 2 + byte book a.1 ≡ right = v.1 in
+    let z : a.2 ≡ to = v.2 in
     let s : a.1 ≡ at + 4 = w.start in
     let m : byte book a.1 ≡ byte book (at + 4) = ap (byte book) s in
     let n : byte book (a.1 + 1) ≡ byte book (at + 4 + 1) = ap (λ (i : ℕ). byte book (i + 1)) s in
@@ -72,14 +72,14 @@ relation_lies letters count place book at left right to e =
 
 -- where the parts of a head that was read lie
 pub record HeadLies (book : List ℕ) (letters to : ℕ) : Type 0 where
-  pub whole : record_at book 0 ≡ Whole 1 4 5
+  pub whole : record_at book 0 ≡ Some (record { kind = 1; from = 4; to = 5 })
   pub size : field book 0 ≡ 1
   pub kind : field book 2 ≡ 1
   pub count : byte book 4 ≡ letters
   pub end : to ≡ 5
   pub fits : 5 ≤ length book
 
-pub head_lies : (most place : ℕ) (book : List ℕ) (letters to : ℕ) → head_at most place book 0 ≡ Heads.Read letters to → HeadLies book letters to
+pub head_lies : (most place : ℕ) (book : List ℕ) (letters to : ℕ) → head_at most place book 0 ≡ Ok (record { letters = letters; end = to }) → HeadLies book letters to
 unfolding head_at
 head_lies most place book letters to e =
     let other = head_or_refused letters to in
@@ -90,8 +90,9 @@ head_lies most place book letters to e =
     let d = passed (outside 1 most (byte book a.1)) _ _ _ (other _) c.1 in
     let k = equal_of a.0 1 b.0 in
     let l = equal_of (a.2 - a.1) 1 c.0 in
-    let x : byte book a.1 ≡ letters = cc d.1 in
-    let y : a.2 ≡ to = cc d.1 in
+    let v = head_parts _ _ d.1 in
+    let x : byte book a.1 ≡ letters = v.0 in
+    let y : a.2 ≡ to = v.1 in
     let s : a.1 ≡ 4 = omega (arith, w.start) in
     let t : a.2 ≡ 5 = omega arith in
     record {
@@ -177,29 +178,29 @@ from_unique (suc fuel) presentation book at last are h i e =
     go (leb (length book) at) (relation_at presentation.letters (length presentation.relations) at book at) refl refl e (λ left right to.
     from_unique fuel (adding presentation (relation_in book left right to)) book to last are)
   where
-    go : (b : Bool) (o : RelationReading) → leb (length book) at ≡ b → relation_at presentation.letters (length presentation.relations) at book at ≡ o
+    go : (b : Bool) (o : Result RelationFields Refusal) → leb (length book) at ≡ b → relation_at presentation.letters (length presentation.relations) at book at ≡ o
         → cond b (read presentation) (on_relation o (λ left right to. relations_from fuel (adding presentation (relation_in book left right to)) book to)) ≡ read last
         → ((left right to : ℕ) → length book ≤ to + fuel → book ≡ book_bytes (adding presentation (relation_in book left right to)) ++ drop to book
         → relations_from fuel (adding presentation (relation_in book left right to)) book to ≡ read last → book ≡ book_bytes last)
         → book ≡ book_bytes last
     go true o p q e r = all_read presentation book at last (leb-true (length book) at p) i e
-    go false (Relations.Refused x) p q e r = absurd (let z : ◌≡◌ {A = ℕ} 0 1 = cc in omega arith)
-    go false (Relations.Read left right to) p q e r =
-        let l = relation_lies presentation.letters (length presentation.relations) at book at left right to q in
-        let d = relation_bytes_lem presentation.letters (length presentation.relations) at book at left right to are l in
-        let t = relation_in book left right to in
-        r left right to (omega arith) (cc (i, d, adding_bytes presentation t, append_assoc (book_bytes presentation) (relation_bytes t) (drop to book))) e
+    go false (Err x) p q e r = absurd (let z : ◌≡◌ {A = ℕ} 0 1 = cc in omega arith)
+    go false (Ok fields) p q e r =
+        let l = relation_lies presentation.letters (length presentation.relations) at book at fields.left fields.right fields.end q in
+        let d = relation_bytes_lem presentation.letters (length presentation.relations) at book at fields.left fields.right fields.end are l in
+        let t = relation_in book fields.left fields.right fields.end in
+        r fields.left fields.right fields.end (omega arith) (cc (i, d, adding_bytes presentation t, append_assoc (book_bytes presentation) (relation_bytes t) (drop fields.end book))) e
 
 pub bytes_unique : BytesUnique
 unfolding read_book book_bytes relations_bytes
 bytes_unique book presentation are e = go (head_at 64 0 book 0) refl e
   where
-    go : (o : HeadReading) → head_at 64 0 book 0 ≡ o
+    go : (o : Result HeadFields Refusal) → head_at 64 0 book 0 ≡ o
         → on_head o (λ letters to. relations_from (length book) (record { letters = letters; relations = [] }) book to) ≡ read presentation → book ≡ book_bytes presentation
-    go (Heads.Refused x) q e = absurd (let z : ◌≡◌ {A = ℕ} 0 1 = cc in omega arith)
-    go (Heads.Read letters to) q e =
-        let l = head_lies 64 0 book letters to q in
-        from_unique (length book) (record { letters = letters; relations = [] }) book to presentation are (omega arith) (head_bytes_lem book letters to l) e
+    go (Err x) q e = absurd (let z : ◌≡◌ {A = ℕ} 0 1 = cc in omega arith)
+    go (Ok fields) q e =
+        let l = head_lies 64 0 book fields.letters fields.end q in
+        from_unique (length book) (record { letters = fields.letters; relations = [] }) book fields.end presentation are (omega arith) (head_bytes_lem book fields.letters fields.end l) e
 
 -- the bytes before the record of relation k
 abbrev pub bytes_before : Presentation → ℕ → List ℕ

@@ -1,12 +1,10 @@
 -- The bytes of a book (document 01, "Book bytes"), the inverse of reading.
-use Rattle.std.specs.Prelude.{ℕ, ◌/◌, ◌%◌, ◌<◌, ◌≤◌, List, [], ◌∷◌, ◌++◌, ◌≡◌, length, get_or}
+use Rattle.std.specs.Prelude.{ℕ, ◌/◌, ◌%◌, ◌<◌, ◌≤◌, List, [], ◌∷◌, ◌++◌, ◌≡◌, length, get_or, Some, Ok, Err}
 use Rattle.words.specs.Words.{Word}
 use Rattle.words.specs.Relations.{Relation}
-use Rattle.limits.specs.declared.Record.TheVariants.{Whole}
 use Rattle.limits.specs.Limits.{head_kind, letters_fewest, letters_most, relation_kind, side_fewest, side_most, relations_most, book_most}
 use Rattle.refusals.specs.declared.Refusal.{Refusal}
 use Rattle.refusals.specs.declared.Refusal.TheVariants.{Short, Length}
-use Rattle.format.specs.declared.RelationReading.TheVariants as Relations
 use Rattle.format.specs.Book.{Presentation, adding, read, refused, record_at, addition_at, relation_in, read_book}
 
 -- a two-byte field, little-endian
@@ -76,15 +74,15 @@ BytesFew = (presentation : Presentation) → Within presentation → length (boo
 pub record AdditionsRead : Type 0 where
   -- what is read is the next relation
   pub next : (book bytes : List ℕ) (presentation : Presentation) (left right to : ℕ) → read_book book ≡ read presentation
-      → addition_at presentation.letters (length presentation.relations) (length book) bytes ≡ Relations.Read left right to
+      → addition_at presentation.letters (length presentation.relations) (length book) bytes ≡ Ok (record { left = left; right = right; end = to })
       → read_book (book ++ bytes) ≡ read (adding presentation (relation_in bytes left right to))
   -- what is refused is refused there, if there are bytes and none behind a whole record
   pub refuses : (book bytes : List ℕ) (presentation : Presentation) (r : Refusal) → read_book book ≡ read presentation
-      → addition_at presentation.letters (length presentation.relations) (length book) bytes ≡ Relations.Refused r
-      → 1 ≤ length bytes → ((kind from to : ℕ) → record_at bytes 0 ≡ Whole kind from to → to ≡ length bytes)
+      → addition_at presentation.letters (length presentation.relations) (length book) bytes ≡ Err r
+      → 1 ≤ length bytes → ((kind from to : ℕ) → record_at bytes 0 ≡ Some (record { kind = kind; from = from; to = to }) → to ≡ length bytes)
       → read_book (book ++ bytes) ≡ refused r
   -- no bytes are 1
-  pub none : (letters count place : ℕ) → addition_at letters count place [] ≡ Relations.Refused (Short place)
+  pub none : (letters count place : ℕ) → addition_at letters count place [] ≡ Err (Short place)
   -- bytes behind a relation's record are 3, unless that would be one relation too many, and whatever its fields say
-  pub behind : (letters count place : ℕ) (bytes : List ℕ) (from to : ℕ) → record_at bytes 0 ≡ Whole relation_kind from to → count < relations_most → to < length bytes
-      → addition_at letters count place bytes ≡ Relations.Refused (Length place)
+  pub behind : (letters count place : ℕ) (bytes : List ℕ) (from to : ℕ) → record_at bytes 0 ≡ Some (record { kind = relation_kind; from = from; to = to }) → count < relations_most → to < length bytes
+      → addition_at letters count place bytes ≡ Err (Length place)

@@ -1,26 +1,25 @@
-// What reading a book gives (document 01, "Book bytes"): the answers of the reader's parts, over the definitions of specs/Book.antt and specs/Bytes.antt. Crate
-// `theorems` tells what is shown of these.
+// What reading a book gives (document 01, "Book bytes"): what the reader's parts answer where they refuse nothing, over the definitions of specs/Book.antt and
+// specs/Bytes.antt. Crate `theorems` tells what is shown of these.
 #![tactic(auto)]
 
-use refusals::Refusal;
-
-// What reading a head record gives: the number of letters, and the position behind the record.
+// What a head record says: the number of letters, and the position behind the record.
 #[derive(Clone, Copy)]
-pub enum HeadReading {
-    Read(u8, usize),
-    Refused(Refusal),
+pub struct HeadFields {
+    pub letters: u8,
+    pub end: usize,
 }
 
-// What reading a relation record gives: where its left word begins, where its right word begins, and where that ends.
+// What a relation record says: where its left word begins, where its right word begins, and where that ends.
 #[derive(Clone, Copy)]
-pub enum RelationReading {
-    Read(usize, usize, usize),
-    Refused(Refusal),
+pub struct RelationFields {
+    pub left: usize,
+    pub right: usize,
+    pub end: usize,
 }
 
-// What reading a whole book gives: the number of letters, and the number of relations.
+// What a whole book holds: the number of letters, and the number of relations.
 #[derive(Clone, Copy)]
-pub enum Reading {
-    Read(u8, usize),
-    Refused(Refusal),
+pub struct BookSize {
+    pub letters: u8,
+    pub relations: usize,
 }

@@ -9,16 +9,15 @@ use native.Mathlib.Omega.{arith}
 use borrow.Author.Tests.{le-leb, ne_eqb}
 use lib.Dec.{ltb}
 use lib.ListN.{length}
+use Rattle.std.specs.Prelude.{Some, Result, Ok, Err}
 use Rattle.words.specs.Relations.{relation_words}
 use Rattle.overlap.specs.Verdict.{Verdict, judge}
 use Rattle.words.specs.Writing.{over}
-use Rattle.limits.specs.declared.Record.TheVariants.{Whole}
 use Rattle.limits.specs.Limits.{relation_kind, relations_most, changes_most}
 use Rattle.refusals.specs.declared.Refusal.{Refusal}
 use Rattle.refusals.specs.declared.Refusal.TheVariants.{Short, Kind, Length, TooMany, Narrow, BookWorn}
 use Rattle.refusals.specs.Refusals.{number_and_place}
-use Rattle.format.specs.declared.RelationReading.{RelationReading}
-use Rattle.format.specs.declared.RelationReading.TheVariants as Relations
+use Rattle.format.specs.declared.RelationFields.{RelationFields}
 use Rattle.format.specs.Book.{Presentation, adding, BookReading, read, record_at, addition_at, relation_in, read_book}
 use Rattle.format.specs.Bytes.{book_bytes, AreBytes}
 use Rattle.format.proofs.Readings.{read_within}
@@ -78,35 +77,35 @@ settled_refused room book r e = rw e
 
 module _ (held : List ℕ) (presentation : Presentation) (h : Holds held presentation) (bytes : List ℕ) where
   -- what reading the record gives
-  abbrev reading : RelationReading
+  abbrev reading : Result RelationFields Refusal
   reading = addition_at presentation.letters (length presentation.relations) (length (book_in held)) bytes
 
-  changed_refused : (r : Refusal) → reading ≡ Relations.Refused r → (room : ℕ) → effect_of (addition bytes) held room ≡ refuses r
+  changed_refused : (r : Refusal) → reading ≡ Err r → (room : ℕ) → effect_of (addition bytes) held room ≡ refuses r
   unfolding effect_of
   changed_refused r e room = rw (changed_in_lem (addition bytes) held presentation (taken held presentation h), e)
 
-  changed_read : (left right to : ℕ) → reading ≡ Relations.Read left right to → (room : ℕ)
+  changed_read : (left right to : ℕ) → reading ≡ Ok (record { left = left; right = right; end = to }) → (room : ℕ)
       → effect_of (addition bytes) held room ≡ settled room (book_bytes (adding presentation (relation_in bytes left right to)))
   unfolding effect_of
   changed_read left right to e room = rw (changed_in_lem (addition bytes) held presentation (taken held presentation h), e)
 
   -- a refusal of the record is that of the addition
-  record_refused : (sheet : List ℕ) (r : Refusal) → reading ≡ Relations.Refused r → change_of (addition bytes) held sheet ≡ ChangeOutcome.after (refusal r) held sheet
+  record_refused : (sheet : List ℕ) (r : Refusal) → reading ≡ Err r → change_of (addition bytes) held sheet ≡ ChangeOutcome.after (refusal r) held sheet
   record_refused sheet r e = change_refused (addition bytes) held sheet r (changed_refused r e (length sheet))
 
   -- one record comes to what the book with it at the end comes to
   effect_joined : AreBytes bytes → OneRecord bytes → (room : ℕ) → effect_of (addition bytes) held room ≡ settled room (book_in held ++ bytes)
   effect_joined are o room = go reading refl
     where
-      go : (x : RelationReading) → reading ≡ x → effect_of (addition bytes) held room ≡ settled room (book_in held ++ bytes)
-      go (Relations.Refused r) e =
+      go : (x : Result RelationFields Refusal) → reading ≡ x → effect_of (addition bytes) held room ≡ settled room (book_in held ++ bytes)
+      go (Err r) e =
           let q = additions_read.refuses (book_in held) bytes presentation r (taken held presentation h).is e o.some o.alone in
           changed_refused r e room ∙ sym (settled_refused room (book_in held ++ bytes) r q)
-      go (Relations.Read left right to) e =
-          let t = relation_in bytes left right to in
-          let b = addition_bytes presentation.letters (length presentation.relations) (length (book_in held)) bytes left right to are e in
+      go (Ok fields) e =
+          let t = relation_in bytes fields.left fields.right fields.end in
+          let b = addition_bytes presentation.letters (length presentation.relations) (length (book_in held)) bytes fields.left fields.right fields.end are e in
           let w : book_bytes (adding presentation t) ≡ book_in held ++ bytes = cc (adding_bytes presentation t, h.written, b) in
-          changed_read left right to e room ∙ ap (settled room) w
+          changed_read fields.left fields.right fields.end e room ∙ ap (settled room) w
 
 -- outcomes of sheets of which one is an acceptance and one a refusal
 sheet_both : (n m place : ℕ) (sheet sheet' : List ℕ) → SheetOutcome.after (accepted n) sheet ≡ SheetOutcome.after (refused m place) sheet' → ⊥
@@ -212,15 +211,15 @@ module _ (held : List ℕ) (presentation : Presentation) (h : Holds held present
   effect_own : (bytes : List ℕ) (room : ℕ) → OwnEffect (length (book_in held)) (effect_of (addition bytes) held room)
   effect_own bytes room = go (reading held presentation h bytes) refl (addition_upto presentation.letters (length presentation.relations) (length (book_in held)) bytes)
     where
-      go : (x : RelationReading) → reading held presentation h bytes ≡ x → RelationUpto (length bytes) (length (book_in held)) x
+      go : (x : Result RelationFields Refusal) → reading held presentation h bytes ≡ x → RelationUpto (length bytes) (length (book_in held)) x
           → OwnEffect (length (book_in held)) (effect_of (addition bytes) held room)
-      go (Relations.Refused r) e (RelationUpto.refused_at k) =
+      go (Err r) e (RelationUpto.refused_at k) =
           subst (OwnEffect (length (book_in held))) (sym (changed_refused held presentation h bytes r e room)) (record_own (length (book_in held)) r k)
-      go (Relations.Read left right to) e k =
-          let p = adding presentation (relation_in bytes left right to) in
+      go (Ok fields) e k =
+          let p = adding presentation (relation_in bytes fields.left fields.right fields.end) in
           let t = taken held presentation h in
           let w = changed_within (addition bytes) (length (book_in held)) presentation p (read_within (book_in held) presentation t.is) (rw e) in
-          subst (OwnEffect (length (book_in held))) (sym (changed_read held presentation h bytes left right to e room))
+          subst (OwnEffect (length (book_in held))) (sym (changed_read held presentation h bytes fields.left fields.right fields.end e room))
           (settled_own (length (book_in held)) room (book_bytes p) p (read_bytes p w))
 
   numbers_own : (bytes sheet : List ℕ) (n place : ℕ) (held' sheet' : List ℕ) → change_of (addition bytes) held sheet ≡ ChangeOutcome.after (refused n place) held' sheet'
@@ -235,18 +234,18 @@ module _ (held : List ℕ) (presentation : Presentation) (h : Holds held present
   none_adds : (sheet : List ℕ) → change_of (addition []) held sheet ≡ ChangeOutcome.after (refused 1 (length (book_in held))) held sheet
   none_adds sheet = record_refused held presentation h [] sheet (Short (length (book_in held))) (additions_read.none _ _ _)
 
-  kind_adds : (bytes sheet : List ℕ) (kind from to : ℕ) → record_at bytes 0 ≡ Whole kind from to → ¬ (kind ≡ relation_kind)
+  kind_adds : (bytes sheet : List ℕ) (kind from to : ℕ) → record_at bytes 0 ≡ Some (record { kind = kind; from = from; to = to }) → ¬ (kind ≡ relation_kind)
       → change_of (addition bytes) held sheet ≡ ChangeOutcome.after (refused 2 (length (book_in held))) held sheet
   unfolding addition_at
   kind_adds bytes sheet kind from to e d = record_refused held presentation h bytes sheet (Kind (length (book_in held))) (rw (e, ne_eqb kind 2 d))
 
-  many_adds : (bytes sheet : List ℕ) (from to : ℕ) → record_at bytes 0 ≡ Whole relation_kind from to → relations_most ≤ length presentation.relations
+  many_adds : (bytes sheet : List ℕ) (from to : ℕ) → record_at bytes 0 ≡ Some (record { kind = relation_kind; from = from; to = to }) → relations_most ≤ length presentation.relations
       → change_of (addition bytes) held sheet ≡ ChangeOutcome.after (refused 6 (length (book_in held))) held sheet
   unfolding addition_at
   many_adds bytes sheet from to e l =
       record_refused held presentation h bytes sheet (TooMany (length (book_in held))) (rw (e, le-leb 32 (length presentation.relations) l))
 
-  behind_adds : (bytes sheet : List ℕ) (from to : ℕ) → record_at bytes 0 ≡ Whole relation_kind from to → length presentation.relations < relations_most → to < length bytes
+  behind_adds : (bytes sheet : List ℕ) (from to : ℕ) → record_at bytes 0 ≡ Some (record { kind = relation_kind; from = from; to = to }) → length presentation.relations < relations_most → to < length bytes
       → change_of (addition bytes) held sheet ≡ ChangeOutcome.after (refused 3 (length (book_in held))) held sheet
   behind_adds bytes sheet from to e l k = record_refused held presentation h bytes sheet (Length (length (book_in held))) (additions_read.behind _ _ _ bytes from to e l k)
 

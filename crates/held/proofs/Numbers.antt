@@ -4,12 +4,12 @@ use mathlib.Core.Bool.{Bool, true, false, cond}
 use mathlib.Core.List.{List}
 use lib.Dec.{leb, ltb}
 use lib.ListN.{length}
+use Rattle.std.specs.Prelude.{Result, Ok, Err}
 use Rattle.words.specs.Relations.{relation_words}
 use Rattle.overlap.specs.Verdict.{Verdict, judge}
 use Rattle.refusals.specs.declared.Refusal.{Refusal}
 use Rattle.refusals.specs.Refusals.{number_and_place}
-use Rattle.format.specs.declared.RelationReading.{RelationReading}
-use Rattle.format.specs.declared.RelationReading.TheVariants as Relations
+use Rattle.format.specs.declared.RelationFields.{RelationFields}
 use Rattle.format.specs.Book.{Presentation, adding, BookReading, read, refused, addition_at, relation_in, on_relation, read_book}
 use Rattle.format.specs.Bytes.{book_bytes}
 use Rattle.format.proofs.Refused.{RecordRefusal, RelationUpto, addition_upto, BookUpto, book_upto}
@@ -78,10 +78,10 @@ changed_own (addition bytes) place presentation =
     let count = length presentation.relations in
     go (addition_at letters count place bytes) (addition_upto letters count place bytes)
   where
-    go : (o : RelationReading) → RelationUpto (length bytes) place o
+    go : (o : Result RelationFields Refusal) → RelationUpto (length bytes) place o
         → OwnReading (on_relation o (λ left right to. read (adding presentation (relation_in bytes left right to))))
-    go (Relations.Refused r) (RelationUpto.refused_at k) = record_own place r k
-    go (Relations.Read left right to) k = tt
+    go (Err r) (RelationUpto.refused_at k) = record_own place r k
+    go (Ok fields) k = tt
 changed_own (withdrawal i) place presentation = of_both OwnReading (leb (length presentation.relations) i) _ _ OfChange.absent tt
 
 -- a refusal that was there, and what comes behind it

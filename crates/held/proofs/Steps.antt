@@ -6,14 +6,14 @@ use native.Mathlib.Omega.{arith}
 use borrow.Author.Tests.{le-ltb, ltb-false}
 use lib.Dec.{leb, ltb}
 use lib.ListN.{length}
+use Rattle.std.specs.Prelude.{Result, Ok, Err}
 use Rattle.words.specs.Relations.{relation_words}
 use Rattle.overlap.specs.Verdict.{Verdict, judge}
 use Rattle.words.specs.Writing.{over}
 use Rattle.limits.specs.Limits.{sheet_columns, held_room}
 use Rattle.refusals.specs.declared.Refusal.{Refusal}
 use Rattle.refusals.specs.declared.Refusal.TheVariants.{Narrow}
-use Rattle.format.specs.declared.RelationReading.{RelationReading}
-use Rattle.format.specs.declared.RelationReading.TheVariants as Relations
+use Rattle.format.specs.declared.RelationFields.{RelationFields}
 use Rattle.format.specs.Book.{Presentation, adding, without, BookReading, read, refused, addition_at, relation_in, read_book}
 use Rattle.format.specs.Bytes.{book_bytes, Within}
 use Rattle.format.proofs.Readings.{passed, read_within}
@@ -85,17 +85,17 @@ taken_of change held after e =
 
 -- an addition that is made adds the relation that was read
 pub added : (bytes : List ℕ) (place : ℕ) (presentation after : Presentation) → changed (addition bytes) place presentation ≡ read after
-    → (left : ℕ) × (right : ℕ) × (to : ℕ) × (addition_at presentation.letters (length presentation.relations) place bytes ≡ Relations.Read left right to)
+    → (left : ℕ) × (right : ℕ) × (to : ℕ) × (addition_at presentation.letters (length presentation.relations) place bytes ≡ Ok (record { left = left; right = right; end = to }))
     × (after ≡ adding presentation (relation_in bytes left right to))
 added bytes place presentation after e = go (addition_at presentation.letters (length presentation.relations) place bytes) refl
   where
-    go : (o : RelationReading) → addition_at presentation.letters (length presentation.relations) place bytes ≡ o
-        → (left : ℕ) × (right : ℕ) × (to : ℕ) × (addition_at presentation.letters (length presentation.relations) place bytes ≡ Relations.Read left right to)
+    go : (o : Result RelationFields Refusal) → addition_at presentation.letters (length presentation.relations) place bytes ≡ o
+        → (left : ℕ) × (right : ℕ) × (to : ℕ) × (addition_at presentation.letters (length presentation.relations) place bytes ≡ Ok (record { left = left; right = right; end = to }))
         × (after ≡ adding presentation (relation_in bytes left right to))
-    go (Relations.Refused r) f = absurd (read_or_refused after r (rw f at e))
-    go (Relations.Read left right to) f =
-        let g : read (adding presentation (relation_in bytes left right to)) ≡ read after = rw f at e in
-        (left, right, to, f, cc)
+    go (Err r) f = absurd (read_or_refused after r (rw f at e))
+    go (Ok fields) f =
+        let g : read (adding presentation (relation_in bytes fields.left fields.right fields.end)) ≡ read after = rw f at e in
+        (fields.left, fields.right, fields.end, f, cc)
 
 -- a change keeps the limits
 pub changed_within : (change : Change) (place : ℕ) (presentation after : Presentation) → Within presentation → changed change place presentation ≡ read after

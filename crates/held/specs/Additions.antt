@@ -1,7 +1,6 @@
 -- What is owed of an addition to a held book (document 01, "Rules that come and go"): it is judged as if its record stood at the end of the book, by 1 to 6, 8 and 12,
 -- no bytes at all being 1 and bytes behind the record being 3. Said of the definitions of specs/Changes.antt, beside the sheet of the bytes of both.
-use Rattle.std.specs.Prelude.{ℕ, ◌<◌, ◌≤◌, List, [], ◌++◌, ◌⊎◌, ◌≡◌, length}
-use Rattle.limits.specs.declared.Record.TheVariants.{Whole}
+use Rattle.std.specs.Prelude.{ℕ, ◌<◌, ◌≤◌, List, [], ◌++◌, ◌⊎◌, ◌≡◌, length, Some}
 use Rattle.limits.specs.Limits.{relation_kind, relations_most, changes_most}
 use Rattle.format.specs.Book.{Presentation, record_at}
 use Rattle.format.specs.Bytes.{AreBytes}
@@ -14,7 +13,7 @@ use Rattle.held.specs.Demands.{Holds}
 -- bytes that are one record, or end inside it: there are some, and none stands behind a whole record
 pub record OneRecord (bytes : List ℕ) : Type 0 where
   pub some : 1 ≤ length bytes
-  pub alone : (kind from to : ℕ) → record_at bytes 0 ≡ Whole kind from to → to ≡ length bytes
+  pub alone : (kind from to : ℕ) → record_at bytes 0 ≡ Some (record { kind = kind; from = from; to = to }) → to ≡ length bytes
 
 -- such bytes that are added, beside the sheet of the held book with these bytes at its end, in the same buffer. Places are the same: those of bytes count from the start
 -- of the book, those of sides from its first relation
@@ -46,11 +45,11 @@ pub record Adds (held sheet : List ℕ) (presentation : Presentation) : Type 0 w
   -- no bytes at all: 1, where a record would begin
   pub none : change_of (addition []) held sheet ≡ ChangeOutcome.after (refused 1 (length (book_in held))) held sheet
   -- a whole record, with bytes behind it or none: 2 where it is none of a relation; 6 where it is a 33rd one; and with bytes behind it 3, whatever its fields say
-  pub kind : (bytes : List ℕ) (kind from to : ℕ) → record_at bytes 0 ≡ Whole kind from to → ¬ (kind ≡ relation_kind)
+  pub kind : (bytes : List ℕ) (kind from to : ℕ) → record_at bytes 0 ≡ Some (record { kind = kind; from = from; to = to }) → ¬ (kind ≡ relation_kind)
       → change_of (addition bytes) held sheet ≡ ChangeOutcome.after (refused 2 (length (book_in held))) held sheet
-  pub many : (bytes : List ℕ) (from to : ℕ) → record_at bytes 0 ≡ Whole relation_kind from to → relations_most ≤ length presentation.relations
+  pub many : (bytes : List ℕ) (from to : ℕ) → record_at bytes 0 ≡ Some (record { kind = relation_kind; from = from; to = to }) → relations_most ≤ length presentation.relations
       → change_of (addition bytes) held sheet ≡ ChangeOutcome.after (refused 6 (length (book_in held))) held sheet
-  pub behind : (bytes : List ℕ) (from to : ℕ) → record_at bytes 0 ≡ Whole relation_kind from to → length presentation.relations < relations_most → to < length bytes
+  pub behind : (bytes : List ℕ) (from to : ℕ) → record_at bytes 0 ≡ Some (record { kind = relation_kind; from = from; to = to }) → length presentation.relations < relations_most → to < length bytes
       → change_of (addition bytes) held sheet ≡ ChangeOutcome.after (refused 3 (length (book_in held))) held sheet
   -- there is no other refusal, whatever the bytes are
   pub numbers : (bytes : List ℕ) (n place : ℕ) (held' sheet' : List ℕ) → change_of (addition bytes) held sheet ≡ ChangeOutcome.after (refused n place) held' sheet'

@@ -3,15 +3,6 @@
 // definitions.
 #![tactic(auto)]
 
-use refusals::Refusal;
-
-// The new book of a change is made, with the number of its bytes, or the change is refused.
-#[derive(Clone, Copy)]
-pub enum Made {
-    Book(usize),
-    Refused(Refusal),
-}
-
 // A change that is asked for: an addition, whose record is handed on beside it, or the withdrawal of the relation of an index.
 #[derive(Clone, Copy)]
 pub enum Asked {

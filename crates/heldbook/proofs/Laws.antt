@@ -8,6 +8,7 @@ use borrow.Author.Tests.{lt-ltb, le-ltb, le-leb, lt-leb, eq-eqb, ne_eqb}
 use lib.ListN.{length, get_or}
 use mir.Syntax.{w8}
 use mir.Val.{Fits}
+use Rattle.std.specs.Prelude.{Result, Ok, Err}
 use Rattle.limits.specs.Limits.{book_most, held_room, changes_most, held_buffer}
 use Rattle.refusals.specs.declared.Refusal.{Refusal}
 use Rattle.refusals.specs.declared.Refusal.TheVariants.{Narrow, StaleTicket, BookWorn}
@@ -16,8 +17,6 @@ use Rattle.format.specs.Bytes.{AreBytes}
 use Rattle.format.proofs.Unique.{bytes_unique}
 use Rattle.format.proofs.Lengths.{bytes_few}
 use Rattle.loading.specs.Loading.{load_book}
-use Rattle.answers.specs.declared.Verdict.{Verdict}
-use Rattle.answers.specs.declared.Verdict.TheVariants as Verdicts
 use Rattle.answers.specs.Answers.{accepted, of_verdict}
 use Rattle.answers.specs.Entries.{check_of}
 use Rattle.held.specs.declared.Asked.{Asked}
@@ -34,28 +33,28 @@ loaded_few : (book : List ℕ) (p : Presentation) → AreBytes book → load_boo
 loaded_few book p b e = omega (arith, ap length (bytes_unique book p b (loaded_read book p e).0), bytes_few p (loaded_within book p e))
 
 -- loading a held book, by the check of its book
-module _ (book held : List ℕ) (v : Verdict) (e : of_verdict v ≡ check_of book) where
+module _ (book held : List ℕ) where
   -- a refused book goes straight back
-  pub load_refused : (r : Refusal) → v ≡ Verdicts.Refused r → LoadOutcome.after (of_verdict v) held ≡ load_of book held
+  pub load_refused : (r : Refusal) → of_verdict (Err r) ≡ check_of book → LoadOutcome.after (of_verdict (Err r)) held ≡ load_of book held
   unfolding load_of
-  load_refused r a = let (x, f, d) = refused_loaded book v e r a in rw (f, d)
+  load_refused r e = let (x, f, d) = refused_loaded book r e in rw (f, d)
 
-  module _ (n : ℕ) (a : v ≡ Verdicts.Accepted n) where
+  module _ (n : ℕ) (e : of_verdict (Ok n) ≡ check_of book) where
     -- the buffer is below the room of a held book
-    pub load_narrow : length held < held_room → LoadOutcome.after (of_verdict (Verdicts.Refused (Narrow held_buffer))) held ≡ load_of book held
+    pub load_narrow : length held < held_room → LoadOutcome.after (of_verdict (Err (Narrow held_buffer))) held ≡ load_of book held
     unfolding load_of
-    load_narrow h = let (p, f, m) = accepted_loaded book v e n a in rw (f, lt-ltb (length held) held_room h)
+    load_narrow h = let (p, f, m) = accepted_loaded book n e in rw (f, lt-ltb (length held) held_room h)
 
     -- the book is small enough to be held
     pub load_few : ((i : ℕ) → Fits w8 (get_or book i 0)) → length book ≤ book_most
-    load_few b = let (p, f, m) = accepted_loaded book v e n a in loaded_few book p (λ i. omega (arith, b i)) f
+    load_few b = let (p, f, m) = accepted_loaded book n e in loaded_few book p (λ i. omega (arith, b i)) f
 
     -- the buffer has the room, and the book is held
-    pub load_held : (held' : List ℕ) → held_room ≤ length held → held' ≡ holding 0 book held → LoadOutcome.after (of_verdict v) held' ≡ load_of book held
+    pub load_held : (held' : List ℕ) → held_room ≤ length held → held' ≡ holding 0 book held → LoadOutcome.after (of_verdict (Ok n)) held' ≡ load_of book held
     unfolding load_of
     load_held held' h q =
-        let (p, f, m) = accepted_loaded book v e n a in
-        let o : of_verdict v ≡ accepted (length p.relations) = ap of_verdict (a ∙ ap Verdicts.Accepted m) in
+        let (p, f, m) = accepted_loaded book n e in
+        let o : of_verdict (Ok n) ≡ accepted (length p.relations) = ap accepted m in
         rw (f, le-ltb (length held) held_room h, q, o)
 
 pub ruleset loads = (load_refused, load_narrow, load_few, load_held, rules)
@@ -63,7 +62,7 @@ pub ruleset loads = (load_refused, load_narrow, load_few, load_held, rules)
 -- posting a ticket, by its count and the held book's
 module _ (ticket held sheet : List ℕ) (changes : ℕ) (c : changes ≡ changes_told held) (count : ℕ) (k : count ≡ count_in ticket) where
   -- the counts differ
-  pub post_stale : (count ≡ changes → ⊥) → ChangeOutcome.after (of_verdict (Verdicts.Refused StaleTicket)) held sheet ≡ post_of ticket held sheet
+  pub post_stale : (count ≡ changes → ⊥) → ChangeOutcome.after (of_verdict (Err StaleTicket)) held sheet ≡ post_of ticket held sheet
   unfolding post_of
   post_stale h = rw (ne_eqb (count_in ticket) (changes_told held) (λ q. h (k ∙ q ∙ sym c)))
 
@@ -73,7 +72,7 @@ module _ (ticket held sheet : List ℕ) (changes : ℕ) (c : changes ≡ changes
     count_told = sym k ∙ same ∙ c
 
     -- no more changes are taken
-    pub post_worn : changes_most ≤ changes → ChangeOutcome.after (of_verdict (Verdicts.Refused BookWorn)) held sheet ≡ post_of ticket held sheet
+    pub post_worn : changes_most ≤ changes → ChangeOutcome.after (of_verdict (Err BookWorn)) held sheet ≡ post_of ticket held sheet
     unfolding post_of
     post_worn h = rw (eq-eqb (count_in ticket) (changes_told held) count_told, le-leb changes_most (changes_told held) (omega arith))
 

@@ -11,12 +11,13 @@ use lib.ListN.{length, take, drop, set, length-set, length-take, length-drop, ta
 use lib.Seq.{take-append_seam}
 use mir.Syntax.{w64}
 use mir.Val.{Fits}
+use Rattle.std.specs.Prelude.{Result, Err}
 use Rattle.words.specs.Writing.{written}
 use Rattle.writing.proofs.Writing.{written_length, written_zero, written_behind, written_one}
 use Rattle.limits.specs.Limits.{held_length_at, held_changes_at, held_prefix, held_room, held_buffer}
+use Rattle.refusals.specs.declared.Refusal.{Refusal}
 use Rattle.refusals.specs.declared.Refusal.TheVariants.{Narrow}
-use Rattle.format.specs.declared.Reading.{Reading}
-use Rattle.format.specs.declared.Reading.TheVariants.{Refused}
+use Rattle.format.specs.declared.BookSize.{BookSize}
 use Rattle.format.specs.Book.{field, read_book, reading_of}
 use Rattle.format.specs.Bytes.{field_bytes}
 use Rattle.held.specs.Held.{book_in, book_start, changes_told, holding, taken_up}
@@ -100,7 +101,7 @@ module _ (held : List ℕ) (start n : ℕ) (e : start ≡ book_start held) (f : 
 pub ruleset parts = (book_fits, book_counted, book_part, rules)
 
 -- what reading the book that is held gives
-pub kept_read : (held book : List ℕ) (r : Reading) → book ≡ book_in held → r ≡ reading_of (read_book book) → r ≡ reading_of (read_book (book_in held))
+pub kept_read : (held book : List ℕ) (r : Result BookSize Refusal) → book ≡ book_in held → r ≡ reading_of (read_book book) → r ≡ reading_of (read_book (book_in held))
 kept_read held book r e f = f ∙ ap (λ (s : List ℕ). reading_of (read_book s)) e
 
 pub ruleset readings = (kept_read, rules)
@@ -108,12 +109,12 @@ pub ruleset readings = (kept_read, rules)
 -- what a change finds
 module _ (held : List ℕ) where
   -- the buffer is below the room of a held book
-  pub taken_narrow : length held < held_room → Refused (Narrow held_buffer) ≡ reading_of (taken_up held)
+  pub taken_narrow : length held < held_room → Err (Narrow held_buffer) ≡ reading_of (taken_up held)
   unfolding taken_up
   taken_narrow h = rw (lt-ltb (length held) held_room h)
 
   -- it has the room, and reading decides
-  pub taken_read : (r : Reading) → r ≡ reading_of (read_book (book_in held)) → held_room ≤ length held → r ≡ reading_of (taken_up held)
+  pub taken_read : (r : Result BookSize Refusal) → r ≡ reading_of (read_book (book_in held)) → held_room ≤ length held → r ≡ reading_of (taken_up held)
   unfolding taken_up
   taken_read r e h = rw (le-ltb (length held) held_room h) e
 

@@ -8,31 +8,32 @@ ghost use Rattle.format.specs.Bytes.{field_bytes};
 ghost use Rattle.held.specs.Held.{book_in, book_start, changes_told, holding, taken_up};
 ghost use Rattle.holding.specs.Held.{Holdable};
 
-use format::Reading;
+use format::BookSize;
 use limits::Held;
-use numbers::{narrow, smaller};
 use records::field_at;
 use refusals::Refusal;
 use scanning::read_records;
 
 // The number of bytes of the book that is held.
+#[tactic(auto, using(crate::proofs::Laws::lengths))]
 fn book_length(held: &[u8]) -> usize
     ensures { result ≡ length (book_in held.now) }
 {
     if held.len() < Held::PREFIX {
         return 0;
     }
-    smaller(field_at(held, Held::LENGTH_AT), held.len() - Held::PREFIX)
+    field_at(held, Held::LENGTH_AT).min(held.len() - Held::PREFIX)
 }
 
 // Where the book that is held begins.
 pub fn book_start(held: &[u8]) -> usize
     ensures { result ≡ book_start held.now }
 {
-    smaller(Held::PREFIX, held.len())
+    Held::PREFIX.min(held.len())
 }
 
 // The book that is held, as a part of its buffer.
+#[tactic(auto, using(crate::proofs::Laws::parts))]
 pub fn book_of(held: &[u8]) -> &[u8]
     ensures { result.now ≡ book_in held.now }
 {
@@ -42,7 +43,7 @@ pub fn book_of(held: &[u8]) -> &[u8]
 }
 
 // What reading it gives.
-fn read_kept(held: &[u8]) -> Reading
+fn read_kept(held: &[u8]) -> Result<BookSize, Refusal>
     ensures { result ≡ reading_of (read_book (book_in held.now)) }
 {
     let book = book_of(held);
@@ -50,16 +51,18 @@ fn read_kept(held: &[u8]) -> Reading
 }
 
 // What a change finds: the number of letters and of relations of the book that is held, or a refusal.
-pub fn take_up(held: &[u8]) -> Reading
+#[tactic(auto, using(crate::proofs::Laws::takings))]
+pub fn take_up(held: &[u8]) -> Result<BookSize, Refusal>
     ensures { result ≡ reading_of (taken_up held.now) }
 {
     if held.len() < Held::ROOM {
-        return Reading::Refused(Refusal::Narrow(Held::BUFFER));
+        return Err(Refusal::Narrow(Held::BUFFER));
     }
     read_kept(held)
 }
 
 // The count of changes.
+#[tactic(auto, using(crate::proofs::Laws::lengths))]
 pub fn changes_of(held: &[u8]) -> usize
     ensures { result ≡ changes_told held.now }
 {
@@ -70,6 +73,7 @@ pub fn changes_of(held: &[u8]) -> usize
 }
 
 // Writes a two-byte field, little-endian.
+#[tactic(auto, using(crate::proofs::Laws::fields))]
 pub fn put_field(x: u16, out: &mut [u8], at: usize)
     requires { at + 2 ≤ length out.old }
     ensures { out.new ≡ written at (field_bytes x) out.old }
@@ -79,11 +83,12 @@ pub fn put_field(x: u16, out: &mut [u8], at: usize)
 }
 
 // Puts a book into the buffer of a held book, with its count of changes.
+#[tactic(auto, using(crate::proofs::Laws::holds))]
 pub fn hold(book: &[u8], changes: usize, held: &mut [u8])
     requires { Holdable book.now changes held.old }
     ensures { held.new ≡ holding changes book.now held.old }
 {
-    put_field(narrow(book.len()), held, Held::LENGTH_AT);
-    put_field(narrow(changes), held, Held::CHANGES_AT);
+    put_field(book.len() as u16, held, Held::LENGTH_AT);
+    put_field(changes as u16, held, Held::CHANGES_AT);
     writing::put_bytes(book, held, Held::PREFIX);
 }

@@ -170,13 +170,10 @@ module _ (t : List ℕ) (i : ℕ) (g : Movable t i) where
   move_place = g.room
 
   module _ (h : ℕ) (e : h ≡ order_of t (i - 1)) where
-    pub move_small : h < 65536
-    move_small = omega (arith, g.small)
-
     pub move_done : (v : ℕ) → v ≡ h → MovedUp t i (set t (order_cell i) v)
     move_done v f = record { some = g.some; same = rw (f, e) }
 
-pub ruleset moves = (move_down, move_read, move_place, move_small, move_done, rules)
+pub ruleset moves = (move_down, move_read, move_place, move_done, rules)
 
 -- place i is free: the words listed from it on are moved up by one place
 pub record Shifting (text t₀ t : List ℕ) (n c from j k i : ℕ) : Type 0 where

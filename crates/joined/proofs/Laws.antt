@@ -1,8 +1,8 @@
 -- The laws of reading and comparing a word that is given as two slices.
-use Prim.Native.Nat.{ℕ, ◌+◌, ◌-◌, ◌≤◌, ◌<◌, min}
-use mathlib.Core.Bool.{true}
-use mathlib.Core.List.{◌++◌}
-use mathlib.Core.Path.{◌≡◌, sym, ap, ◌∙◌, subst}
+use Prim.Native.Nat.{ℕ, suc, ◌+◌, ◌-◌, ◌≤◌, ◌<◌, min}
+use mathlib.Core.Bool.{true, false}
+use mathlib.Core.List.{[], ◌∷◌, ◌++◌}
+use mathlib.Core.Path.{◌≡◌, refl, sym, ap, ◌∙◌, subst}
 use mathlib.Core.Logic.{by_cases}
 use native.Mathlib.Omega.{arith}
 use native.Mathlib.Decide.{dec_lt, ℕ_discrete}
@@ -13,7 +13,7 @@ use lib.ListN.{length, get_or, drop, length-append, length-drop, get_or-append, 
 use lib.Seq.{get_or-drop, get_or-append-add, drop-append-le}
 use mir.Syntax.{w64}
 use mir.Val.{Fits}
-use Rattle.words.specs.Words.{Word, is_prefix, common_prefix, part}
+use Rattle.words.specs.Words.{Word, is_empty, is_prefix, common_prefix, part}
 use Rattle.words.proofs.Lists.{drop_past}
 use Rattle.words.proofs.Parts.{part_length, part_at, part_drop}
 use Rattle.words.proofs.Commons.{common_within, common_at, common_most, common_is, common_prefix_lem, common_no_prefix, common_before, common_through, common_reaches, common_shorter, common_empty}
@@ -79,7 +79,7 @@ module _ (text : Word) (from to : ℕ) (s : Word) (q : ℕ) where
               (λ c. subst (λ (j : ℕ). get_or (part text from to) j 0 ≡ get_or (drop q s) j 0) (omega arith) (part_at text from to i (omega arith) ∙ e ∙ sym (get_or-drop q s i 0))));
         }
 
-    pub compare_end : n ≤ i → i ≡ common_prefix (part text from to) (drop q s)
+    pub compare_end : n ≤ i → n ≡ common_prefix (part text from to) (drop q s)
     compare_end h =
         let b = bounds in
         let w = common_within (part text from to) (drop q s) in
@@ -176,3 +176,18 @@ begins_all text from to w q r s e =
     (λ n. ne_eqb r (to - from) n ∙ sym (common_no_prefix (part text from to) (drop q w) (omega arith)))
 
 pub ruleset beginnings = (agreed_none, begins_all, rules)
+
+-- empty words
+pub empty_left : (a b : Word) → 0 < length a → false ≡ is_empty (a ++ b)
+empty_left [] b h = absurd (omega arith)
+empty_left (x ∷ a) b h = refl
+
+empty_length : (b : Word) → eqb (length b) 0 ≡ is_empty b
+empty_length [] = refl
+empty_length (x ∷ b) = ne_eqb (suc (length b)) 0 (λ e. absurd (omega arith))
+
+pub empty_right : (a b : Word) → length a ≤ 0 → eqb (length b) 0 ≡ is_empty (a ++ b)
+empty_right [] b h = empty_length b
+empty_right (x ∷ a) b h = absurd (omega arith)
+
+pub ruleset empties = (empty_left, empty_right, rules)

@@ -2,63 +2,66 @@
 // Members are met in rising order, by the links of the table.
 #![tactic(auto)]
 
-ghost use Rattle.std.specs.Prelude.{◌≡◌, drop};
+ghost use Rattle.std.specs.Prelude.{◌≡◌, ◌<◌, drop};
 ghost use Rattle.words.specs.Search.{least};
 ghost use Rattle.words.specs.Words.{is_prefix};
 ghost use Rattle.overlap.specs.Cuts.{x_of, z_of};
 ghost use Rattle.congruence.specs.Rows.{active, marked_by_any, is_other, first_active, tail_member};
-ghost use Rattle.layout.specs.Layout.{words_in};
-ghost use Rattle.layout.specs.Families.{family_by, GroupedWord};
 ghost use Rattle.kin.specs.Asked.{LinkedWord, RestAsked, IdleRest, two_at_most, active_other};
+ghost use Rattle.layout.specs.Families.{family_by};
+ghost use Rattle.layout.specs.Views.{words_of, family_of, on};
+
+use joined::Joined;
+use layout::RelationWords;
 
 // Whether p is a prefix of the X of relation word j.
-fn mark_in_word(text: &[u16], table: &[u16], n: usize, j: usize, p: &[u16]) -> bool
-    requires { GroupedWord text.now table.now n j }
-    ensures { result ≡ is_prefix p.now (x_of (words_in text.now table.now n) j) }
+#[tactic(auto, using(crate::proofs::Laws::mark_here))]
+fn mark_in_word(words: &RelationWords, j: usize, p: &[u16]) -> bool
+    requires { j < words.now.n }
+    ensures { result ≡ is_prefix p.now (x_of (words_of words.now) j) }
 {
-    sites::mark_in_x(text, sites::read_site(table, j), p)
+    sites::mark_in_x(words.text, sites::read_site(words.table, j), p)
 }
 
 // Whether p is a prefix of the X of a member of relation word i's family. An empty mark is one of every X, and another mostly lies in its own X, which is tried first.
-pub fn mark_in_any_x(text: &[u16], table: &[u16], n: usize, i: usize, p: &[u16]) -> bool
-    requires { GroupedWord text.now table.now n i }
-    ensures { result ≡ marked_by_any (words_in text.now table.now n) (family_by table.now n) i p.now }
+pub fn mark_in_any_x(words: &RelationWords, i: usize, p: &[u16]) -> bool
+    requires { i < words.now.n }
+    ensures { result ≡ marked_by_any (words_of words.now) (family_of words.now) i p.now }
 {
     if p.len() == 0 {
         return true;
     }
-    if mark_in_word(text, table, n, i, p) {
+    if mark_in_word(words, i, p) {
         return true;
     }
-    let mut j = layout::family_of(table, i);
-    while j < n {
-        if mark_in_word(text, table, n, j, p) {
+    let mut j = layout::family_of(words.table, i);
+    // Kept: a `while`, since no index is counted here: each member names the next one in the table, and an iterator over that would be these same lines with a contract for its `next`.
+    while j < words.n {
+        if mark_in_word(words, j, p) {
             return true;
         }
-        j = layout::next_of(table, j);
+        j = layout::next_of(words.table, j);
     }
     false
 }
 
 // Whether the given word from place k on is active for the Z of relation word j.
-pub fn active_behind(
-    text: &[u16],
-    table: &[u16],
-    n: usize,
-    given: &[u16],
-    j: usize,
-    k: usize,
-) -> bool
-    requires { RestAsked text.now table.now n given.now j k }
-    ensures { result ≡ active (words_in text.now table.now n) (z_of (words_in text.now table.now n) j) (drop k given.now) }
+#[tactic(auto, using(crate::proofs::Laws::actives))]
+pub fn active_behind(words: &RelationWords, given: &[u16], j: usize, k: usize) -> bool
+    requires { on words.now RestAsked given.now j k }
+    ensures { result ≡ active (words_of words.now) (z_of (words_of words.now) j) (drop k given.now) }
 {
-    let z = sites::read_site(table, j);
-    let from = z.tail;
-    let to = z.stop;
-    sites::has_prefix_between(text, table, n, &text[from..to], &given[k..], 0, to - from)
+    let z = sites::read_site(words.table, j);
+    let behind = Joined {
+        front: &words.text[z.tail..z.stop],
+        rest: &given[k..],
+    };
+    sites::has_prefix_between(words, &behind, 0, z.stop - z.tail)
 }
 
 // The first other member of relation word i's family, or n: the lowest member, which is the family's number, or the next one where i is the lowest itself.
+// Kept: table and number, since `LinkedWord` asks less than `RelationWords` holds, and docs/AUDIT.md names the function.
+#[tactic(auto, using(crate::proofs::Tails::others))]
 pub fn first_other(table: &[u16], n: usize, i: usize) -> usize
     requires { LinkedWord table.now n i }
     ensures { result ≡ least n (is_other (family_by table.now n) i) }
@@ -75,6 +78,8 @@ pub fn first_other(table: &[u16], n: usize, i: usize) -> usize
 }
 
 // Whether relation word i's family has two members or i alone.
+// Kept: table and number, as in `first_other`; docs/DECISIONS.md names the function.
+#[tactic(auto, using(crate::proofs::Tails::twos))]
 pub fn two_at_most(table: &[u16], n: usize, i: usize) -> bool
     requires { LinkedWord table.now n i }
     ensures { result ≡ two_at_most table.now n i }
@@ -87,54 +92,50 @@ pub fn two_at_most(table: &[u16], n: usize, i: usize) -> bool
 }
 
 // Whether relation word j is not i and the given word from place k on is active for its Z.
-fn active_other(
-    text: &[u16],
-    table: &[u16],
-    n: usize,
-    given: &[u16],
-    i: usize,
-    j: usize,
-    k: usize,
-) -> bool
-    requires { RestAsked text.now table.now n given.now j k }
-    ensures { result ≡ active_other (words_in text.now table.now n) i (drop k given.now) j }
+#[tactic(auto, using(crate::proofs::Tails::active_others))]
+fn active_other(words: &RelationWords, given: &[u16], i: usize, j: usize, k: usize) -> bool
+    requires { on words.now RestAsked given.now j k }
+    ensures { result ≡ active_other (words_of words.now) i (drop k given.now) j }
 {
     if j == i {
         return false;
     }
-    active_behind(text, table, n, given, j, k)
+    active_behind(words, given, j, k)
 }
 
 // The first other member of relation word i's family for whose Z the given word from place k on is active, or n.
-fn first_active(text: &[u16], table: &[u16], n: usize, given: &[u16], i: usize, k: usize) -> usize
-    requires { RestAsked text.now table.now n given.now i k }
-    ensures { result ≡ first_active (words_in text.now table.now n) (family_by table.now n) i (drop k given.now) }
+#[tactic(auto, using(crate::proofs::Tails::quiets))]
+fn first_active(words: &RelationWords, given: &[u16], i: usize, k: usize) -> usize
+    requires { on words.now RestAsked given.now i k }
+    ensures { result ≡ first_active (words_of words.now) (family_of words.now) i (drop k given.now) }
 {
-    let mut member = layout::family_of(table, i);
-    while member < n {
-        if active_other(text, table, n, given, i, member, k) {
+    let mut member = layout::family_of(words.table, i);
+    // Kept: a `while`, since no index is counted here: each member names the next one in the table, and an iterator over that would be these same lines with a contract for its `next`.
+    while member < words.n {
+        if active_other(words, given, i, member, k) {
             return member;
         }
-        member = layout::next_of(table, member);
+        member = layout::next_of(words.table, member);
     }
-    n
+    words.n
 }
 
 // The member of relation word i's family whose Z row 4 goes on with, where the given word from place k on is the rest of u and is not active for Z of i. Where only
 // one other member is there, it is that one, whether the rest is active for it or not.
-pub fn other_tail(text: &[u16], table: &[u16], n: usize, given: &[u16], i: usize, k: usize) -> usize
-    requires { IdleRest text.now table.now n given.now i k }
-    ensures { result ≡ tail_member (words_in text.now table.now n) (family_by table.now n) i (drop k given.now) }
+#[tactic(auto, using(crate::proofs::Tails::tails))]
+pub fn other_tail(words: &RelationWords, given: &[u16], i: usize, k: usize) -> usize
+    requires { on words.now IdleRest given.now i k }
+    ensures { result ≡ tail_member (words_of words.now) (family_of words.now) i (drop k given.now) }
 {
-    let other = first_other(table, n, i);
-    if n <= other {
+    let other = first_other(words.table, words.n, i);
+    if words.n <= other {
         return i;
     }
-    if two_at_most(table, n, i) {
+    if two_at_most(words.table, words.n, i) {
         return other;
     }
-    let first = first_active(text, table, n, given, i, k);
-    if first < n {
+    let first = first_active(words, given, i, k);
+    if first < words.n {
         return first;
     }
     other

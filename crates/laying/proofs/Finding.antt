@@ -1,33 +1,23 @@
 -- The place of a word among those that are laid: the loops, and a law for each way on.
-use Prim.Native.Nat.{ℕ, ◌+◌, ◌*◌, ◌<◌, ◌≤◌}
-use mathlib.Core.Bool.{Bool, true, false, not, true≢false}
+use Prim.Native.Nat.{ℕ, ◌+◌, ◌<◌, ◌≤◌}
+use mathlib.Core.Bool.{Bool, true, false}
 use mathlib.Core.List.{List, []}
 use mathlib.Core.Logic.{by_cases}
 use mathlib.Core.Path.{◌≡◌, sym, ap, ◌∙◌, subst}
 use native.Mathlib.Omega.{arith}
 use native.Mathlib.Decide.{dec_lt}
 use borrow.Author.Rules.{rules}
-use borrow.Author.Tests.{eqb-true, eq-eqb, ne_eqb, not-true, not-false}
-use lib.Dec.{eqb}
+use borrow.Author.Tests.{eq-eqb, ne_eqb}
 use lib.ListN.{length, get_or}
-use mir.Val.{Fits}
-use mir.Syntax.{w64}
 use Rattle.words.specs.Search.{least}
-use Rattle.words.specs.Words.{Word, is_prefix, same_word, part}
+use Rattle.words.specs.Words.{Word, is_prefix, same_word}
 use Rattle.words.specs.Families.{place_of}
 use Rattle.words.proofs.Prefixes.{prefix_at, at_prefix}
 use Rattle.words.proofs.Tests.{false_of}
 use Rattle.words.proofs.Searching.{NoneBelow, none_start, none_more, least_is, least_none, least_same}
-use Rattle.numbers.specs.Widths.{Widened}
-use Rattle.layout.specs.Layout.{start_of, end_of, words_in, Laid, KnownWord}
-use Rattle.layout.proofs.Placed.{start_bound, words_length, word_part, word_span}
+use Rattle.layout.specs.Layout.{words_in, Laid}
+use Rattle.layout.proofs.Placed.{words_length, word_part}
 use Rattle.laying.specs.Sides.{is_word_at}
-
--- letters are compared as numbers of one width
-pub letters_differ : (u v : Word) (k x y : ℕ) → Widened 65536 (get_or u k 0) x → Widened 256 (get_or v k 0) y → not (eqb x y) ≡ not (eqb (get_or u k 0) (get_or v k 0))
-letters_differ u v k x y a b = rw (a.same, b.same)
-
-pub ruleset letters = (letters_differ, rules)
 
 -- two words agree as far as place k
 pub record Agreeing (u v : Word) (k : ℕ) : Type 0 where
@@ -39,20 +29,17 @@ pub agree_start : (u v : Word) → length u ≡ length v → Agreeing u v 0
 agree_start u v e = record { long = e; upto = omega arith; same = λ j h. absurd (omega (arith, h)) }
 
 module _ (u v : Word) (k : ℕ) (s : Agreeing u v k) where
-  module _ (h : k < length u) (r : Bool) (e : r ≡ not (eqb (get_or u k 0) (get_or v k 0))) where
-    pub agree_more : r ≡ false → Agreeing u v (k + 1)
-    agree_more t =
-        let d = eqb-true (get_or u k 0) (get_or v k 0) (not-false (eqb (get_or u k 0) (get_or v k 0)) (sym e ∙ t)) in
+  module _ (h : k < length u) where
+    pub agree_more : get_or u k 0 ≡ get_or v k 0 → Agreeing u v (k + 1)
+    agree_more d =
         record {
           long = s.long;
           upto = omega (arith, h);
           same = λ j l. by_cases (dec_lt j k) (λ a. s.same j a) (λ a. subst (λ (i : ℕ). get_or u i 0 ≡ get_or v i 0) (omega (arith, a, l)) d);
         }
 
-    pub agree_differ : r ≡ true → false ≡ is_prefix u v
-    agree_differ t =
-        sym (false_of (is_prefix u v) (λ p.
-        true≢false (sym (eq-eqb (get_or u k 0) (get_or v k 0) (prefix_at u v p k h)) ∙ not-true (eqb (get_or u k 0) (get_or v k 0)) (sym e ∙ t))))
+    pub agree_differ : (get_or u k 0 ≡ get_or v k 0 → ⊥) → false ≡ is_prefix u v
+    agree_differ d = sym (false_of (is_prefix u v) (λ p. d (prefix_at u v p k h)))
 
   pub agree_end : length u ≤ k → true ≡ is_prefix u v
   agree_end h = let l = s.long in sym (at_prefix u v (omega (arith, l)) (λ j i. s.same j (omega (arith, h, i))))
@@ -70,24 +57,6 @@ module _ (u v : Word) where
   unequal_lengths e = rw (ne_eqb (length u) (length v) e)
 
 pub ruleset equals = (equal_letters, unequal_lengths, rules)
-
--- a word of the text
-module _ (text table : List ℕ) (i : ℕ) (g : KnownWord text table i) where
-  pub known_scaled : (s : ℕ) → s ≡ start_of table i → Fits w64 (s * 2)
-  known_scaled s d = omega (arith, d, start_bound text table g.number g.laid i (omega (arith, g.known)), g.known, g.laid.few)
-
-  pub known_upwards : (s e : ℕ) → s ≡ start_of table i → e ≡ end_of table i → s ≤ e
-  known_upwards s e d f = let w = word_span text table g.number g.laid i g.known in omega (arith, d, f, w.upwards)
-
-  pub known_inside : (e : ℕ) → e ≡ end_of table i → e ≤ length text
-  known_inside e f = let w = word_span text table g.number g.laid i g.known in omega (arith, f, w.inside)
-
--- the part of the text between its start and its end is relation word i
-pub known_word : (word text table : List ℕ) (i a b : ℕ) (r : Bool) → a ≡ start_of table i → b ≡ end_of table i → r ≡ same_word (part text a b) word
-    → r ≡ is_word_at word text table i
-known_word word text table i a b r e f h = h ∙ rw (e, f)
-
-pub ruleset knowns = (known_scaled, known_upwards, known_inside, known_word, rules)
 
 -- none of the first i words is the one that is sought
 pub record Finding (word text table : List ℕ) (n i : ℕ) : Type 0 where
@@ -114,9 +83,9 @@ module _ (word text table : List ℕ) (n i : ℕ) (s : Finding word text table n
     pub find_found : r ≡ true → i ≡ place_of word (words_in text table n)
     find_found t = sym (least_is n (is_word_at word text table) i h s.none (sym e ∙ t)) ∙ place_there
 
-  pub find_end : n ≤ i → i ≡ place_of word (words_in text table n)
+  pub find_end : n ≤ i → n ≡ place_of word (words_in text table n)
   find_end h =
       let e : i ≡ n = omega (arith, h, s.upto) in
-      e ∙ sym (least_none n (is_word_at word text table) (subst (λ (k : ℕ). NoneBelow (is_word_at word text table) k) e s.none)) ∙ place_there
+      sym (least_none n (is_word_at word text table) (subst (λ (k : ℕ). NoneBelow (is_word_at word text table) k) e s.none)) ∙ place_there
 
 pub ruleset finding = (find_start, find_more, find_found, find_end, rules)

@@ -1,7 +1,7 @@
 // The laying of relation words: a word and its fence behind the words that are laid, unless it is one of them, and both sides of a relation.
 #![tactic(auto)]
 
-ghost use Rattle.std.specs.Prelude.{not, [], ◌∷◌, ◌++◌, ◌≡◌, ◌+◌, ◌<◌, eqb, length, get_or};
+ghost use Rattle.std.specs.Prelude.{[], ◌∷◌, ◌++◌, ◌≡◌, ◌+◌, ◌<◌, length};
 ghost use Rattle.words.specs.Words.{is_prefix, same_word};
 ghost use Rattle.words.specs.Families.{place_of};
 ghost use Rattle.words.specs.Writing.{written};
@@ -11,32 +11,23 @@ ghost use Rattle.laying.specs.Sides.{is_word_at, SideRoom, SideAppended};
 ghost use Rattle.laying.specs.Relations.{RelationRoom, RelationAppended};
 
 use layout::{Table, Text, end_of, start_of};
-use numbers::{narrow, wide, wide16};
-
-// A part of the text and a word have other letters at place k.
-fn differ_at(part: &[u16], word: &[u8], k: usize) -> bool
-    requires { (k < length part.now) × (k < length word.now) }
-    ensures { result ≡ not (eqb (get_or part.now k 0) (get_or word.now k 0)) }
-{
-    wide16(part[k]) != wide(word[k])
-}
 
 // A part of the text has the letters of a word of its length.
+#[tactic(auto, using(crate::proofs::Finding::agreeing))]
 fn have_same_letters(part: &[u16], word: &[u8]) -> bool
     requires { length part.now ≡ length word.now }
     ensures { result ≡ is_prefix part.now word.now }
 {
-    let mut k = 0;
-    while k < part.len() {
-        if differ_at(part, word, k) {
+    for (k, &letter) in part.iter().enumerate() {
+        if letter != u16::from(word[k]) {
             return false;
         }
-        k += 1;
     }
     true
 }
 
 // A part of the text is the word.
+#[tactic(auto, using(crate::proofs::Finding::equals))]
 fn are_equal(part: &[u16], word: &[u8]) -> bool
     ensures { result ≡ same_word part.now word.now }
 {
@@ -56,22 +47,23 @@ fn is_word(word: &[u8], text: &[u16], table: &[u16], i: usize) -> bool
     are_equal(&text[start..end], word)
 }
 
-// The place of the word among the n that are laid, or n.
+// The place of the word among the n that are laid, or n, which is then the place that it gets. Kept: so says `place_of` of crate `words`, and the number that a side
+// gets is this one in both cases.
+#[tactic(auto, using(crate::proofs::Finding::finding))]
 fn find_word(word: &[u8], text: &[u16], table: &[u16], n: usize) -> usize
     requires { Laid text.now table.now n }
     ensures { result ≡ place_of word.now (words_in text.now table.now n) }
 {
-    let mut i = 0;
-    while i < n {
+    for i in 0..n {
         if is_word(word, text, table, i) {
             return i;
         }
-        i += 1;
     }
-    i
+    n
 }
 
 // Writes a word, and its fence behind it, at a position of the text.
+#[tactic(auto, using(crate::proofs::Appending::fences))]
 fn write_word(word: &[u8], text: &mut [u16], at: usize, fence: u16)
     requires { at + length word.now < length text.old }
     ensures { text.new ≡ written at (word.now ++ (fence ∷ [])) text.old }
@@ -99,7 +91,7 @@ fn append_side(word: &[u8], text: &mut [u16], table: &mut [u16], n: usize, s: us
     ensures { SideAppended word.now text.old table.old n s text.new table.new result }
 {
     let i = find_word(word, text, table, n);
-    table[Table::SIDES + s] = narrow(i);
+    table[Table::SIDES + s] = i as u16;
     if i < n {
         return n;
     }

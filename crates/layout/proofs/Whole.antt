@@ -9,6 +9,7 @@ use lib.ListN.{length, get_or, take}
 use lib.Seq.{get_or-take, length-take-le}
 use Rattle.writing.specs.Writing.{Bytes}
 use Rattle.overlap.specs.Pieces.{C4}
+use Rattle.layout.specs.Families.{Grouped}
 use Rattle.layout.specs.Layout.{Laid, Checked, word_at, words_in, start_of, end_of, order_of}
 use Rattle.words.proofs.Parts.{part_of_take}
 use Rattle.layout.proofs.Placed.{end_before, owner}
@@ -88,3 +89,7 @@ whole_checked text table n c t e =
   where
     kept : (k : ℕ) → k < n → word_at (take t text) table k ≡ word_at text table k
     kept k h = part_of_take text t (start_of table k) (end_of table k) (whole_ends text table n c.laid t e k h)
+
+-- its families are linked as they were
+pub whole_grouped : (text table : List ℕ) (n : ℕ) → Grouped text table n → (t : ℕ) → t ≡ start_of table n → Grouped (take t text) table n
+whole_grouped text table n g t e = record { checked = whole_checked text table n g.checked t e; linked = g.linked }

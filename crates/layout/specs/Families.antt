@@ -1,5 +1,5 @@
 -- Sides and families in the table: which word each side is, how many words there are, which family each word is of, and the links from member to member.
-use Rattle.std.specs.Prelude.{ℕ, zero, suc, ◌≤◌, ◌<◌, List, [], ◌∷◌, ◌++◌, ◌≡◌, get_or}
+use Rattle.std.specs.Prelude.{ℕ, zero, suc, ◌≤◌, ◌<◌, List, [], ◌∷◌, ◌++◌, ◌≡◌, get_or, length}
 use Rattle.words.specs.Families.{family_in}
 use Rattle.layout.specs.Places.{side_cell, count_cell, family_cell, next_cell}
 use Rattle.layout.specs.Layout.{Checked}
@@ -51,3 +51,8 @@ pub record Grouped (text table : List ℕ) (n : ℕ) : Type 0 where
 pub record GroupedWord (text table : List ℕ) (n i : ℕ) : Type 0 where
   pub grouped : Grouped text table n
   pub there : i < n
+
+-- a checked presentation with families in arrays, in a text whose places are small: 65536 is no limit of the papers and only keeps sums in range
+pub record Ready (text table : List ℕ) (n : ℕ) : Type 0 where
+  pub grouped : Grouped text table n
+  pub text_short : length text ≤ 65536

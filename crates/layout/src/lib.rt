@@ -1,13 +1,12 @@
 // How relation words lie in arrays: where each part of the text and of the table begins, and the readers of the table.
 #![tactic(auto)]
 
-ghost use Rattle.std.specs.Prelude.{◌≡◌, ◌+◌, ◌-◌, ◌<◌, ◌≤◌, length};
+ghost use Rattle.std.specs.Prelude.{◌≡◌, ◌+◌, ◌-◌, ◌<◌, ◌≤◌, length, get_or};
 ghost use Rattle.layout.specs.Places.{word_most, start_cell, x_end_cell, z_start_cell, pieces_cell, end_cell, side_cell, count_cell, family_cell, next_cell, first_cell, order_cell, shared_cell, fixed_places};
 ghost use Rattle.layout.specs.Layout.{start_of, x_end_of, z_start_of, pieces_of, end_of, first_of, order_of, shared_of};
-ghost use Rattle.layout.specs.Families.{side_word_of, count_of, family_at, next_of};
+ghost use Rattle.layout.specs.Families.{side_word_of, count_of, family_at, next_of, Grouped};
 
 use limits::{Head, Relation};
-use numbers::wide16;
 
 // The text: the relation words one after the other, each with a fence behind it.
 #[derive(Clone, Copy)]
@@ -99,12 +98,23 @@ pub fn fixed_places() -> [usize; 19]
     ]
 }
 
+// What stands in a cell of the table.
+fn number_in(table: &[u16], cell: usize) -> usize
+    requires { cell < length table.now }
+    ensures { result ≡ get_or table.now cell 0 }
+{
+    usize::from(table[cell])
+}
+
+// Kept: the readers below differ in their cells alone, and each is one line over the reader above. They are not one function of a column, since the clauses of the
+// crates above cite them and the definitions of their names (`start_of`, `end_of` and the others of specs/Layout.antt and specs/Families.antt).
+
 // Where relation word k starts in the text.
 pub fn start_of(table: &[u16], k: usize) -> usize
     requires { start_cell k < length table.now }
     ensures { result ≡ start_of table.now k }
 {
-    wide16(table[Table::COLUMNS * k + Table::START])
+    number_in(table, Table::COLUMNS * k + Table::START)
 }
 
 // Where its X ends.
@@ -112,7 +122,7 @@ pub fn x_end_of(table: &[u16], k: usize) -> usize
     requires { x_end_cell k < length table.now }
     ensures { result ≡ x_end_of table.now k }
 {
-    wide16(table[Table::COLUMNS * k + Table::X_END])
+    number_in(table, Table::COLUMNS * k + Table::X_END)
 }
 
 // Where its Z starts.
@@ -120,7 +130,7 @@ pub fn z_start_of(table: &[u16], k: usize) -> usize
     requires { z_start_cell k < length table.now }
     ensures { result ≡ z_start_of table.now k }
 {
-    wide16(table[Table::COLUMNS * k + Table::Z_START])
+    number_in(table, Table::COLUMNS * k + Table::Z_START)
 }
 
 // Where it ends.
@@ -128,7 +138,7 @@ pub fn end_of(table: &[u16], k: usize) -> usize
     requires { end_cell k < length table.now }
     ensures { result ≡ end_of table.now k }
 {
-    wide16(table[Table::COLUMNS * k + Table::END])
+    number_in(table, Table::COLUMNS * k + Table::END)
 }
 
 // How many letters it has: at most Text::WORD, so a byte.
@@ -144,7 +154,7 @@ pub fn pieces_of(table: &[u16], k: usize) -> usize
     requires { pieces_cell k < length table.now }
     ensures { result ≡ pieces_of table.now k }
 {
-    wide16(table[Table::PIECES + k])
+    number_in(table, Table::PIECES + k)
 }
 
 // The relation word of side s.
@@ -152,7 +162,7 @@ pub fn side_word(table: &[u16], s: usize) -> usize
     requires { side_cell s < length table.now }
     ensures { result ≡ side_word_of table.now s }
 {
-    wide16(table[Table::SIDES + s])
+    number_in(table, Table::SIDES + s)
 }
 
 // How many relation words there are.
@@ -160,7 +170,7 @@ pub fn count_of(table: &[u16]) -> usize
     requires { count_cell < length table.now }
     ensures { result ≡ count_of table.now }
 {
-    wide16(table[Table::COUNT])
+    number_in(table, Table::COUNT)
 }
 
 // The family of relation word i: its lowest member.
@@ -168,7 +178,7 @@ pub fn family_of(table: &[u16], i: usize) -> usize
     requires { family_cell i < length table.now }
     ensures { result ≡ family_at table.now i }
 {
-    wide16(table[Table::FAMILY + i])
+    number_in(table, Table::FAMILY + i)
 }
 
 // The member behind relation word i in its family.
@@ -176,7 +186,7 @@ pub fn next_of(table: &[u16], i: usize) -> usize
     requires { next_cell i < length table.now }
     ensures { result ≡ next_of table.now i }
 {
-    wide16(table[Table::NEXT + i])
+    number_in(table, Table::NEXT + i)
 }
 
 // The place from which the relation words that begin with letter c are listed.
@@ -184,7 +194,7 @@ pub fn first_of(table: &[u16], c: usize) -> usize
     requires { first_cell c < length table.now }
     ensures { result ≡ first_of table.now c }
 {
-    wide16(table[Table::FIRST + c])
+    number_in(table, Table::FIRST + c)
 }
 
 // The relation word that is listed at place j.
@@ -192,7 +202,7 @@ pub fn order_of(table: &[u16], j: usize) -> usize
     requires { order_cell j < length table.now }
     ensures { result ≡ order_of table.now j }
 {
-    wide16(table[Table::ORDER + j])
+    number_in(table, Table::ORDER + j)
 }
 
 // How many letters it shares with the one listed before it.
@@ -200,5 +210,14 @@ pub fn shared_of(table: &[u16], j: usize) -> usize
     requires { shared_cell j < length table.now }
     ensures { result ≡ shared_of table.now j }
 {
-    wide16(table[Table::SHARED + j])
+    number_in(table, Table::SHARED + j)
+}
+
+// The relation words of a checked presentation: the text and the table in which they lie, and how many they are. Every round works on them.
+#[derive(Clone, Copy)]
+pub struct RelationWords<'t> {
+    pub text: &'t [u16],
+    pub table: &'t [u16],
+    pub n: usize,
+    ghost grouped: { Grouped text.now table.now n },
 }

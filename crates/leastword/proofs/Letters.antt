@@ -1,8 +1,7 @@
 -- A law for each way that the writing of letters can go.
 use Prim.Native.Nat.{ℕ, ◌+◌, ◌*◌, ◌^◌, ◌<◌, ◌≤◌}
-use mathlib.Core.Bool.{Bool, true, false}
 use mathlib.Core.List.{List}
-use mathlib.Core.Path.{◌≡◌, refl, sym, ap, ◌∙◌, subst}
+use mathlib.Core.Path.{◌≡◌, refl, ap, ◌∙◌, subst}
 use native.Mathlib.Omega.{arith}
 use borrow.Author.Rules.{rules}
 use lib.ListN.{length}
@@ -15,7 +14,8 @@ use Rattle.words.specs.Writing.{written}
 use Rattle.writing.proofs.Writing.{written_length}
 use Rattle.limits.specs.Limits.{side_most}
 use Rattle.parts.specs.declared.Source.{Source}
-use Rattle.parts.specs.State.{LettersLow, SourceFits, source_word}
+use Rattle.parts.specs.declared.Source.TheVariants as Sources
+use Rattle.parts.specs.State.{LettersLow, LettersFit, SourceFits, source_word}
 use Rattle.leastword.specs.Writing.{LettersPuttable, Puttable, Put}
 
 -- letters fit in bytes
@@ -37,52 +37,52 @@ pub ruleset puts = (letters_narrow, letters_put, letters_kept, rules)
 -- a part has no more letters than a relation word
 pub source_short : (text : List ℕ) (given : Word) (source : Source) → SourceFits text given source → length (source_word text given source) ≤ side_most
 unfolding source_word
-source_short text given source f = go source.given refl
-  where
-    go : (g : Bool) → source.given ≡ g → length (source_word text given source) ≤ side_most
-    go true e = rw e (omega (arith, part_length given source.from source.to (f.in_given e), f.short))
-    go false e = rw e (omega (arith, part_length text source.from source.to (f.in_text e), f.short))
+source_short text given (Sources.Text from to) f = omega (arith, part_length text from to f.inside, f.short)
+source_short text given (Sources.Given from to) f = omega (arith, part_length given from to f.inside, f.short)
 
-module _ (text : List ℕ) (given : Word) (source : Source) (at : ℕ) (p : Puttable text given source at) where
-  pub source_up : source.from ≤ source.to
-  source_up = p.fits.up
+module _ (text : List ℕ) (given : Word) (source : Source) (at : ℕ) (p : Puttable text given source at) (from to : ℕ) where
+  module _ (e : source ≡ Sources.Given from to) where
+    given_fits : LettersFit given given from to
+    given_fits = subst (SourceFits text given) e p.fits
 
-  module _ (e : source.given ≡ true) where
-    pub given_inside : source.to ≤ length given
-    given_inside = p.fits.in_given e
+    pub given_up : from ≤ to
+    given_up = given_fits.up
 
-    pub given_scaled : length given * 2 < 2 ^ 63 → Fits w64 (source.from * 2)
-    given_scaled h = let i = given_inside in let u = source_up in omega arith
+    pub given_inside : to ≤ length given
+    given_inside = given_fits.inside
 
-    is_given : source_word text given source ≡ part given source.from source.to
-    unfolding source_word
-    is_given = rw e
+    pub given_scaled : length given * 2 < 2 ^ 63 → Fits w64 (from * 2)
+    given_scaled h = let i = given_inside in let u = given_up in omega arith
 
-    pub given_puttable : LettersPuttable (part given source.from source.to) at
+    pub given_puttable : LettersPuttable (part given from to) at
     given_puttable =
-        let l = part_length given source.from source.to given_inside in
-        record { bytes = low_bytes _ (subst LettersLow is_given (p.fits.low p.low)); short = omega (arith, p.fits.short); few = p.few }
+        let l = part_length given from to given_inside in
+        record { bytes = low_bytes _ (given_fits.low p.low); short = omega (arith, given_fits.short); few = p.few }
 
-    pub given_put : (d b : List ℕ) (r : ℕ) → Put (part given source.from source.to) d at b r → Put (source_word text given source) d at b r
-    given_put d b r = subst (λ (c : Word). Put c d at b r) (sym is_given)
-
-  module _ (e : source.given ≡ false) where
-    pub text_inside : source.to ≤ length text
-    text_inside = p.fits.in_text e
-
-    pub text_scaled : length text * 2 < 2 ^ 63 → Fits w64 (source.from * 2)
-    text_scaled h = let i = text_inside in let u = source_up in omega arith
-
-    is_text : source_word text given source ≡ part text source.from source.to
+    pub given_put : (d b : List ℕ) (r : ℕ) → Put (part given from to) d at b r → Put (source_word text given source) d at b r
     unfolding source_word
-    is_text = rw e
+    given_put d b r h = rw e h
 
-    pub text_puttable : LettersPuttable (part text source.from source.to) at
+  module _ (e : source ≡ Sources.Text from to) where
+    text_fits : LettersFit text given from to
+    text_fits = subst (SourceFits text given) e p.fits
+
+    pub text_up : from ≤ to
+    text_up = text_fits.up
+
+    pub text_inside : to ≤ length text
+    text_inside = text_fits.inside
+
+    pub text_scaled : length text * 2 < 2 ^ 63 → Fits w64 (from * 2)
+    text_scaled h = let i = text_inside in let u = text_up in omega arith
+
+    pub text_puttable : LettersPuttable (part text from to) at
     text_puttable =
-        let l = part_length text source.from source.to text_inside in
-        record { bytes = low_bytes _ (subst LettersLow is_text (p.fits.low p.low)); short = omega (arith, p.fits.short); few = p.few }
+        let l = part_length text from to text_inside in
+        record { bytes = low_bytes _ (text_fits.low p.low); short = omega (arith, text_fits.short); few = p.few }
 
-    pub text_put : (d b : List ℕ) (r : ℕ) → Put (part text source.from source.to) d at b r → Put (source_word text given source) d at b r
-    text_put d b r = subst (λ (c : Word). Put c d at b r) (sym is_text)
+    pub text_put : (d b : List ℕ) (r : ℕ) → Put (part text from to) d at b r → Put (source_word text given source) d at b r
+    unfolding source_word
+    text_put d b r h = rw e h
 
-pub ruleset sources = (source_up, given_inside, given_scaled, given_puttable, given_put, text_inside, text_scaled, text_puttable, text_put, rules)
+pub ruleset sources = (given_up, given_inside, given_scaled, given_puttable, given_put, text_up, text_inside, text_scaled, text_puttable, text_put, rules)

@@ -2,6 +2,7 @@
 use Prim.Native.Nat.{ℕ, zero, suc, ◌+◌, ◌*◌, ◌<◌, ◌≤◌}
 use mathlib.Core.List.{List, [], ◌++◌, append_assoc, append-nil}
 use mathlib.Core.Path.{◌≡◌, refl, sym, ap, ◌∙◌, subst}
+use Rattle.std.proofs.Common.{Option, Some, None}
 use native.Mathlib.Omega.{arith}
 use borrow.Author.Rules.{rules}
 use lib.ListN.{length, length-append}
@@ -28,12 +29,10 @@ use Rattle.least.proofs.Theorem.{families_write_least}
 use Rattle.moves.specs.declared.Mark.{Mark}
 use Rattle.moves.specs.State.{placed_word, placed_mark}
 use Rattle.parts.specs.declared.LeastState.{LeastState}
-use Rattle.parts.specs.declared.Hint.TheVariants as Hints
 use Rattle.parts.specs.declared.Source.{Source}
 use Rattle.parts.specs.declared.Stage.{Stage}
 use Rattle.parts.specs.declared.Stage.TheVariants as Stages
-use Rattle.parts.specs.State.{source_word, LeastFits, LeastReady, weight, StageStands, Goes, PartMade}
-use Rattle.leastword.specs.declared.Counted.TheVariants as Counts
+use Rattle.parts.specs.State.{start_state, source_word, LeastFits, LeastReady, weight, StageStands, Goes, PartMade}
 use Rattle.leastword.specs.Writing.{Asked, written_most, Puttable, Put, PutFound}
 use Rattle.asked.specs.Least.{least_for, least_from}
 use Rattle.leastword.proofs.Letters.{source_short}
@@ -107,18 +106,14 @@ pub record Going (text table : List ℕ) (n : ℕ) (given : Word) (piece : Mark)
   pub long : length b ≡ length d
   pub same : length word ≤ length d → b ≡ written 0 word d
 
--- the first state: the whole given word, and the piece as its mark
-abbrev start_state : Mark → LeastState
-start_state piece = record { word = record { at = 0; to = 0; from = 0 }; mark = piece; hint = Hints.Unknown }
-
 module _ (text table : List ℕ) (n : ℕ) (given : Word) (piece : Mark) (a : Asked text table n given piece) where
   told : Written (words_in text table n) (family_by table n) house_rank (Chain (words_in text table n) (family_by table n)) (placed_mark text piece) given
   told =
       let R = rigid_of_c4 (words_in text table n) a.ready.grouped.checked.accepted in
       families_write_least R (family_by table n) house_rank house_injective (placed_mark text piece) given (marking_piece R a.piece)
 
-  pub going_start : (d : List ℕ) → Going text table n given piece d (start_state piece) d 0
-  going_start d =
+  start : (d : List ℕ) → Going text table n given piece d (start_state piece) d 0
+  start d =
       let B = words_in text table n in
       let q = no_prefix_nil B (rigid_of_c4 B a.ready.grouped.checked.accepted) in
       record {
@@ -140,6 +135,9 @@ module _ (text table : List ℕ) (n : ℕ) (given : Word) (piece : Mark) (a : As
         same = λ h. sym (written_zero [] d);
       }
 
+  pub going_start : (s : LeastState) → s ≡ start_state piece → (d : List ℕ) → Going text table n given piece d s d 0
+  going_start s e d = rw e (start d)
+
 module _ (text table : List ℕ) (n : ℕ) (given : Word) (piece : Mark) (d : List ℕ) (s : LeastState) (b : List ℕ) (at : ℕ) (g : Going text table n given piece d s b at) where
   abbrev target : Found
   target = least_from (words_in text table n) (family_by table n) (placed_mark text piece) given
@@ -147,9 +145,10 @@ module _ (text table : List ℕ) (n : ℕ) (given : Word) (piece : Mark) (d : Li
   pub going_ready : LeastReady text table n given s
   going_ready = record { ready = g.asked.ready; short = omega (arith, g.asked.short); standing = g.standing }
 
-  module _ (r : Stage) (f : PartMade text table n given s r) where
-    pub going_end : r ≡ Stages.End → PutFound target d b (Counts.Letters at)
-    going_end e =
+  module _ (r : Option Stage) (f : PartMade text table n given s r) where
+    pub going_end : (x : Stage) → r ≡ Some x → x ≡ Stages.End → PutFound target d b (Some at)
+    going_end x y i =
+        let e : r ≡ Some Stages.End = y ∙ ap Some i in
         let q = made_end (words_in text table n) (family_by table n) g.parts (sym (rw e at f.same)) in
         let w : found (g.word ++ []) ≡ target = rw q at g.whole in
         let v : target ≡ found g.word = sym w ∙ ap found (append-nil g.word) in
@@ -162,13 +161,16 @@ module _ (text table : List ℕ) (n : ℕ) (given : Word) (piece : Mark) (d : Li
               rw (← y) (g.same (omega (arith, ap length y)) ∙ written_zero g.word d);
         }
 
-    pub going_none : r ≡ Stages.None → PutFound target d b Counts.Absent
+    pub going_none : r ≡ None → PutFound target d b None
     going_none e =
         let q = made_none (words_in text table n) (family_by table n) g.parts (sym (rw e at f.same)) in
         let w : absent ≡ target = rw q at g.whole in
         record { counted = rw (← w); long = g.long; same = λ x k h. let a : absent ≡ found x = w ∙ k in let z : ◌≡◌ {A = ℕ} 0 1 = cc in absurd (omega arith) }
 
-    module _ (c : Source) (t : LeastState) (e : r ≡ Stages.Go c t) where
+    module _ (x : Stage) (y : r ≡ Some x) (c : Source) (t : LeastState) (i : x ≡ Stages.Go c t) where
+      e : r ≡ Some (Stages.Go c t)
+      e = y ∙ ap Some i
+
       goes_on : Goes text (words_in text table n) (family_by table n) given s c t
       goes_on = subst (StageStands text (words_in text table n) (family_by table n) given s) e f.stands
 

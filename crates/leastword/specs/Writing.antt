@@ -1,5 +1,5 @@
 -- What writing the least word of a given word, behind a piece or behind nothing, into a lent buffer asks, and what it leaves there.
-use Rattle.std.specs.Prelude.{ℕ, ◌+◌, ◌*◌, ◌≤◌, List, ◌≡◌, length}
+use Rattle.std.specs.Prelude.{ℕ, ◌+◌, ◌*◌, ◌≤◌, Option, Some, None, List, ◌≡◌, length}
 use Rattle.words.specs.Words.{Word}
 use Rattle.writing.specs.Writing.{Bytes}
 use Rattle.words.specs.Writing.{written, over}
@@ -8,11 +8,10 @@ use Rattle.limits.specs.Limits.{side_most, compared_most}
 use Rattle.layout.specs.Layout.{words_in}
 use Rattle.least.specs.Writing.{Found, found, absent}
 use Rattle.moves.specs.declared.Mark.{Mark}
-use Rattle.moves.specs.State.{Ready, placed_mark, MarkFits}
+use Rattle.moves.specs.State.{placed_mark, MarkFits}
+use Rattle.layout.specs.Families.{Ready}
 use Rattle.parts.specs.declared.Source.{Source}
 use Rattle.parts.specs.State.{LettersLow, SourceFits}
-use Rattle.leastword.specs.declared.Counted.{Counted}
-use Rattle.leastword.specs.declared.Counted.TheVariants as Counts
 
 -- a word of which the least word behind a mark can be asked: within the limit, of letters that a head can have, under a checked presentation, of which the mark
 -- is a piece that lies in the text
@@ -46,12 +45,12 @@ pub record Put (c d : List ℕ) (at : ℕ) (b : List ℕ) (r : ℕ) : Type 0 whe
   pub same : at + length c ≤ length d → b ≡ written at c d
 
 -- how many letters a word that was found has
-abbrev pub counted_of : Found → Counted
-counted_of (found w) = Counts.Letters (length w)
-counted_of absent = Counts.Absent
+abbrev pub counted_of : Found → Option ℕ
+counted_of (found w) = Some (length w)
+counted_of absent = None
 
 -- what was found was written over d if it has room there, which left b; r tells how many letters it has
-pub record PutFound (f : Found) (d b : List ℕ) (r : Counted) : Type 0 where
+pub record PutFound (f : Found) (d b : List ℕ) (r : Option ℕ) : Type 0 where
   pub counted : r ≡ counted_of f
   pub long : length b ≡ length d
   pub same : (w : Word) → f ≡ found w → length w ≤ length d → b ≡ over w d

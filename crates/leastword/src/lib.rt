@@ -3,22 +3,15 @@
 #![tactic(auto)]
 
 ghost use Rattle.std.specs.Prelude.{◌≡◌};
-ghost use Rattle.layout.specs.Layout.{words_in};
-ghost use Rattle.layout.specs.Families.{family_by};
 ghost use Rattle.moves.specs.State.{placed_mark};
 ghost use Rattle.parts.specs.State.{source_word};
 ghost use Rattle.leastword.specs.Writing.{Asked, Puttable, Put, LettersPuttable, counted_of, PutFound};
 ghost use Rattle.asked.specs.Least.{least_from};
+ghost use Rattle.layout.specs.Views.{words_of, family_of, on};
 
-use moves::{Mark, PlacedWord};
-use parts::{Hint, LeastState, Source, Stage, make_part};
-
-// How many letters the word that was found has, or that there is none.
-#[derive(Clone, Copy)]
-pub enum Counted {
-    Letters(usize),
-    Absent,
-}
+use layout::RelationWords;
+use moves::Mark;
+use parts::{LeastState, Source, Stage, make_part};
 
 // Writes letters from a place on if they have room there, and answers the place behind them.
 fn put_letters(letters: &[u16], out: &mut [u8], at: usize) -> usize
@@ -37,44 +30,32 @@ fn put_part(text: &[u16], given: &[u16], source: Source, out: &mut [u8], at: usi
     requires { Puttable text.now given.now source at }
     ensures { Put (source_word text.now given.now source) out.old at out.new result }
 {
-    let from = source.from;
-    let to = source.to;
-    if source.given {
-        return put_letters(&given[from..to], out, at);
+    match source {
+        Source::Text { from, to } => put_letters(&text[from..to], out, at),
+        Source::Given { from, to } => put_letters(&given[from..to], out, at),
     }
-    put_letters(&text[from..to], out, at)
 }
 
 // Writes the least word behind a piece at the start of a buffer if it has room there, and answers how many letters it has, or that there is none. A buffer that is too
 // small can be changed. The piece is given by where it stands in the text; behind the empty one stands the least congruent word, of which there always is one.
 pub fn write_least(
-    text: &[u16],
-    table: &[u16],
-    n: usize,
+    words: &RelationWords,
     given: &[u16],
     piece: Mark,
     out: &mut [u8],
-) -> Counted
-    requires { Asked text.now table.now n given.now piece }
-    ensures { PutFound (least_from (words_in text.now table.now n) (family_by table.now n) (placed_mark text.now piece) given.now) out.old out.new result }
+) -> Option<usize>
+    requires { on words.now Asked given.now piece }
+    ensures { PutFound (least_from (words_of words.now) (family_of words.now) (placed_mark words.now.text.now piece) given.now) out.old out.new result }
 {
-    let mut s = LeastState {
-        word: PlacedWord {
-            at: 0,
-            to: 0,
-            from: 0,
-        },
-        mark: piece,
-        hint: Hint::Unknown,
-    };
+    let mut s = LeastState::start(piece);
     let mut at = 0;
+    // Kept: a `loop`, since no index is counted here: each round tells the state of the next one, and how many there are is known only at the end.
     loop {
-        let stage = make_part(text, table, n, given, s);
+        let stage = make_part(words, given, s)?;
         match stage {
-            Stage::End => return Counted::Letters(at),
-            Stage::None => return Counted::Absent,
+            Stage::End => return Some(at),
             Stage::Go(source, next) => {
-                at = put_part(text, given, source, out, at);
+                at = put_part(words.text, given, source, out, at);
                 s = next;
             }
         }
@@ -82,10 +63,10 @@ pub fn write_least(
 }
 
 // How many letters the least word behind a piece has, or that there is none: the counting pass, which has no room to write.
-pub fn count_least(text: &[u16], table: &[u16], n: usize, given: &[u16], piece: Mark) -> Counted
-    requires { Asked text.now table.now n given.now piece }
-    ensures { result ≡ counted_of (least_from (words_in text.now table.now n) (family_by table.now n) (placed_mark text.now piece) given.now) }
+pub fn count_least(words: &RelationWords, given: &[u16], piece: Mark) -> Option<usize>
+    requires { on words.now Asked given.now piece }
+    ensures { result ≡ counted_of (least_from (words_of words.now) (family_of words.now) (placed_mark words.now.text.now piece) given.now) }
 {
     let mut none = [0u8; 0];
-    write_least(text, table, n, given, piece, &mut none)
+    write_least(words, given, piece, &mut none)
 }

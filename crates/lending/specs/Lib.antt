@@ -1,2 +1,2 @@
--- Buffers that have room for a held book and for a ticket.
-pub mod Rooms
+-- What an operation on a held book asks for, by the word that it begins with.
+pub mod Operations

@@ -1,124 +1,140 @@
-// The calls of a line on a held book: its loading, its changes, their proposals and the postings of tickets, with the first bytes of buffers lent.
-// The tickets of a line lie one behind the other in a buffer filled with aa, each in the room of one. It keeps as many as it holds: 1,930 in a
-// `large_room`.
+// What an operation on a held book asks for, and the calls that answer it, with the first bytes of buffers lent: the loading of a book, its changes, their
+// proposals and the postings of tickets.
 #![tactic(auto)]
 
-ghost use Rattle.fields.specs.Places.{Filled};
-ghost use Rattle.lending.specs.Rooms.{Roomy, TicketRoomy};
+ghost use Rattle.std.specs.Prelude.{◌≡◌, ◌+◌, ◌≤◌, ◌<◌, slice_set};
 
-use answers::Verdict;
+use fields::Fields;
 use limits::{Held, Ticket};
+use refusals::Refusal;
+
+// What an operation asks for.
+#[derive(Clone, Copy, PartialEq, Eq)]
+pub enum Operation {
+    Change(Change),
+    Proposal(Proposal),
+}
+
+// A change that is made.
+#[derive(Clone, Copy, PartialEq, Eq)]
+pub enum Change {
+    Addition,
+    Withdrawal,
+    Posting,
+}
+
+// A change that is proposed.
+#[derive(Clone, Copy, PartialEq, Eq)]
+pub enum Proposal {
+    Addition,
+    Withdrawal,
+}
+
+// By the word that an operation begins with. Any word but these four asks for a withdrawal.
+impl From<&[u8]> for Operation {
+    ghost use Rattle.lending.specs.Operations.{Asks};
+
+    ghost from_gives = { λ word operation. Asks word.now operation };
+
+    fn from(word: &[u8]) -> Operation {
+        match word {
+            b"add" => Operation::Change(Change::Addition),
+            b"post" => Operation::Change(Change::Posting),
+            b"plan-add" => Operation::Proposal(Proposal::Addition),
+            b"plan-drop" => Operation::Proposal(Proposal::Withdrawal),
+            _ => Operation::Change(Change::Withdrawal),
+        }
+    }
+}
+
+// How many tickets a line keeps: as many as lie in as many bytes as the longest line has.
+pub const MOST_TICKETS: usize = fields::LARGE / Ticket::ROOM;
+
+// The tickets that the proposals of a line gave, in their order, each in the room of one. It keeps as many as it has room for.
+#[derive(Drop)]
+pub struct Tickets {
+    pub rooms: [[u8; Ticket::ROOM]; MOST_TICKETS],
+    pub given: usize,
+}
+
+impl Tickets {
+    // No ticket was given so far.
+    pub fn new() -> Self
+        ensures { result.given ≡ 0 }
+    {
+        Tickets {
+            rooms: [[fields::FILL; Ticket::ROOM]; MOST_TICKETS],
+            given: 0,
+        }
+    }
+
+    // The ticket of a number, counted from 0. One that was not given is all aa.
+    fn ticket(&self, number: usize) -> [u8; Ticket::ROOM] {
+        self.rooms
+            .get(number)
+            .copied()
+            .unwrap_or([fields::FILL; Ticket::ROOM])
+    }
+
+    // Keeps a ticket behind those that were given, where there is room for it.
+    pub fn keep(&mut self, ticket: &[u8; Ticket::ROOM])
+        ensures kept { self.old.given < MOST_TICKETS → self.new ≡ record { rooms = slice_set self.old.rooms self.old.given ticket.now; given = self.old.given + 1 } }
+        ensures full { MOST_TICKETS ≤ self.old.given → self.new ≡ self.old }
+    {
+        if self.given < MOST_TICKETS {
+            self.rooms[self.given] = *ticket;
+            self.given += 1;
+        }
+    }
+}
 
 // Loads a book into the first bytes of a buffer.
-pub fn lend_load(book: &[u8], held: &mut [u8]) -> Verdict
-    requires { Roomy held.old }
-{
+pub fn lend_load(book: &[u8], held: &mut [u8; fields::ROOM]) -> Result<usize, Refusal> {
     heldbook::load_held(book, &mut held[..Held::ROOM])
 }
 
-// The change that a text asks for, with the sheet in the first bytes of a buffer.
+// The change that an operation asks for.
 pub fn lend_change(
-    word: &[u8],
-    text: &[u8],
-    held: &mut [u8],
-    tickets: &[u8],
+    change: Change,
+    operation: Fields<'_>,
+    held: &mut [u8; fields::ROOM],
+    tickets: &Tickets,
     sheet: &mut [u8],
-    n: usize,
-) -> Verdict
-    requires { Roomy held.old × Filled n sheet.old }
-{
-    if fields::is_word(word, b"add") {
-        return lend_addition(text, held, sheet, n);
-    }
-    if fields::is_word(word, b"post") {
-        return lend_posting(text, held, tickets, sheet, n);
-    }
-    let i = fields::number_field(text, 1);
-    heldbook::withdraw_relation(&mut held[..Held::ROOM], i as usize, &mut sheet[..n])
-}
-
-// The addition of the record that a text has.
-fn lend_addition(text: &[u8], held: &mut [u8], sheet: &mut [u8], n: usize) -> Verdict
-    requires { Roomy held.old × Filled n sheet.old }
-{
-    let mut bytes = fields::large_room();
-    let m = fields::put_field(text, 1, &mut bytes);
-    heldbook::add_relation(&mut held[..Held::ROOM], &bytes[..m], &mut sheet[..n])
-}
-
-// The posting of the ticket whose number a text has.
-fn lend_posting(text: &[u8], held: &mut [u8], tickets: &[u8], sheet: &mut [u8], n: usize) -> Verdict
-    requires { Roomy held.old × Filled n sheet.old }
-{
-    let mut ticket = fields::lent_room();
-    copy_ticket(tickets, fields::number_field(text, 1), &mut ticket);
-    heldbook::post_ticket(
-        &mut held[..Held::ROOM],
-        &ticket[..Ticket::ROOM],
-        &mut sheet[..n],
-    )
-}
-
-// Copies the ticket of a number, counted from 0, to the start of a buffer filled with aa. One that is not kept is aa.
-fn copy_ticket(tickets: &[u8], number: u32, ticket: &mut [u8]) {
-    let at = Ticket::ROOM * number as usize;
-    if at < tickets.len() {
-        fields::copy(&tickets[at..], ticket);
+) -> Result<usize, Refusal> {
+    let held = &mut held[..Held::ROOM];
+    match change {
+        Change::Addition => {
+            let mut room = rooms::room::<{ fields::LARGE }>(0);
+            let n = operation.put(1, &mut room);
+            heldbook::add_relation(held, &room[..n], sheet)
+        }
+        Change::Withdrawal => {
+            heldbook::withdraw_relation(held, operation.number(1) as usize, sheet)
+        }
+        Change::Posting => {
+            let ticket = tickets.ticket(operation.number(1) as usize);
+            heldbook::post_ticket(held, &ticket, sheet)
+        }
     }
 }
 
-// The proposal that a text asks for, with the sheet and the ticket in the first bytes of two buffers; the ticket has just its room.
+// The proposal that an operation asks for, with a ticket's buffer that has just its room.
 pub fn lend_proposal(
-    word: &[u8],
-    text: &[u8],
-    held: &[u8],
+    proposal: Proposal,
+    operation: Fields<'_>,
+    held: &[u8; fields::ROOM],
     sheet: &mut [u8],
-    n: usize,
     ticket: &mut [u8],
-) -> Verdict
-    requires { Roomy held.now × Filled n sheet.old × TicketRoomy ticket.old }
-{
-    if fields::is_word(word, b"plan-add") {
-        return lend_proposed_addition(text, held, sheet, n, ticket);
+) -> Result<usize, Refusal> {
+    let held = &held[..Held::ROOM];
+    match proposal {
+        Proposal::Addition => {
+            let mut room = rooms::room::<{ fields::LARGE }>(0);
+            let n = operation.put(1, &mut room);
+            heldbook::propose_addition(held, &room[..n], sheet, ticket)
+        }
+        Proposal::Withdrawal => {
+            heldbook::propose_withdrawal(held, operation.number(1) as usize, sheet, ticket)
+        }
     }
-    let i = fields::number_field(text, 1);
-    heldbook::propose_withdrawal(
-        &held[..Held::ROOM],
-        i as usize,
-        &mut sheet[..n],
-        &mut ticket[..Ticket::ROOM],
-    )
-}
-
-// The proposal of the addition of the record that a text has.
-fn lend_proposed_addition(
-    text: &[u8],
-    held: &[u8],
-    sheet: &mut [u8],
-    n: usize,
-    ticket: &mut [u8],
-) -> Verdict
-    requires { Roomy held.now × Filled n sheet.old × TicketRoomy ticket.old }
-{
-    let mut bytes = fields::large_room();
-    let m = fields::put_field(text, 1, &mut bytes);
-    heldbook::propose_addition(
-        &held[..Held::ROOM],
-        &bytes[..m],
-        &mut sheet[..n],
-        &mut ticket[..Ticket::ROOM],
-    )
-}
-
-// Keeps a ticket behind those that were given, which end at a position, where there is room for it, and answers where they end then.
-pub fn keep_ticket(ticket: &[u8], tickets: &mut [u8], given: usize) -> usize {
-    if tickets.len() < Ticket::ROOM {
-        return given;
-    }
-    if tickets.len() - Ticket::ROOM < given {
-        return given;
-    }
-    let end = given + Ticket::ROOM;
-    fields::copy(ticket, &mut tickets[given..end]);
-    end
 }

@@ -1,48 +1,46 @@
 -- The search for the first unknown letter of a word; the largest letter, which says whether there is one; words with none.
 use Prim.Native.Nat.{ℕ, zero, suc, ◌+◌, ◌≤◌, ◌<◌, max}
-use mathlib.Core.Bool.{Bool, true, false, cond}
+use mathlib.Core.Bool.{Bool, true, false, not, cond}
 use mathlib.Core.List.{List, [], ◌∷◌, ◌++◌}
-use mathlib.Core.Path.{◌≡◌, refl, ap}
+use mathlib.Core.Logic.{by_cases}
+use mathlib.Core.Path.{◌≡◌, refl, sym, ap}
+use native.Mathlib.Decide.{dec_lt}
+use Rattle.std.specs.List.{position_or_len}
+use Rattle.std.specs.Option.{unwrap_or}
+use Rattle.std.proofs.Common.{Option, Some, None}
+use Rattle.std.proofs.lemmas.List.Recursion.{is_position_or_len}
+use Rattle.std.proofs.lemmas.List.Sums.{prefix_len-le-length}
 use native.Mathlib.Omega.{arith}
 use native.Mathlib.Numerals.{add-one}
 use borrow.Author.Rules.{rules}
-use borrow.Author.Tests.{lt-ltb, le-ltb, ltb-true}
-use lib.Dec.{ltb}
+use borrow.Author.Tests.{lt-ltb, le-ltb, ltb-true, lt-leb, le-leb}
+use lib.Dec.{ltb, leb}
 use lib.ListN.{length, get_or, drop, drop_of_length-le}
 use lib.Seq.{drop-cons}
 use Rattle.words.specs.Words.{Word}
 use Rattle.letters.specs.Letters.{largest}
 use Rattle.words.specs.Letters.{first_unknown}
 
--- the letters passed are known
-pub record Passed (letters : ℕ) (word : List ℕ) (i : ℕ) : Type 0 where
-  pub within : i ≤ length word
-  pub counted : first_unknown letters word ≡ i + first_unknown letters (drop i word)
+-- the first unknown letter is the first that the test of the search accepts
+unknown_place : (letters : ℕ) (word : Word) → first_unknown letters word ≡ position_or_len (leb letters) word
+unfolding first_unknown
+unknown_place letters word = is_position_or_len (first_unknown letters) (leb letters) refl (λ x w. step x (first_unknown letters w)) word
+  where
+    step : (x n : ℕ) → cond (ltb x letters) (suc n) 0 ≡ cond (leb letters x) 0 (1 + n)
+    step x n = by_cases (dec_lt x letters)
+        (λ a. rw (lt-ltb x letters a, lt-leb letters x a) (omega arith))
+        (λ a. rw (le-ltb x letters (omega (arith, a)), le-leb letters x (omega (arith, a))))
 
-module _ (letters : ℕ) (word : List ℕ) where
-  pub passed_start : Passed letters word 0
-  passed_start = record { within = omega arith; counted = omega arith }
-
-  module _ (i : ℕ) (p : Passed letters word i) where
-    pub passed_more : i < length word → get_or word i 0 < letters → Passed letters word (i + 1)
-    unfolding first_unknown
-    passed_more h l =
-        let e : first_unknown letters (drop i word) ≡ suc (first_unknown letters (drop (i + 1) word)) = rw (drop-cons word i 0 h, lt-ltb _ _ l, add-one) in
-        record { within = omega arith; counted = omega arith }
-
-    pub passed_stop : i < length word → letters ≤ get_or word i 0 → i ≡ first_unknown letters word
-    unfolding first_unknown
-    passed_stop h l =
-        let e : first_unknown letters (drop i word) ≡ 0 = rw (drop-cons word i 0 h, le-ltb _ _ l) in
-        omega arith
-
-    pub passed_end : length word ≤ i → i ≡ first_unknown letters word
-    unfolding first_unknown
-    passed_end h =
-        let e : first_unknown letters (drop i word) ≡ 0 = rw (drop_of_length-le word h) in
-        omega arith
-
-pub ruleset passes = (passed_start, passed_more, passed_stop, passed_end, rules)
+-- where none is accepted, the answer is the word's length
+pub place_found : (letters : ℕ) (word : Word) (r : Option ℕ)
+    → r ≡ cond (ltb (position_or_len (leb letters) word) (length word)) (Some (position_or_len (leb letters) word)) None
+    → unwrap_or r (length word) ≡ first_unknown letters word
+place_found letters word r e =
+    let u = unknown_place letters word in
+    let l = prefix_len-le-length (λ x. not (leb letters x)) word in
+    by_cases (dec_lt (position_or_len (leb letters) word) (length word))
+    (λ a. rw (e, lt-ltb (position_or_len (leb letters) word) (length word) a) (sym u))
+    (λ a. rw (e, le-ltb (position_or_len (leb letters) word) (length word) (omega (arith, a))) (omega (arith, a, l, u)))
 
 -- the largest letter is that of the letters passed or of the rest
 pub record Topped (word : List ℕ) (i most : ℕ) : Type 0 where

@@ -1,14 +1,10 @@
 -- The limits (document 01, "Fixed amounts") for the definitions: each is proved equal to the constant of the code that names it, a list for each type of the code
 -- (`Head::amounts` and so on). And what the constructors answer.
-use Rattle.std.specs.Prelude.{ℕ, ◌+◌, ◌*◌, Bool, ◌||◌, cond, List, [], ◌∷◌, ltb}
-use Rattle.limits.specs.declared.MadeHead.{MadeHead}
-use Rattle.limits.specs.declared.MadeHead.TheVariants as Heads
-use Rattle.limits.specs.declared.MadeRelation.{MadeRelation}
-use Rattle.limits.specs.declared.MadeRelation.TheVariants as Relations
-use Rattle.limits.specs.declared.MadeWord.{MadeWord}
-use Rattle.limits.specs.declared.MadeWord.TheVariants as Words
-use Rattle.limits.specs.declared.MadeInput.{MadeInput}
-use Rattle.limits.specs.declared.MadeInput.TheVariants as Inputs
+use Rattle.std.specs.Prelude.{ℕ, ◌+◌, ◌*◌, Bool, ◌||◌, cond, List, [], ◌∷◌, ltb, Option, Some, None}
+use Rattle.limits.specs.declared.Head.{Head}
+use Rattle.limits.specs.declared.Relation.{Relation}
+use Rattle.limits.specs.declared.Word.{Word}
+use Rattle.limits.specs.declared.Input.{Input}
 
 -- a record has so many bytes of length and kind
 abbrev pub record_prefix : ℕ
@@ -196,15 +192,15 @@ abbrev pub outside : ℕ → ℕ → ℕ → Bool
 outside least most x = ltb x least || ltb most x
 
 -- what the constructors of the code answer
-unfoldable pub head_of : ℕ → MadeHead
-head_of letters = cond (outside letters_fewest letters_most letters) Heads.Range (Heads.Good (record { letters = letters }))
+unfoldable pub head_of : ℕ → Option Head
+head_of letters = cond (outside letters_fewest letters_most letters) None (Some (record { letters = letters }))
 
-unfoldable pub relation_of : ℕ → ℕ → MadeRelation
+unfoldable pub relation_of : ℕ → ℕ → Option Relation
 relation_of left right =
-    cond (outside side_fewest side_most left || outside side_fewest side_most right) Relations.Range (Relations.Good (record { left = left; right = right }))
+    cond (outside side_fewest side_most left || outside side_fewest side_most right) None (Some (record { left = left; right = right }))
 
-unfoldable pub word_of : ℕ → ℕ → MadeWord
-word_of most letters = cond (ltb most letters) Words.Long (Words.Good (record { length = letters }))
+unfoldable pub word_of : ℕ → ℕ → Option Word
+word_of most letters = cond (ltb most letters) None (Some (record { length = letters }))
 
-unfoldable pub input_of : ℕ → MadeInput
-input_of bytes = cond (ltb input_most bytes) Inputs.Heavy (Inputs.Good (record { length = bytes }))
+unfoldable pub input_of : ℕ → Option Input
+input_of bytes = cond (ltb input_most bytes) None (Some (record { length = bytes }))

@@ -5,11 +5,12 @@
 ghost use Rattle.std.specs.Prelude.{◌≡◌};
 ghost use Rattle.limits.specs.Limits.{outside, head_of, relation_of, word_of, input_of, record_amounts, head_amounts, relation_amounts, comparison_amounts, word_amounts, sheet_amounts, held_amounts, ticket_amounts, input_amounts};
 
-// What stands at a position of a book: a whole record, with its kind and where its payload begins and ends, or too few bytes for one.
+// A whole record of a book: its kind, and where its payload begins and ends.
 #[derive(Clone, Copy)]
-pub enum Record {
-    Whole(usize, usize, usize),
-    CutOff,
+pub struct Record {
+    pub kind: usize,
+    pub from: usize,
+    pub to: usize,
 }
 
 impl Record {
@@ -27,12 +28,6 @@ impl Record {
 #[derive(Clone, Copy)]
 pub struct Head {
     pub letters: u8,
-}
-
-#[derive(Clone, Copy)]
-pub enum MadeHead {
-    Good(Head),
-    Range,
 }
 
 impl Head {
@@ -60,13 +55,14 @@ impl Head {
         ]
     }
 
-    pub fn make(letters: u8) -> MadeHead
+    #[tactic(auto, using(crate::proofs::Limits::makes))]
+    pub fn make(letters: u8) -> Option<Head>
         ensures { result ≡ head_of letters }
     {
         if is_outside(Head::FEWEST_LETTERS, Head::MOST_LETTERS, letters as usize) {
-            return MadeHead::Range;
+            return None;
         }
-        MadeHead::Good(Head { letters })
+        Some(Head { letters })
     }
 }
 
@@ -75,12 +71,6 @@ impl Head {
 pub struct Relation {
     pub left: usize,
     pub right: usize,
-}
-
-#[derive(Clone, Copy)]
-pub enum MadeRelation {
-    Good(Relation),
-    Range,
 }
 
 impl Relation {
@@ -113,16 +103,17 @@ impl Relation {
         ]
     }
 
-    pub fn make(left: usize, right: usize) -> MadeRelation
+    #[tactic(auto, using(crate::proofs::Limits::makes))]
+    pub fn make(left: usize, right: usize) -> Option<Relation>
         ensures { result ≡ relation_of left right }
     {
         if is_outside(Relation::FEWEST_LETTERS, Relation::MOST_LETTERS, left) {
-            return MadeRelation::Range;
+            return None;
         }
         if is_outside(Relation::FEWEST_LETTERS, Relation::MOST_LETTERS, right) {
-            return MadeRelation::Range;
+            return None;
         }
-        MadeRelation::Good(Relation { left, right })
+        Some(Relation { left, right })
     }
 }
 
@@ -154,12 +145,6 @@ impl ComparisonRecord {
 #[derive(Clone, Copy)]
 pub struct Word {
     pub length: usize,
-}
-
-#[derive(Clone, Copy)]
-pub enum MadeWord {
-    Good(Word),
-    Long,
 }
 
 impl Word {
@@ -195,13 +180,14 @@ impl Word {
     }
 
     // A word of at most so many letters: COMPARED, ROUND or MARK.
-    pub fn make(letters: usize, most: usize) -> MadeWord
+    #[tactic(auto, using(crate::proofs::Limits::makes))]
+    pub fn make(letters: usize, most: usize) -> Option<Word>
         ensures { result ≡ word_of most letters }
     {
         if most < letters {
-            return MadeWord::Long;
+            return None;
         }
-        MadeWord::Good(Word { length: letters })
+        Some(Word { length: letters })
     }
 }
 
@@ -290,6 +276,7 @@ impl Ticket {
     pub const BUFFER: usize = 2;
 
     // The kinds of changes. Every other number is read as a withdrawal.
+    // Kept: numbers, since a ticket's bytes have them, and its definition `change_in` reads any number there; the code's own word for a change is `held::Asked`.
     pub const ADDITION: usize = 0;
 
     pub const WITHDRAWAL: usize = 1;
@@ -316,12 +303,6 @@ pub struct Input {
     pub length: usize,
 }
 
-#[derive(Clone, Copy)]
-pub enum MadeInput {
-    Good(Input),
-    Heavy,
-}
-
 impl Input {
     pub const MOST: usize = 60000;
 
@@ -331,13 +312,14 @@ impl Input {
         [Input::MOST]
     }
 
-    pub fn make(bytes: usize) -> MadeInput
+    #[tactic(auto, using(crate::proofs::Limits::makes))]
+    pub fn make(bytes: usize) -> Option<Input>
         ensures { result ≡ input_of bytes }
     {
         if Input::MOST < bytes {
-            return MadeInput::Heavy;
+            return None;
         }
-        MadeInput::Good(Input { length: bytes })
+        Some(Input { length: bytes })
     }
 }
 

@@ -1,108 +1,37 @@
--- Laws of writing at a place, and of the loops that do it.
-use Prim.Native.Nat.{ℕ, zero, suc, ◌+◌, ◌-◌, ◌/◌, ◌%◌, ◌≤◌, ◌<◌}
-use mathlib.Core.List.{List, [], ◌∷◌, ◌++◌, append_assoc, append-nil}
-use mathlib.Core.Path.{◌≡◌, refl, sym, ap, ◌∙◌}
+-- Laws of writing at a place: a number, a character, and lines of several texts.
+use Prim.Native.Nat.{ℕ, ◌+◌, ◌/◌, ◌%◌, ◌^◌, ◌≤◌, ◌<◌}
+use mathlib.Core.List.{List, [], ◌∷◌, ◌++◌}
+use mathlib.Core.Path.{◌≡◌, refl, ap, ◌∙◌, subst}
 use native.Mathlib.Omega.{arith}
-use native.Mathlib.Nat.{add-zero}
 use borrow.Author.Rules.{rules}
-use lib.ListN.{length, get_or, take, drop, set, length-append, length-set, take-append-drop}
-use lib.Seq.{take-suc, set_at, length-take-le}
-use mir.Val.{Fits}
-use mir.Syntax.{w64}
+use lib.ListN.{length, set, length-append, length-set}
 use Rattle.words.specs.Writing.{written}
 use Rattle.writing.proofs.Writing.{written_one, written_behind}
-use Rattle.spelling.specs.Decimal.{digits_of, digit_count, decimal}
+use Rattle.spelling.specs.Decimal.{digits_of, decimal}
 use Rattle.spelling.specs.Lines.{numbered, line_of, pair_line_of}
-use Rattle.spelling.proofs.Decimal.{count_small, count_more, length_digits, length_decimal}
+use Rattle.spelling.proofs.Decimal.{count_small, count_more}
+use Rattle.std.specs.Fmt.{decimal as text_of}
+use Rattle.std.proofs.lemmas.Fmt.{decimal_by_steps}
 use Rattle.lines.specs.Lines.{WrittenTo}
 
--- digits are being counted: `rest` is n without as many digits as are counted beyond the first
-pub record Counted (n count rest : ℕ) : Type 0 where
-  pub whole : count + digit_count rest ≡ digit_count n + 1
-  pub small : count + rest ≤ n + 1
+-- the library's text of a number is its decimal
+pub spelled : (n : ℕ) → n < 2 ^ 64 → text_of n ≡ decimal n
+unfolding decimal digits_of
+spelled n h = decimal_by_steps (λ m ds. ds ≡ decimal m) one more n h
+  where
+    one : (m : ℕ) → m < 10 → (48 + m) ∷ [] ≡ decimal m
+    one m l = let e : m % 10 ≡ m = omega arith in rw (count_small m l, e)
 
-pub counted_start : (n : ℕ) → Counted n 1 n
-counted_start n = record { whole = omega arith; small = omega arith }
+    more : (m : ℕ) (ds : List ℕ) → 10 ≤ m → ds ≡ decimal (m / 10) → ds ++ ((48 + m % 10) ∷ []) ≡ decimal m
+    more m ds l e = rw (count_more m l, e)
 
-pub counted_more : (n count rest : ℕ) → Counted n count rest → 10 ≤ rest → Counted n (count + 1) (rest / 10)
-counted_more n count rest c h = let e = count_more rest h in record { whole = omega arith; small = omega arith }
+-- a number's text is written
+module _ (out : List ℕ) (at n : ℕ) (s : List ℕ) (f : n < 2 ^ 64) (e : s ≡ text_of n) where
+  pub number_fits : at + length (decimal n) ≤ length out → at + length s ≤ length out
+  number_fits h = rw (e, spelled n f) h
 
-pub counted_fits : (n count rest : ℕ) → Fits w64 n → Counted n count rest → 10 ≤ rest → Fits w64 (count + 1)
-counted_fits n count rest f c h = omega arith
-
-pub counted_end : (n count rest : ℕ) → Counted n count rest → rest < 10 → count ≡ digit_count n
-counted_end n count rest c h = omega (arith, count_small rest h)
-
-pub ruleset counts = (counted_start, counted_more, counted_fits, counted_end, rules)
-
--- the digits behind `left` are written; `rest` holds those that are not
-pub record Writing (out : List ℕ) (at n count left rest : ℕ) (b : List ℕ) : Type 0 where
-  pub whole : count ≡ digit_count n
-  pub within : left ≤ count
-  pub room : at + count ≤ length out
-  pub written : List ℕ
-  pub long : left + length written ≡ count
-  pub made : digits_of left rest ++ written ≡ digits_of count n
-  pub same : b ≡ take (at + left) out ++ (written ++ drop (at + count) out)
-  pub kept : length b ≡ length out
-
-pub writing_start : (out : List ℕ) (at n count : ℕ) → count ≡ digit_count n → at + length (decimal n) ≤ length out → Writing out at n count count n out
-writing_start out at n count e h =
-    let l = length_decimal n in
-    record {
-      whole = e;
-      within = omega arith;
-      room = omega arith;
-      written = [];
-      long = omega arith;
-      made = append-nil (digits_of count n);
-      same = sym (take-append-drop (at + count) out);
-      kept = refl;
-    }
-
-pub writing_room : (out : List ℕ) (at n count left rest : ℕ) (b : List ℕ) → Writing out at n count left rest b → 0 < left → at + (left - 1) < length b
-writing_room out at n count left rest b w h = omega (arith, w.kept, w.room, w.within)
-
-pub writing_more : (out : List ℕ) (at n count left rest : ℕ) (b : List ℕ) (c : ℕ) → Writing out at n count left rest b → 0 < left → c ≡ 48 + rest % 10
-    → Writing out at n count (left - 1) (rest / 10) (set b (at + (left - 1)) c)
-unfolding digits_of
-writing_more out at n count zero rest b c w h e = absurd (omega arith)
-writing_more out at n count (suc j) rest b c w h e =
-    let r = w.room in
-    let i = w.within in
-    let l = w.long in
-    let d : suc j - 1 ≡ j = omega arith in
-    let k : at + suc j ≡ suc (at + j) = omega arith in
-    let t : length (take (at + j) out) ≡ at + j = length-take-le (at + j) out (omega arith) in
-    rw d
-    (record {
-      whole = w.whole;
-      within = omega arith;
-      room = r;
-      written = c ∷ w.written;
-      long = omega arith;
-      made = rw e (sym (append_assoc (digits_of j (rest / 10)) ((48 + rest % 10) ∷ []) w.written) ∙ w.made);
-      same =
-          rw (w.same, k, take-suc out (at + j) 0 (omega arith), append_assoc)
-          (set_at (take (at + j) out) (get_or out (at + j) 0) (w.written ++ drop (at + count) out) c (at + j) t);
-      kept = rw length-set w.kept;
-    })
-
-pub writing_fits : (out : List ℕ) (at n count left rest : ℕ) (b : List ℕ) → Writing out at n count left rest b → 0 < left → Fits w64 (length out) → Fits w64 (at + (left - 1))
-writing_fits out at n count left rest b w h f = omega (arith, w.room, w.within)
-
-pub writing_end : (out : List ℕ) (at n count left rest : ℕ) (b : List ℕ) → Writing out at n count left rest b → left ≤ 0 → WrittenTo out at (decimal n) b (at + count)
-unfolding decimal digits_of written
-writing_end out at n count zero rest b w h =
-    let e : length (digits_of (digit_count n) n) ≡ count = length_digits (digit_count n) n ∙ sym w.whole in
-    let m : w.written ≡ digits_of (digit_count n) n = w.made ∙ rw w.whole in
-    record { behind = rw e; same = rw (w.same, m, e, add-zero); kept = w.kept }
-writing_end out at n count (suc j) rest b w h = absurd (omega arith)
-
-pub behind_fits : (out : List ℕ) (at n count left rest : ℕ) (b : List ℕ) → Writing out at n count left rest b → Fits w64 (length out) → Fits w64 (at + count)
-behind_fits out at n count left rest b w f = omega (arith, w.room)
-
-pub ruleset writings = (writing_start, writing_room, writing_more, writing_fits, writing_end, behind_fits, rules)
+  pub number_written : (b : List ℕ) (r : ℕ) → WrittenTo out at s b r → WrittenTo out at (decimal n) b r
+  number_written b r w = subst (λ (t : List ℕ). WrittenTo out at t b r) (e ∙ spelled n f) w
 
 -- one character
 pub character_put : (out : List ℕ) (at c : ℕ) → at + 1 ≤ length out → WrittenTo out at (c ∷ []) (set out at c) (at + 1)

@@ -1,46 +1,20 @@
 // Lines of text in a lent buffer: a word, numbers in decimal, a newline (document 01, "The program").
 #![tactic(auto)]
 
-ghost use Rattle.std.specs.Prelude.{[], ◌∷◌, ◌≡◌, ◌+◌, ◌≤◌, length};
-ghost use Rattle.spelling.specs.Decimal.{digit_count, decimal};
+ghost use Rattle.std.specs.Prelude.{[], ◌∷◌, ◌+◌, ◌≤◌, length};
+ghost use Rattle.spelling.specs.Decimal.{decimal};
 ghost use Rattle.spelling.specs.Lines.{numbered, line_of, pair_line_of};
 ghost use Rattle.lines.specs.Lines.{WrittenTo};
 
-// How many decimal digits n has.
-fn digit_count(n: u64) -> usize
-    ensures { result ≡ digit_count n }
-{
-    let mut count = 1;
-    let mut rest = n;
-    while 10 <= rest {
-        rest = rest / 10;
-        count += 1;
-    }
-    count
-}
-
-// The digit's character.
-fn character(digit: u64) -> u8
-    requires { digit ≤ 9 }
-    ensures { result ≡ 48 + digit }
-{
-    48 + digit as u8
-}
+use itoa::Buffer;
 
 // Writes n in decimal at a place of the buffer and answers the place behind it.
 pub fn put_decimal(out: &mut [u8], at: usize, n: u64) -> usize
     requires { at + length (decimal n) ≤ length out.old }
     ensures { WrittenTo out.old at (decimal n) out.new result }
 {
-    let count = digit_count(n);
-    let mut left = count;
-    let mut rest = n;
-    while 0 < left {
-        left -= 1;
-        out[at + left] = character(rest % 10);
-        rest = rest / 10;
-    }
-    at + count
+    let mut buffer = Buffer::new();
+    put_text(out, at, buffer.format(n).as_bytes())
 }
 
 // Writes a text at a place of the buffer and answers the place behind it.
@@ -53,6 +27,7 @@ pub fn put_text(out: &mut [u8], at: usize, text: &[u8]) -> usize
 }
 
 // Writes one character.
+#[tactic(auto, using(crate::proofs::Laws::characters))]
 fn put_character(out: &mut [u8], at: usize, c: u8) -> usize
     requires { at + 1 ≤ length out.old }
     ensures { WrittenTo out.old at (c ∷ []) out.new result }
@@ -66,7 +41,7 @@ fn put_number(out: &mut [u8], at: usize, n: u64) -> usize
     requires { at + length (numbered n) ≤ length out.old }
     ensures { WrittenTo out.old at (numbered n) out.new result }
 {
-    let next = put_character(out, at, 32);
+    let next = put_character(out, at, b' ');
     put_decimal(out, next, n)
 }
 
@@ -77,7 +52,7 @@ pub fn put_line(out: &mut [u8], at: usize, word: &[u8], n: u64) -> usize
 {
     let first = put_text(out, at, word);
     let second = put_number(out, first, n);
-    put_character(out, second, 10)
+    put_character(out, second, b'\n')
 }
 
 // Writes a line of a word and two numbers.
@@ -88,5 +63,5 @@ pub fn put_pair_line(out: &mut [u8], at: usize, word: &[u8], n: u64, m: u64) -> 
     let first = put_text(out, at, word);
     let second = put_number(out, first, n);
     let third = put_number(out, second, m);
-    put_character(out, third, 10)
+    put_character(out, third, b'\n')
 }

@@ -6,9 +6,9 @@ ghost use Rattle.std.specs.Prelude.{◌≡◌, ◌≤◌};
 ghost use Rattle.longest.specs.Longest.{next, PassRoom, Passed, Ready, Advanced, Space, Tabled};
 
 use layout::Text;
-use numbers::larger;
 
 // The letters x and t agree: one letter more than behind them.
+#[tactic(auto, using(crate::proofs::Passes::nexts))]
 fn next_entry(x: u8, t: u8, behind: u8) -> u8
     requires { next x t behind ≤ 255 }
     ensures { result ≡ next x t behind }
@@ -25,12 +25,10 @@ fn pass(text: &[u8], row: &mut [u8], x: u8, from: usize, to: usize) -> u8
     ensures { Passed text.now row.old x from to row.new result }
 {
     let mut best: u8 = 0;
-    let mut q = from;
-    while q < to {
+    for q in from..to {
         let v = next_entry(x, text[q], row[q + 1]);
         row[q] = v;
-        best = larger(best, v);
-        q += 1;
+        best = best.max(v);
     }
     best
 }
@@ -43,19 +41,17 @@ fn longest_at(text: &[u8], row: &mut [u8], p: usize) -> u8
     let x = text[p];
     let before = pass(text, row, x, 0, p);
     let behind = pass(text, row, x, p + 1, text.len());
-    larger(before, behind)
+    before.max(behind)
 }
 
 // From the last place to the first.
+#[tactic(auto, using(crate::proofs::Passes::tablings))]
 pub fn fill_longest(text: &[u8], longest: &mut [u8])
     requires { Space text.now longest.old }
     ensures { Tabled text.now longest.new }
 {
     let mut row = [0u8; Text::ROOM + 1];
-    let mut p = text.len();
-    while 0 < p {
-        p -= 1;
-        let v = longest_at(text, &mut row, p);
-        longest[p] = v;
+    for p in (0..text.len()).rev() {
+        longest[p] = longest_at(text, &mut row, p);
     }
 }

@@ -18,13 +18,6 @@ use Rattle.overlap.specs.Cuts.{three}
 use Rattle.layout.specs.Places.{word_most}
 use Rattle.loose.specs.Pieces.{held, Covered, CutPoints}
 
--- the letters from place a to place b, where a is read as w
-
-pub piece_here : (longest : List ℕ) (start a b w : ℕ) (r : Bool) → w ≡ a → r ≡ leb (b - a) (get_or longest (start + w) 0) → r ≡ held longest start a (b - a)
-piece_here longest start a b w r e d = d ∙ ap (λ k. held longest start k (b - a)) e
-
-pub ruleset piecing = (piece_here, rules)
-
 -- an empty part is a piece
 held_none : (longest : List ℕ) (start a : ℕ) → held longest start a 0 ≡ true
 held_none longest start a = le-leb 0 (get_or longest (start + a) 0) (omega arith)

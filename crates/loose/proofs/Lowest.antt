@@ -64,11 +64,11 @@ module _ (longest table : List ℕ) (n i : ℕ) (s : Seeking longest table n i) 
     unfolding lowest_loose
     seek_found t = sym (least_is n (loose_by longest table) i h s.none (sym e ∙ t))
 
-  pub seek_end : n ≤ i → i ≡ lowest_loose longest table n
+  pub seek_end : n ≤ i → n ≡ lowest_loose longest table n
   unfolding lowest_loose
   seek_end h =
       let e : i ≡ n = omega (arith, h, s.upto) in
-      e ∙ sym (least_none n (loose_by longest table) (subst (λ (k : ℕ). NoneBelow (loose_by longest table) k) e s.none))
+      sym (least_none n (loose_by longest table) (subst (λ (k : ℕ). NoneBelow (loose_by longest table) k) e s.none))
 
 pub ruleset seeking = (seek_start, seek_tables, seek_more, seek_found, seek_end, rules)
 

@@ -9,14 +9,13 @@ ghost use Rattle.loose.specs.Pieces.{held, Covered, CutPoints, InTables, AllInTa
 
 use layout::{length_of, start_of};
 use longest::fill_longest;
-use numbers::wide;
 
 // The letters from place a to place b of the word that starts at `start` are a piece.
 pub fn is_piece(longest: &[u8], start: usize, a: u8, b: u8) -> bool
     requires { CutPoints longest.now start b a b × (b ≤ word_most) }
     ensures { result ≡ held longest.now start a (b - a) }
 {
-    b - a <= longest[start + wide(a)]
+    b - a <= longest[start + usize::from(a)]
 }
 
 // The word of n letters from `start` on is a product of three pieces, perhaps empty, cut at i and at j. A part that is no piece is the start of none, so that a
@@ -26,22 +25,25 @@ fn three_pieces(longest: &[u8], start: usize, n: u8) -> bool
     ensures { result ≡ three (held longest.now start) n }
 {
     let mut found = n == 0;
-    let mut i = 0;
-    'outer: while i < n && is_piece(longest, start, 0, i) {
-        let mut j = i;
-        while j < n && is_piece(longest, start, i, j) {
+    'outer: for i in 0..n {
+        if !is_piece(longest, start, 0, i) {
+            break;
+        }
+        for j in i..n {
+            if !is_piece(longest, start, i, j) {
+                break;
+            }
             if is_piece(longest, start, j, n) {
                 found = true;
                 break 'outer;
             }
-            j += 1;
         }
-        i += 1;
     }
     found
 }
 
 // Word i is a product of three or fewer pieces.
+#[tactic(auto, using(crate::proofs::Lowest::loosing))]
 fn is_loose(longest: &[u8], table: &[u16], i: usize) -> bool
     requires { InTables longest.now table.now i }
     ensures { result ≡ loose_by longest.now table.now i }
@@ -49,19 +51,19 @@ fn is_loose(longest: &[u8], table: &[u16], i: usize) -> bool
     three_pieces(longest, start_of(table, i), length_of(table, i))
 }
 
-// The lowest such word, or n.
+// The lowest such word, or n. Kept: a number and no Option, since the contract of `first_loose` promises the definition of that name in crate `overlap`, which is n
+// where there is none.
+#[tactic(auto, using(crate::proofs::Lowest::seeking))]
 fn lowest_loose(longest: &[u8], table: &[u16], n: usize) -> usize
     requires { AllInTables longest.now table.now n }
     ensures { result ≡ lowest_loose longest.now table.now n }
 {
-    let mut i = 0;
-    while i < n {
+    for i in 0..n {
         if is_loose(longest, table, i) {
             return i;
         }
-        i += 1;
     }
-    i
+    n
 }
 
 // The lowest relation word that is a product of three or fewer pieces, or n, from the text; the table of longest pieces is left for the cuts.

@@ -2,18 +2,19 @@
 // on is to a Z.
 #![tactic(auto)]
 
-ghost use Rattle.std.specs.Prelude.{◌≡◌, drop};
+ghost use Rattle.std.specs.Prelude.{◌≡◌, ◌<◌, drop};
 ghost use Rattle.congruence.specs.Rows.{clean_relation_prefix};
 ghost use Rattle.least.specs.Order.{house_rank};
 ghost use Rattle.least.specs.Writing.{first_member, carrier};
-ghost use Rattle.layout.specs.Layout.{words_in};
-ghost use Rattle.layout.specs.Families.{family_by, GroupedWord};
 ghost use Rattle.sites.specs.Sites.{SitesInText};
 ghost use Rattle.kin.specs.Asked.{RestAsked};
 ghost use Rattle.moves.specs.State.{placed_word, placed_mark};
 ghost use Rattle.members.specs.Members.{first_at, better, settled, applies, active_apart, other_carrier, carries_first, quiet};
 ghost use Rattle.members.specs.Asked.{WordAsked, MarkAsked, IdleAsked, QuietAsked};
+ghost use Rattle.layout.specs.Views.{words_of, family_of, on};
 
+use joined::Joined;
+use layout::RelationWords;
 use moves::{Mark, PlacedWord};
 use sites::Site;
 
@@ -33,6 +34,7 @@ impl House {
 }
 
 // The rank of a letter in the house table.
+#[tactic(auto, using(crate::proofs::Ranks::ranks))]
 fn rank(letter: u16) -> u16
     ensures { result ≡ house_rank letter }
 {
@@ -43,6 +45,7 @@ fn rank(letter: u16) -> u16
 }
 
 // Whether the X and Y at s come before those at t, by the first place where they differ.
+#[tactic(auto, using(crate::proofs::Ranks::firsts))]
 fn differs_first(text: &[u16], s: Site, t: Site) -> bool
     requires { SitesInText text.now s t }
     ensures { result ≡ first_at text.now s t }
@@ -61,6 +64,7 @@ fn differs_first(text: &[u16], s: Site, t: Site) -> bool
 }
 
 // Whether the X and Y at s come before those at t. Mostly their first letters tell it.
+#[tactic(auto, using(crate::proofs::Ranks::letters))]
 fn comes_first(text: &[u16], s: Site, t: Site) -> bool
     requires { SitesInText text.now s t }
     ensures { result ≡ first_at text.now s t }
@@ -74,15 +78,16 @@ fn comes_first(text: &[u16], s: Site, t: Site) -> bool
 }
 
 // Of member j, where p is a prefix of its X, and the best member so far, the one whose X and Y come first. There is no best member yet where that is n.
-fn better_of(text: &[u16], table: &[u16], n: usize, p: &[u16], best: usize, j: usize) -> usize
-    requires { GroupedWord text.now table.now n j }
-    ensures { result ≡ better (words_in text.now table.now n) p.now best j }
+#[tactic(auto, using(crate::proofs::Laws::betters))]
+fn better_of(words: &RelationWords, p: &[u16], best: usize, j: usize) -> usize
+    requires { j < words.now.n }
+    ensures { result ≡ better (words_of words.now) p.now best j }
 {
-    let s = sites::read_site(table, j);
-    if sites::mark_in_x(text, s, p) {
-        if best < n {
-            let t = sites::read_site(table, best);
-            if comes_first(text, s, t) {
+    let s = sites::read_site(words.table, j);
+    if sites::mark_in_x(words.text, s, p) {
+        if best < words.n {
+            let t = sites::read_site(words.table, best);
+            if comes_first(words.text, s, t) {
                 return j;
             }
             return best;
@@ -93,108 +98,96 @@ fn better_of(text: &[u16], table: &[u16], n: usize, p: &[u16], best: usize, j: u
 }
 
 // Member j where p is a prefix of its X, or n.
-fn marked_member(text: &[u16], table: &[u16], n: usize, p: &[u16], j: usize) -> usize
-    requires { GroupedWord text.now table.now n j }
-    ensures { result ≡ better (words_in text.now table.now n) p.now n j }
+#[tactic(auto, using(crate::proofs::Laws::markeds))]
+fn marked_member(words: &RelationWords, p: &[u16], j: usize) -> usize
+    requires { j < words.now.n }
+    ensures { result ≡ better (words_of words.now) p.now words.now.n j }
 {
-    let s = sites::read_site(table, j);
-    if sites::mark_in_x(text, s, p) {
+    let s = sites::read_site(words.table, j);
+    if sites::mark_in_x(words.text, s, p) {
         return j;
     }
-    n
+    words.n
 }
 
 // Of the members of i's family, the first in the dictionary whose X the mark begins, or n.
-pub fn first_member(text: &[u16], table: &[u16], n: usize, i: usize, mark: Mark) -> usize
-    requires { MarkAsked text.now table.now n i mark }
-    ensures { result ≡ first_member (words_in text.now table.now n) (family_by table.now n) house_rank i (placed_mark text.now mark) }
+pub fn first_member(words: &RelationWords, i: usize, mark: Mark) -> usize
+    requires { on words.now MarkAsked i mark }
+    ensures { result ≡ first_member (words_of words.now) (family_of words.now) house_rank i (placed_mark words.now.text.now mark) }
 {
     let at = mark.at;
     let to = mark.to;
-    let low = layout::family_of(table, i);
-    let mut best = marked_member(text, table, n, &text[at..to], low);
-    let mut j = layout::next_of(table, low);
-    while j < n {
-        best = better_of(text, table, n, &text[at..to], best, j);
-        j = layout::next_of(table, j);
+    let low = layout::family_of(words.table, i);
+    let mut best = marked_member(words, &words.text[at..to], low);
+    let mut j = layout::next_of(words.table, low);
+    // Kept: a `while`, since no index is counted here: each member names the next one in the table, and an iterator over that would be these same lines with a contract for its `next`.
+    while j < words.n {
+        best = better_of(words, &words.text[at..to], best, j);
+        j = layout::next_of(words.table, j);
     }
     best
 }
 
 // The chosen member of i's family, where t is the first that the mark allows, another than i, and b tells whether Z of i is possible behind X and Y.
-pub fn settle_member(
-    text: &[u16],
-    table: &[u16],
-    n: usize,
-    i: usize,
-    mark: Mark,
-    t: usize,
-    b: bool,
-) -> usize
-    requires { MarkAsked text.now table.now n i mark }
-    ensures { result ≡ settled (words_in text.now table.now n) n i (placed_mark text.now mark) t b }
+pub fn settle_member(words: &RelationWords, i: usize, mark: Mark, t: usize, b: bool) -> usize
+    requires { on words.now MarkAsked i mark }
+    ensures { result ≡ settled (words_of words.now) words.now.n i (placed_mark words.now.text.now mark) t b }
 {
     if b {
         return t;
     }
     let at = mark.at;
     let to = mark.to;
-    let own = sites::read_site(table, i);
-    if sites::mark_in_x(text, own, &text[at..to]) {
+    let own = sites::read_site(words.table, i);
+    if sites::mark_in_x(words.text, own, &words.text[at..to]) {
         return i;
     }
-    n
+    words.n
 }
 
 // Whether a mark, which is no prefix of the given word from `from` on, lies in the X of a member of relation word i's family.
-pub fn hint_applies(
-    text: &[u16],
-    table: &[u16],
-    n: usize,
-    given: &[u16],
-    i: usize,
-    q: Mark,
-    from: usize,
-) -> bool
-    requires { MarkAsked text.now table.now n i q }
-    ensures { result ≡ applies (words_in text.now table.now n) (family_by table.now n) given.now i (placed_mark text.now q) from }
+#[tactic(auto, using(crate::proofs::Choosing::applications))]
+pub fn hint_applies(words: &RelationWords, given: &[u16], i: usize, q: Mark, from: usize) -> bool
+    requires { on words.now MarkAsked i q }
+    ensures { result ≡ applies (words_of words.now) (family_of words.now) given.now i (placed_mark words.now.text.now q) from }
 {
     let at = q.at;
     let to = q.to;
-    if joined::begins_in(text, at, to, given, from) {
+    if joined::begins_in(words.text, at, to, given, from) {
         return false;
     }
-    kin::mark_in_any_x(text, table, n, i, &text[at..to])
+    kin::mark_in_any_x(words, i, &words.text[at..to])
 }
 
 // The relation word whose X and Y are a clean relation prefix of a held word that has a letter, or n. None is looked for where no relation word begins with its first letter.
-pub fn clean_of(text: &[u16], table: &[u16], n: usize, given: &[u16], h: PlacedWord) -> usize
-    requires { WordAsked text.now table.now n given.now h }
-    ensures { result ≡ clean_relation_prefix (words_in text.now table.now n) (placed_word text.now given.now h) }
+#[tactic(auto, using(crate::proofs::Choosing::words_clean))]
+pub fn clean_of(words: &RelationWords, given: &[u16], h: PlacedWord) -> usize
+    requires { on words.now WordAsked given.now h }
+    ensures { result ≡ clean_relation_prefix (words_of words.now) (placed_word words.now.text.now given.now h) }
 {
-    let x = moves::first_letter(text, given, h);
-    if sites::begins_none(table, x) {
-        return n;
+    let x = moves::first_letter(words.text, given, h);
+    if sites::begins_none(words.table, x) {
+        return words.n;
     }
-    let at = h.at;
-    let to = h.to;
-    let from = h.from;
-    sites::clean_prefix(text, table, n, &text[at..to], &given[from..])
+    let held = Joined {
+        front: &words.text[h.at..h.to],
+        rest: &given[h.from..],
+    };
+    sites::clean_prefix(words, &held)
 }
 
 // Whether relation word c is another than i and j, and the given word from k on is active for its Z.
+#[tactic(auto, using(crate::proofs::Choosing::aparts))]
 fn active_apart(
-    text: &[u16],
-    table: &[u16],
-    n: usize,
+    words: &RelationWords,
     given: &[u16],
     i: usize,
     j: usize,
     c: usize,
     k: usize,
 ) -> bool
-    requires { RestAsked text.now table.now n given.now c k }
-    ensures { result ≡ active_apart (words_in text.now table.now n) i j (drop k given.now) c }
+    requires { on words.now RestAsked given.now c k }
+    ensures { result ≡ active_apart (words_of words.now) i j (drop k given.now) c }
 {
     if c == i {
         return false;
@@ -202,45 +195,37 @@ fn active_apart(
     if c == j {
         return false;
     }
-    kin::active_behind(text, table, n, given, c, k)
+    kin::active_behind(words, given, c, k)
 }
 
 // The first member of i's family, other than i and j, for whose Z the given word from k on is active, or n.
-fn other_carrier(
-    text: &[u16],
-    table: &[u16],
-    n: usize,
-    given: &[u16],
-    i: usize,
-    j: usize,
-    k: usize,
-) -> usize
-    requires { RestAsked text.now table.now n given.now i k }
-    ensures { result ≡ other_carrier (words_in text.now table.now n) (family_by table.now n) i j (drop k given.now) }
+#[tactic(auto, using(crate::proofs::Choosing::other_carriers))]
+fn other_carrier(words: &RelationWords, given: &[u16], i: usize, j: usize, k: usize) -> usize
+    requires { on words.now RestAsked given.now i k }
+    ensures { result ≡ other_carrier (words_of words.now) (family_of words.now) i j (drop k given.now) }
 {
-    let mut c = layout::family_of(table, i);
-    while c < n {
-        if active_apart(text, table, n, given, i, j, c, k) {
+    let mut c = layout::family_of(words.table, i);
+    // Kept: a `while`, since no index is counted here: each member names the next one in the table, and an iterator over that would be these same lines with a contract for its `next`.
+    while c < words.n {
+        if active_apart(words, given, i, j, c, k) {
             return c;
         }
-        c = layout::next_of(table, c);
+        c = layout::next_of(words.table, c);
     }
-    n
+    words.n
 }
 
 // Whether i comes before c, and the given word from k on is active for its Z; it is not active for Z of j.
 fn carries_first(
-    text: &[u16],
-    table: &[u16],
-    n: usize,
+    words: &RelationWords,
     given: &[u16],
     i: usize,
     j: usize,
     c: usize,
     k: usize,
 ) -> bool
-    requires { IdleAsked text.now table.now n given.now i j k }
-    ensures { result ≡ carries_first (words_in text.now table.now n) i (drop k given.now) c }
+    requires { on words.now IdleAsked given.now i j k }
+    ensures { result ≡ carries_first (words_of words.now) i (drop k given.now) c }
 {
     if c <= i {
         return false;
@@ -248,49 +233,34 @@ fn carries_first(
     if j == i {
         return false;
     }
-    kin::active_behind(text, table, n, given, i, k)
+    kin::active_behind(words, given, i, k)
 }
 
 // The first member of i's family for whose Z the given word from k on is active, or i; it is not active for Z of j. Where it is active for no other member,
 // this is i, whether active or not.
-pub fn find_carrier(
-    text: &[u16],
-    table: &[u16],
-    n: usize,
-    given: &[u16],
-    i: usize,
-    j: usize,
-    k: usize,
-) -> usize
-    requires { IdleAsked text.now table.now n given.now i j k }
-    ensures { result ≡ carrier (words_in text.now table.now n) (family_by table.now n) i (drop k given.now) }
+pub fn find_carrier(words: &RelationWords, given: &[u16], i: usize, j: usize, k: usize) -> usize
+    requires { on words.now IdleAsked given.now i j k }
+    ensures { result ≡ carrier (words_of words.now) (family_of words.now) i (drop k given.now) }
 {
-    let c = other_carrier(text, table, n, given, i, j, k);
-    if n <= c {
+    let c = other_carrier(words, given, i, j, k);
+    if words.n <= c {
         return i;
     }
-    if carries_first(text, table, n, given, i, j, c, k) {
+    if carries_first(words, given, i, j, c, k) {
         return i;
     }
     c
 }
 
 // Whether text[at..to] stands in the given word at place k, and no clean relation prefix begins in it there.
-pub fn stands_quiet(
-    text: &[u16],
-    table: &[u16],
-    n: usize,
-    given: &[u16],
-    at: usize,
-    to: usize,
-    k: usize,
-) -> bool
-    requires { QuietAsked text.now table.now n given.now at to k }
-    ensures { result ≡ quiet text.now (words_in text.now table.now n) given.now at to k }
+#[tactic(auto, using(crate::proofs::Choosing::quiets))]
+pub fn stands_quiet(words: &RelationWords, given: &[u16], at: usize, to: usize, k: usize) -> bool
+    requires { on words.now QuietAsked given.now at to k }
+    ensures { result ≡ quiet words.now.text.now (words_of words.now) given.now at to k }
 {
-    if joined::begins_in(text, at, to, given, k) {
+    if joined::begins_in(words.text, at, to, given, k) {
         let end = k + (to - at);
-        return walks::first_clean(text, table, n, given, k, end) == end;
+        return walks::first_clean(words, given, k, end) == end;
     }
     false
 }

@@ -1,6 +1,6 @@
 -- A law for each way that the first letters of a state can tell its row, and for row 2.
 use Prim.Native.Nat.{ℕ, ◌+◌, ◌≤◌, ◌<◌}
-use mathlib.Core.Bool.{Bool, true, false}
+use mathlib.Core.Bool.{Bool, true, false, true≢false}
 use mathlib.Core.List.{List, [], ◌∷◌}
 use mathlib.Core.Path.{◌≡◌, refl, sym, ap, ◌∙◌, subst}
 use mathlib.Core.Logic.{by_cases}
@@ -17,7 +17,8 @@ use Rattle.layout.specs.Places.{table_room}
 use Rattle.layout.specs.Layout.{words_in}
 use Rattle.sites.specs.FirstLetters.{empty_list}
 use Rattle.sites.proofs.FirstLetters.{begins_none}
-use Rattle.changes.specs.declared.Plan.{Plan}
+use Rattle.changes.specs.declared.Changes.{Changes}
+use Rattle.changes.specs.declared.Round.{Round}
 use Rattle.plans.specs.Plans.{PlansRound}
 use Rattle.plans.specs.RowPlans.{letter_drop}
 use Rattle.plans.proofs.Laws.{drop_letters}
@@ -25,7 +26,7 @@ use Rattle.plans.proofs.Drops.{first_row_two, drop_plan}
 use Rattle.moves.specs.declared.PlacedWord.{PlacedWord}
 use Rattle.moves.specs.declared.State.{State}
 use Rattle.moves.specs.State.{placed_word, placed_mark, WordFits, StateReady}
-use Rattle.moves.specs.Drops.{held_empty, HasLetter, DropDue, RowTold}
+use Rattle.moves.specs.Drops.{held_empty, HasLetter, DropDue, DropTold}
 use Rattle.moves.proofs.Laws.{move_applicable, move_made}
 
 -- whether a held word has a letter
@@ -72,8 +73,8 @@ some_of [] e = absurd (omega arith)
 some_of (x ∷ w) e = refl
 
 module _ (text table : List ℕ) (n : ℕ) (first second : Word) (s : State) (p : StateReady text table n first second s) where
-  pub told_nothing : RowTold text table n first second s 0
-  told_nothing = record { two = λ e. absurd (omega arith) }
+  pub told_nothing : DropTold text table n first second s false
+  told_nothing = record { due = λ e. absurd (true≢false (sym e)) }
 
   pub table_long : length table ≡ table_room
   table_long = p.fitting.ready.grouped.checked.indexed.room
@@ -96,10 +97,10 @@ module _ (text table : List ℕ) (n : ℕ) (first second : Word) (s : State) (p 
       pub has_v : HasLetter text second s.v
       has_v = record { inside = p.standing.v.inside; some = sym fv ∙ hv }
 
-      pub told_two : (x : ℕ) → x ≡ get_or (placed_word text first s.u) 0 0 → (r : Bool) → r ≡ empty_list table x → r ≡ true → RowTold text table n first second s 2
-      told_two x ex r er h =
+      pub told_two : (x : ℕ) → x ≡ get_or (placed_word text first s.u) 0 0 → (r : Bool) → r ≡ empty_list table x → DropTold text table n first second s r
+      told_two x ex r er =
           record {
-            two = λ e.
+            due = λ h.
                 record {
                   ready = p;
                   row =
@@ -127,7 +128,7 @@ module _ (text table : List ℕ) (n : ℕ) (first second : Word) (s : State) (d 
   pub due_inside : s.mark.to ≤ length text
   due_inside = d.ready.standing.mark.inside
 
-  module _ (x y : ℕ) (e : x ≡ get_or (placed_word text first s.u) 0 0) (f : y ≡ get_or (placed_word text second s.v) 0 0) (plan : Plan)
+  module _ (x y : ℕ) (e : x ≡ get_or (placed_word text first s.u) 0 0) (f : y ≡ get_or (placed_word text second s.v) 0 0) (plan : Round Changes)
       (g : plan ≡ letter_drop x y (placed_mark text s.mark)) where
     pub due_plan : PlansRound text table n (placed_word text first s.u) (placed_word text second s.v) (placed_mark text s.mark) plan
     due_plan =
@@ -139,7 +140,7 @@ module _ (text table : List ℕ) (n : ℕ) (first second : Word) (s : State) (d 
 pub ruleset droppings = (due_u, due_v, due_up, due_inside, due_plan, rules)
 
 -- one round
-pub drop_due : (text table : List ℕ) (n : ℕ) (first second : Word) (s : State) (row : ℕ) → RowTold text table n first second s row → row ≡ 2 → DropDue text table n first second s
-drop_due text table n first second s row t e = t.two e
+pub drop_due : (text table : List ℕ) (n : ℕ) (first second : Word) (s : State) (told : Bool) → DropTold text table n first second s told → told ≡ true → DropDue text table n first second s
+drop_due text table n first second s told t e = t.due e
 
 pub ruleset rounds = (drop_due, move_applicable, move_made, rules)

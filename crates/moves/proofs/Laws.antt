@@ -16,16 +16,15 @@ use Rattle.layout.specs.Layout.{words_in}
 use Rattle.layout.specs.Families.{family_by}
 use Rattle.kin.proofs.Laws.{rest_lent}
 use Rattle.changes.specs.declared.Change.{Change}
-use Rattle.changes.specs.declared.Plan.{Plan}
-use Rattle.changes.specs.declared.Plan.TheVariants as Plans
+use Rattle.changes.specs.declared.Changes.{Changes}
+use Rattle.changes.specs.declared.Round.{Round}
+use Rattle.changes.specs.declared.Round.TheVariants as Rounds
 use Rattle.plans.specs.Plans.{planned, Fit, MarkFit, PlanFit, PlansRound}
 use Rattle.plans.specs.Plans.PlanFit.{goes}
 use Rattle.plans.specs.Asked.{HeadClear}
 use Rattle.moves.specs.declared.PlacedWord.{PlacedWord}
 use Rattle.moves.specs.declared.Mark.{Mark}
 use Rattle.moves.specs.declared.State.{State}
-use Rattle.moves.specs.declared.Move.{Move}
-use Rattle.moves.specs.declared.Move.TheVariants as Moves
 use Rattle.moves.specs.State.{placed_word, placed_mark, WordFits, MarkFits, beyond_of, Movable, MarkMovable, advanced_of, advanced_mark, move_of, Applicable, StateReady, RoundMade}
 use Rattle.moves.proofs.Advancing.{holds_advanced, mark_advanced}
 
@@ -47,7 +46,7 @@ advance_shortened h c l k = rw (le-ltb _ _ l, lt-ltb _ _ k)
 pub ruleset advances = (advance_replaced, advance_emptied, advance_shortened, rules)
 
 -- the round of a state: the rest of a given word is lent as the part up to its end
-pub plan_held : (text table : List ℕ) (n : ℕ) (first second : Word) (s : State) (r : Plan)
+pub plan_held : (text table : List ℕ) (n : ℕ) (first second : Word) (s : State) (r : Round Changes)
     → PlansRound text table n
     (part text s.u.at s.u.to ++ take (length first - s.u.from) (drop s.u.from first))
     (part text s.v.at s.v.to ++ take (length second - s.v.from) (drop s.v.from second))
@@ -87,25 +86,25 @@ module _ (text table : List ℕ) (n : ℕ) (first second : Word) (s : State) (p 
 pub ruleset plans = (plan_held, poised_clear, u_up, u_inside, u_within, v_up, v_inside, v_within, mark_up, mark_inside, rules)
 
 -- carrying a plan out
-module _ (s : State) (plan : Plan) (a : Applicable s plan) where
-  pub carried_end : (b : Bool) → plan ≡ Plans.End b → Moves.End b ≡ move_of s plan
+module _ (s : State) (plan : Round Changes) (a : Applicable s plan) where
+  pub carried_end : (b : Bool) → plan ≡ Rounds.End b → Rounds.End b ≡ move_of s plan
   carried_end b e = rw e
 
-  module _ (cu cv cp : Change) (e : plan ≡ Plans.Go cu cv cp) where
-    movables : Movable s.u cu × Movable s.v cv × MarkMovable s.mark cp
+  module _ (k : Changes) (e : plan ≡ Rounds.Next k) where
+    movables : Movable s.u k.u × Movable s.v k.v × MarkMovable s.mark k.mark
     movables = subst (Applicable s) e a
 
-    pub movable_u : Movable s.u cu
+    pub movable_u : Movable s.u k.u
     movable_u = movables.0
 
-    pub movable_v : Movable s.v cv
+    pub movable_v : Movable s.v k.v
     movable_v = movables.1
 
-    pub movable_mark : MarkMovable s.mark cp
+    pub movable_mark : MarkMovable s.mark k.mark
     movable_mark = movables.2
 
-    pub carried_next : (hu hv : PlacedWord) (m : Mark) → hu ≡ advanced_of s.u cu → hv ≡ advanced_of s.v cv → m ≡ advanced_mark s.mark cp
-        → Moves.Next (record { u = hu; v = hv; mark = m }) ≡ move_of s plan
+    pub carried_next : (hu hv : PlacedWord) (m : Mark) → hu ≡ advanced_of s.u k.u → hv ≡ advanced_of s.v k.v → m ≡ advanced_mark s.mark k.mark
+        → Rounds.Next (record { u = hu; v = hv; mark = m }) ≡ move_of s plan
     carried_next hu hv m f g h = rw (e, f, g, h)
 
 pub ruleset carries = (carried_end, movable_u, movable_v, movable_mark, carried_next, rules)
@@ -136,31 +135,31 @@ module _ (text table : List ℕ) (n : ℕ) (first second : Word) (s : State) (p 
       let l = part_length text m.at m.to f.inside in
       record { low = omega (arith, f.up, f.inside, p.fitting.ready.text_short); small = omega (arith, g.within, f.inside, p.fitting.ready.text_short) }
 
-  applicable : (plan : Plan) → PlanFit text words (placed_word text first s.u) (placed_word text second s.v) (placed_mark text s.mark) plan → Applicable s plan
+  applicable : (plan : Round Changes) → PlanFit text words (placed_word text first s.u) (placed_word text second s.v) (placed_mark text s.mark) plan → Applicable s plan
   unfolding words
-  applicable (Plans.End b) f = tt
-  applicable (Plans.Go cu cv cp) (goes a b c) = (
-    movable_of_fit first (omega (arith, p.fitting.first_short)) s.u p.standing.u cu a,
-    movable_of_fit second (omega (arith, p.fitting.second_short)) s.v p.standing.v cv b,
-    mark_of_fit s.mark p.standing.mark cp c,
+  applicable (Rounds.End b) f = tt
+  applicable (Rounds.Next k) (goes a b c) = (
+    movable_of_fit first (omega (arith, p.fitting.first_short)) s.u p.standing.u k.u a,
+    movable_of_fit second (omega (arith, p.fitting.second_short)) s.v p.standing.v k.v b,
+    mark_of_fit s.mark p.standing.mark k.mark c,
   )
 
-  round_made : (plan : Plan) → PlanFit text words (placed_word text first s.u) (placed_word text second s.v) (placed_mark text s.mark) plan
+  round_made : (plan : Round Changes) → PlanFit text words (placed_word text first s.u) (placed_word text second s.v) (placed_mark text s.mark) plan
       → planned text (placed_word text first s.u) (placed_word text second s.v) (placed_mark text s.mark) plan ≡ round words (family_by table n) (placed_word text first s.u) (placed_word text second s.v) (placed_mark text s.mark)
       → RoundMade text table n first second s (move_of s plan)
   unfolding words planned
-  round_made (Plans.End b) f e = record { same = e; stands = tt }
-  round_made (Plans.Go cu cv cp) (goes a b c) e =
-      let hu = holds_advanced text (words_in text table n) cuts first s.u p.standing.u cu a in
-      let hv = holds_advanced text (words_in text table n) cuts second s.v p.standing.v cv b in
-      let hm = mark_advanced text (words_in text table n) s.mark p.standing.mark cp c in
+  round_made (Rounds.End b) f e = record { same = e; stands = tt }
+  round_made (Rounds.Next k) (goes a b c) e =
+      let hu = holds_advanced text (words_in text table n) cuts first s.u p.standing.u k.u a in
+      let hv = holds_advanced text (words_in text table n) cuts second s.v p.standing.v k.v b in
+      let hm = mark_advanced text (words_in text table n) s.mark p.standing.mark k.mark c in
       record { same = rw (hu.same, hv.same, hm.same) e; stands = record { u = hu.fit; v = hv.fit; mark = hm.fit } }
 
-  module _ (plan : Plan) (d : PlansRound text table n (placed_word text first s.u) (placed_word text second s.v) (placed_mark text s.mark) plan) where
+  module _ (plan : Round Changes) (d : PlansRound text table n (placed_word text first s.u) (placed_word text second s.v) (placed_mark text s.mark) plan) where
     pub move_applicable : Applicable s plan
     unfolding words
     move_applicable = applicable plan d.fits
 
-    pub move_made : (r : Move) → r ≡ move_of s plan → RoundMade text table n first second s r
+    pub move_made : (r : Round State) → r ≡ move_of s plan → RoundMade text table n first second s r
     unfolding words
     move_made r e = rw e (round_made plan d.fits d.same)

@@ -6,16 +6,15 @@ use Rattle.congruence.specs.Rows.Next.{end, go}
 use Rattle.congruence.specs.NoRelationPrefix.{NoRelationPrefix}
 use Rattle.layout.specs.Places.{word_most}
 use Rattle.layout.specs.Layout.{words_in}
-use Rattle.layout.specs.Families.{family_by, Grouped}
+use Rattle.layout.specs.Families.{family_by, Ready}
 use Rattle.changes.specs.declared.Change.{Change}
-use Rattle.changes.specs.declared.Plan.{Plan}
-use Rattle.changes.specs.declared.Plan.TheVariants as Plans
+use Rattle.changes.specs.declared.Changes.{Changes}
+use Rattle.changes.specs.declared.Round.{Round}
+use Rattle.changes.specs.declared.Round.TheVariants as Rounds
 use Rattle.limits.specs.Limits.{compared_most}
 use Rattle.moves.specs.declared.PlacedWord.{PlacedWord}
 use Rattle.moves.specs.declared.Mark.{Mark}
 use Rattle.moves.specs.declared.State.{State}
-use Rattle.moves.specs.declared.Move.{Move}
-use Rattle.moves.specs.declared.Move.TheVariants as Moves
 
 -- the word that is held
 abbrev pub placed_word : List ℕ → Word → PlacedWord → Word
@@ -70,23 +69,18 @@ unfoldable pub advanced_mark : Mark → Change → Mark
 advanced_mark m c = cond (ltb c.from c.to) (record { at = c.from; to = c.to }) (record { at = m.at + c.cut; to = m.to })
 
 -- the state after three changes
-abbrev pub advanced_state : State → Change → Change → Change → State
-advanced_state s cu cv cp = record { u = advanced_of s.u cu; v = advanced_of s.v cv; mark = advanced_mark s.mark cp }
+abbrev pub advanced_state : State → Changes → State
+advanced_state s c = record { u = advanced_of s.u c.u; v = advanced_of s.v c.v; mark = advanced_mark s.mark c.mark }
 
 -- what carrying a plan out gives
-abbrev pub move_of : State → Plan → Move
-move_of s (Plans.End b) = Moves.End b
-move_of s (Plans.Go cu cv cp) = Moves.Next (advanced_state s cu cv cp)
+abbrev pub move_of : State → Round Changes → Round State
+move_of s (Rounds.End b) = Rounds.End b
+move_of s (Rounds.Next c) = Rounds.Next (advanced_state s c)
 
 -- a plan whose changes can be made
-abbrev pub Applicable : State → Plan → Type 0
-Applicable s (Plans.End b) = Unit {0}
-Applicable s (Plans.Go cu cv cp) = Movable s.u cu × Movable s.v cv × MarkMovable s.mark cp
-
--- a checked presentation with families in arrays, in a text whose places are small: 65536 is no limit of the papers and only keeps sums in range
-pub record Ready (text table : List ℕ) (n : ℕ) : Type 0 where
-  pub grouped : Grouped text table n
-  pub text_short : length text ≤ 65536
+abbrev pub Applicable : State → Round Changes → Type 0
+Applicable s (Rounds.End b) = Unit {0}
+Applicable s (Rounds.Next c) = Movable s.u c.u × Movable s.v c.v × MarkMovable s.mark c.mark
 
 -- two words within the limit of a comparison, under a checked presentation
 pub record Fitting (text table : List ℕ) (n : ℕ) (first second : Word) : Type 0 where
@@ -100,16 +94,16 @@ pub record StateReady (text table : List ℕ) (n : ℕ) (first second : Word) (s
   pub standing : StateFits text (words_in text table n) first second s
 
 -- a step in the words of the rows
-abbrev pub move_next : List ℕ → Word → Word → Move → Next
-move_next text first second (Moves.End b) = end b
-move_next text first second (Moves.Next s) = go (placed_word text first s.u) (placed_word text second s.v) (placed_mark text s.mark)
+abbrev pub move_next : List ℕ → Word → Word → Round State → Next
+move_next text first second (Rounds.End b) = end b
+move_next text first second (Rounds.Next s) = go (placed_word text first s.u) (placed_word text second s.v) (placed_mark text s.mark)
 
 -- the next state, if there is one, stands
-abbrev pub MoveFits : List ℕ → List Word → Word → Word → Move → Type 0
-MoveFits text B first second (Moves.End b) = Unit {0}
-MoveFits text B first second (Moves.Next s) = StateFits text B first second s
+abbrev pub MoveFits : List ℕ → List Word → Word → Word → Round State → Type 0
+MoveFits text B first second (Rounds.End b) = Unit {0}
+MoveFits text B first second (Rounds.Next s) = StateFits text B first second s
 
 -- one step of a state is one round of the rows from the words that it stands for
-pub record RoundMade (text table : List ℕ) (n : ℕ) (first second : Word) (s : State) (step : Move) : Type 0 where
+pub record RoundMade (text table : List ℕ) (n : ℕ) (first second : Word) (s : State) (step : Round State) : Type 0 where
   pub same : move_next text first second step ≡ round (words_in text table n) (family_by table n) (placed_word text first s.u) (placed_word text second s.v) (placed_mark text s.mark)
   pub stands : MoveFits text (words_in text table n) first second step

@@ -5,9 +5,13 @@
 ghost use Rattle.std.specs.Prelude.{◌≡◌, length, get_or};
 ghost use Rattle.plans.specs.Plans.{PlansRound};
 ghost use Rattle.moves.specs.State.{beyond_of, Movable, advanced_of, MarkMovable, advanced_mark, placed_word, placed_mark, StateReady, Applicable, move_of, RoundMade};
-ghost use Rattle.moves.specs.Drops.{held_empty, HasLetter, RowTold, DropDue};
+ghost use Rattle.moves.specs.Drops.{held_empty, HasLetter, DropTold, DropDue};
+ghost use Rattle.layout.specs.Views.{on};
 
-use plans::{Change, Plan};
+use joined::Joined;
+use layout::RelationWords;
+pub use plans::Round;
+use plans::{Change, Changes};
 
 // A word: text[at..to], then the given word from `from` on.
 #[derive(Clone, Copy)]
@@ -17,11 +21,25 @@ pub struct PlacedWord {
     pub from: usize,
 }
 
+impl PlacedWord {
+    // The whole given word.
+    pub const WHOLE: PlacedWord = PlacedWord {
+        at: 0,
+        to: 0,
+        from: 0,
+    };
+}
+
 // The front mark: text[at..to].
 #[derive(Clone, Copy)]
 pub struct Mark {
     pub at: usize,
     pub to: usize,
+}
+
+impl Mark {
+    // The mark that has no letter.
+    pub const EMPTY: Mark = Mark { at: 0, to: 0 };
 }
 
 // What a comparison goes on from: u, v and the front mark p.
@@ -30,13 +48,6 @@ pub struct State {
     pub u: PlacedWord,
     pub v: PlacedWord,
     pub mark: Mark,
-}
-
-// One round of a comparison: its end, with 'same' for true, or the next state.
-#[derive(Clone, Copy)]
-pub enum Move {
-    End(bool),
-    Next(State),
 }
 
 // How far a cut goes beyond a part of some length.
@@ -50,6 +61,7 @@ fn beyond(cut: usize, length: usize) -> usize
 }
 
 // The word after a change.
+#[tactic(auto, using(crate::proofs::Laws::advances))]
 fn advance(h: PlacedWord, c: Change) -> PlacedWord
     requires { Movable h c }
     ensures { result ≡ advanced_of h c }
@@ -95,46 +107,38 @@ fn advance_mark(m: Mark, c: Change) -> Mark
 }
 
 // What the round of a state does, over its words as they are held.
-fn plan_of(text: &[u16], table: &[u16], n: usize, first: &[u16], second: &[u16], s: State) -> Plan
-    requires { StateReady text.now table.now n first.now second.now s }
-    ensures { PlansRound text.now table.now n (placed_word text.now first.now s.u) (placed_word text.now second.now s.v) (placed_mark text.now s.mark) result }
+fn plan_of(words: &RelationWords, first: &[u16], second: &[u16], s: State) -> Round<Changes>
+    requires { on words.now StateReady first.now second.now s }
+    ensures { on words.now PlansRound (placed_word words.now.text.now first.now s.u) (placed_word words.now.text.now second.now s.v) (placed_mark words.now.text.now s.mark) result }
 {
-    let u_at = s.u.at;
-    let u_to = s.u.to;
-    let u_from = s.u.from;
-    let v_at = s.v.at;
-    let v_to = s.v.to;
-    let v_from = s.v.from;
-    let mark_at = s.mark.at;
-    let mark_to = s.mark.to;
-    plans::decide(
-        text,
-        table,
-        n,
-        &text[u_at..u_to],
-        &first[u_from..],
-        &text[v_at..v_to],
-        &second[v_from..],
-        &text[mark_at..mark_to],
-    )
+    let u = Joined {
+        front: &words.text[s.u.at..s.u.to],
+        rest: &first[s.u.from..],
+    };
+    let v = Joined {
+        front: &words.text[s.v.at..s.v.to],
+        rest: &second[s.v.from..],
+    };
+    plans::decide(words, &u, &v, &words.text[s.mark.at..s.mark.to])
 }
 
 // The state after a plan, or its end.
-fn carry_out(s: State, plan: Plan) -> Move
+fn carry_out(s: State, plan: Round<Changes>) -> Round<State>
     requires { Applicable s plan }
     ensures { result ≡ move_of s plan }
 {
     match plan {
-        Plan::End(same) => Move::End(same),
-        Plan::Go(of_u, of_v, of_mark) => Move::Next(State {
-            u: advance(s.u, of_u),
-            v: advance(s.v, of_v),
-            mark: advance_mark(s.mark, of_mark),
+        Round::End(same) => Round::End(same),
+        Round::Next(changes) => Round::Next(State {
+            u: advance(s.u, changes.u),
+            v: advance(s.v, changes.v),
+            mark: advance_mark(s.mark, changes.mark),
         }),
     }
 }
 
 // Whether a held word has no letter.
+#[tactic(auto, using(crate::proofs::Drops::held_empties))]
 pub fn held_empty(given: &[u16], h: PlacedWord) -> bool
     ensures { result ≡ held_empty (length given.now) h }
 {
@@ -145,6 +149,7 @@ pub fn held_empty(given: &[u16], h: PlacedWord) -> bool
 }
 
 // The first letter of a held word.
+#[tactic(auto, using(crate::proofs::Drops::first_letters))]
 pub fn first_letter(text: &[u16], given: &[u16], h: PlacedWord) -> u16
     requires { HasLetter text.now given.now h }
     ensures { result ≡ get_or (placed_word text.now given.now h) 0 0 }
@@ -157,59 +162,39 @@ pub fn first_letter(text: &[u16], given: &[u16], h: PlacedWord) -> u16
     given[from]
 }
 
-// The first row that fits, where the first letters tell it: 2, where no relation word begins with u's. Else 0, which is no row: relation words have to be looked at.
-fn row_by_letters(
-    text: &[u16],
-    table: &[u16],
-    n: usize,
-    first: &[u16],
-    second: &[u16],
-    s: State,
-) -> u8
-    requires { StateReady text.now table.now n first.now second.now s }
-    ensures { RowTold text.now table.now n first.now second.now s result }
+// Whether the first letters tell that row 2 is the first that fits: no relation word begins with u's. Else relation words have to be looked at.
+#[tactic(auto, using(crate::proofs::Drops::rows_told))]
+fn drop_told(words: &RelationWords, first: &[u16], second: &[u16], s: State) -> bool
+    requires { on words.now StateReady first.now second.now s }
+    ensures { on words.now DropTold first.now second.now s result }
 {
     if held_empty(first, s.u) {
-        return 0;
+        return false;
     }
     if held_empty(second, s.v) {
-        return 0;
+        return false;
     }
-    let x = first_letter(text, first, s.u);
-    if sites::begins_none(table, x) {
-        return 2;
-    }
-    0
+    sites::begins_none(words.table, first_letter(words.text, first, s.u))
 }
 
 // What row 2 does, by the first letters of both words as they are held.
-fn drop_plan(text: &[u16], table: &[u16], n: usize, first: &[u16], second: &[u16], s: State) -> Plan
-    requires { DropDue text.now table.now n first.now second.now s }
-    ensures { PlansRound text.now table.now n (placed_word text.now first.now s.u) (placed_word text.now second.now s.v) (placed_mark text.now s.mark) result }
+fn drop_plan(words: &RelationWords, first: &[u16], second: &[u16], s: State) -> Round<Changes>
+    requires { on words.now DropDue first.now second.now s }
+    ensures { on words.now PlansRound (placed_word words.now.text.now first.now s.u) (placed_word words.now.text.now second.now s.v) (placed_mark words.now.text.now s.mark) result }
 {
-    let x = first_letter(text, first, s.u);
-    let y = first_letter(text, second, s.v);
-    let at = s.mark.at;
-    let to = s.mark.to;
-    plans::drop_by_letters(x, y, &text[at..to])
+    let x = first_letter(words.text, first, s.u);
+    let y = first_letter(words.text, second, s.v);
+    plans::drop_by_letters(x, y, &words.text[s.mark.at..s.mark.to])
 }
 
 // One round. Most rounds are of row 2 and told by the first letters; of the others `plans::decide` finds the row and decides by it. Each arm carries out its own plan, so
 // that the cuts of row 2 stay three sums.
-pub fn make_move(
-    text: &[u16],
-    table: &[u16],
-    n: usize,
-    first: &[u16],
-    second: &[u16],
-    s: State,
-) -> Move
-    requires { StateReady text.now table.now n first.now second.now s }
-    ensures { RoundMade text.now table.now n first.now second.now s result }
+pub fn make_move(words: &RelationWords, first: &[u16], second: &[u16], s: State) -> Round<State>
+    requires { on words.now StateReady first.now second.now s }
+    ensures { on words.now RoundMade first.now second.now s result }
 {
-    let row = row_by_letters(text, table, n, first, second, s);
-    match row {
-        2 => carry_out(s, drop_plan(text, table, n, first, second, s)),
-        _ => carry_out(s, plan_of(text, table, n, first, second, s)),
+    if drop_told(words, first, second, s) {
+        return carry_out(s, drop_plan(words, first, second, s));
     }
+    carry_out(s, plan_of(words, first, second, s))
 }

@@ -4,6 +4,7 @@ use mathlib.Core.Bool.{Bool, true, false, true≢false}
 use mathlib.Core.List.{List, [], ◌∷◌}
 use mathlib.Core.Logic.{by_cases, ⊎_elim}
 use mathlib.Core.Path.{◌≡◌, refl, sym, ap, ◌∙◌, subst}
+use Rattle.std.proofs.Common.{Option, Some, None}
 use native.Mathlib.Omega.{arith}
 use native.Mathlib.Decide.{dec_le, dec_lt}
 use borrow.Author.Rules.{rules}
@@ -30,8 +31,6 @@ use Rattle.longest.specs.Longest.{Tabled, longest_at}
 use Rattle.loose.specs.Pieces.{Fenced}
 use Rattle.loose.proofs.Fences.{piece_longest}
 use Rattle.moves.specs.declared.Mark.{Mark}
-use Rattle.occurrence.specs.declared.Place.{Place}
-use Rattle.occurrence.specs.declared.Place.TheVariants.{At, Nowhere}
 use Rattle.occurrence.specs.Standing.{first_place, Placeable, mark_at, place_of, Sought, PieceSought}
 
 -- the search for the first place
@@ -58,17 +57,17 @@ module _ (text : List ℕ) (p : Word) where
       pub seek_more : b ≡ false → Seeking text p (q + 1)
       seek_more f = record { upto = omega arith; none = none_more _ q s.none (sym whole ∙ f) }
 
-    pub seek_end : length text ≤ q → q ≡ first_place text p
+    pub seek_end : length text ≤ q → length text ≡ first_place text p
     unfolding first_place
     seek_end h =
         let e : q ≡ length text = omega (arith, s.upto) in
-        e ∙ sym (least_none (length text) (λ k. is_prefix p (drop k text)) (subst (NoneBelow (λ k. is_prefix p (drop k text))) e s.none))
+        sym (least_none (length text) (λ k. is_prefix p (drop k text)) (subst (NoneBelow (λ k. is_prefix p (drop k text))) e s.none))
 
 pub ruleset seeks = (seek_start, seek_span, seek_found, seek_more, seek_end, rules)
 
 -- the place by the longest piece there
 module _ (text longest : List ℕ) (p : Word) (a : Placeable text longest p) (q : ℕ) (e : q ≡ first_place text p) where
-  pub place_missing : length text ≤ q → Nowhere ≡ place_of text longest p
+  pub place_missing : length text ≤ q → None ≡ place_of text longest p
   unfolding place_of
   place_missing h = sym (rw (le-leb (length text) (first_place text p) (omega (arith, e))))
 
@@ -86,13 +85,13 @@ module _ (text longest : List ℕ) (p : Word) (a : Placeable text longest p) (q 
       here : leb (length p) (get_or longest (first_place text p) 0) ≡ b
       here = ap (λ (k : ℕ). leb (length p) (get_or longest k 0)) (sym e) ∙ sym w
 
-      pub place_alone : b ≡ false → Nowhere ≡ place_of text longest p
+      pub place_alone : b ≡ false → None ≡ place_of text longest p
       unfolding place_of
       place_alone f = sym (rw (lt-leb (length text) (first_place text p) (omega (arith, e)), here ∙ f))
 
-      pub place_there : b ≡ true → (m : Mark) → m ≡ mark_at q (length p) → At m ≡ place_of text longest p
+      pub place_there : b ≡ true → (m : Mark) → m ≡ mark_at q (length p) → Some m ≡ place_of text longest p
       unfolding place_of
-      place_there f m d = ap At (d ∙ ap (λ (k : ℕ). mark_at k (length p)) e) ∙ sym (rw (lt-leb (length text) (first_place text p) (omega (arith, e)), here ∙ f))
+      place_there f m d = ap Some (d ∙ ap (λ (k : ℕ). mark_at k (length p)) e) ∙ sym (rw (lt-leb (length text) (first_place text p) (omega (arith, e)), here ∙ f))
 
 pub ruleset placings = (place_missing, place_inside, place_byte, place_fits, place_alone, place_there, rules)
 
@@ -186,37 +185,37 @@ module _ (text table : List ℕ) (n : ℕ) (f : Fenced text table n) (longest : 
       (omega arith, sym (equal_of_prefix p (take (length p) (drop (first_place text p) text)) (sym z) (sym (prefix_take p (drop (first_place text p) text)) ∙ e) ∙ c))
 
   -- a place that is told
-  told_at : (m : Mark) → place_of text longest p ≡ At m
+  told_at : (m : Mark) → place_of text longest p ≡ Some m
       → (first_place text p < length text) × (length p ≤ get_or longest (first_place text p) 0) × (m ≡ mark_at (first_place text p) (length p))
   unfolding place_of
   told_at m e = by_cases (dec_lt (first_place text p) (length text))
       (λ h. by_cases (dec_le (length p) (get_or longest (first_place text p) 0))
       (λ l.
-      let d : At (mark_at (first_place text p) (length p)) ≡ At m =
+      let d : Some (mark_at (first_place text p) (length p)) ≡ Some m =
       rw (lt-leb (length text) (first_place text p) h, le-leb (length p) (get_or longest (first_place text p) 0) l) at e in
       let g : mark_at (first_place text p) (length p) ≡ m = cc in
       (h, l, sym g))
       (λ l.
-      let d : Nowhere ≡ At m = rw (lt-leb (length text) (first_place text p) h, lt-leb (length p) (get_or longest (first_place text p) 0) (omega (arith, l))) at e in
+      let d : None ≡ Some m = rw (lt-leb (length text) (first_place text p) h, lt-leb (length p) (get_or longest (first_place text p) 0) (omega (arith, l))) at e in
       let z : ◌≡◌ {A = ℕ} 0 1 = cc in
       absurd (omega arith)))
       (λ h.
-      let d : Nowhere ≡ At m = rw (le-leb (length text) (first_place text p) (omega (arith, h))) at e in
+      let d : None ≡ Some m = rw (le-leb (length text) (first_place text p) (omega (arith, h))) at e in
       let z : ◌≡◌ {A = ℕ} 0 1 = cc in
       absurd (omega arith))
 
   -- no place is told
-  told_nowhere : place_of text longest p ≡ Nowhere → is_piece B p ≡ false
+  told_nowhere : place_of text longest p ≡ None → is_piece B p ≡ false
   unfolding place_of
   told_nowhere e = false_of (is_piece B p) (λ c.
       let (h, l) = place_of_piece c in
-      let d : At (mark_at (first_place text p) (length p)) ≡ Nowhere =
+      let d : Some (mark_at (first_place text p) (length p)) ≡ None =
       rw (lt-leb (length text) (first_place text p) h, le-leb (length p) (get_or longest (first_place text p) 0) l) at e in
       let z : ◌≡◌ {A = ℕ} 0 1 = cc in
       omega arith)
 
 -- the empty word is a piece, wherever it is said to stand
-pub empty_sought : (text table : List ℕ) (n : ℕ) (p : Word) → length p ≡ 0 → PieceSought text table n p (At (record { at = 0; to = 0 }))
+pub empty_sought : (text table : List ℕ) (n : ℕ) (p : Word) → length p ≡ 0 → PieceSought text table n p (Some (record { at = 0; to = 0 }))
 unfolding is_piece
 empty_sought text table n [] e =
     record {
@@ -252,7 +251,7 @@ module _ (text table : List ℕ) (n : ℕ) (longest : List ℕ) (p : Word) (s : 
   same_words : words_in (take t text) table n ≡ words_in text table n
   same_words = whole_words text table n s.laid t e
 
-  pub sought_told : (length p ≡ 0 → ⊥) → (r : Place) → r ≡ place_of (take t text) longest p → PieceSought text table n p r
+  pub sought_told : (length p ≡ 0 → ⊥) → (r : Option Mark) → r ≡ place_of (take t text) longest p → PieceSought text table n p r
   sought_told letter r d =
       let some : 0 < length p = by_cases (dec_lt 0 (length p)) (λ l. l) (λ l. absurd (letter (omega (arith, l)))) in
       record {

@@ -7,25 +7,16 @@ ghost use Rattle.occurrence.specs.Standing.{first_place, Placeable, mark_at, pla
 
 use moves::Mark;
 
-// Where a piece stands, or that the word is none.
-#[derive(Clone, Copy)]
-pub enum Place {
-    At(Mark),
-    Nowhere,
-}
-
 // The first place of a text at which a word stands, or the length of the text.
 fn first_place(text: &[u16], p: &[u16]) -> usize
     ensures { result ≡ first_place text.now p.now }
 {
-    let mut q = 0;
-    while q < text.len() {
+    for q in 0..text.len() {
         if joined::begins_in(p, 0, p.len(), text, q) {
             return q;
         }
-        q += 1;
     }
-    q
+    text.len()
 }
 
 // Whether the longest piece at a place has at least so many letters. Lengths of pieces are bytes.
@@ -49,27 +40,36 @@ fn mark_at(at: usize, letters: usize) -> Mark
 
 // The place of a word with letters in a text that ends with its last fence: where it stands first the longest piece tells whether it is one, since that is as long
 // as the word exactly where this stands at another place too.
-fn find_word(text: &[u16], longest: &[u8], p: &[u16]) -> Place
+#[tactic(auto, using(crate::proofs::Laws::placings))]
+fn find_word(text: &[u16], longest: &[u8], p: &[u16]) -> Option<Mark>
     requires { Placeable text.now longest.now p.now }
     ensures { result ≡ place_of text.now longest.now p.now }
 {
     let q = first_place(text, p);
     if text.len() <= q {
-        return Place::Nowhere;
+        return None;
     }
     if reaches(longest, q, p.len() as u8) {
-        return Place::At(mark_at(q, p.len()));
+        return Some(mark_at(q, p.len()));
     }
-    Place::Nowhere
+    None
 }
 
 // Where a given word stands if it is a piece of n relation words. The empty word is one.
-pub fn find_piece(text: &[u16], table: &[u16], n: usize, longest: &[u8], p: &[u16]) -> Place
+// Kept: text, table and number, since `Sought` asks less than `RelationWords` holds, and docs/AUDIT.md names the function.
+#[tactic(auto, using(crate::proofs::Laws::soughts))]
+pub fn find_piece(
+    text: &[u16],
+    table: &[u16],
+    n: usize,
+    longest: &[u8],
+    p: &[u16],
+) -> Option<Mark>
     requires { Sought text.now table.now n longest.now p.now }
     ensures { PieceSought text.now table.now n p.now result }
 {
     if p.len() == 0 {
-        return Place::At(Mark { at: 0, to: 0 });
+        return Some(Mark::EMPTY);
     }
     let total = layout::start_of(table, n);
     find_word(&text[..total], longest, p)

@@ -7,38 +7,37 @@ use native.Mathlib.Nat.{add-zero}
 use borrow.Author.Rules.{rules}
 use borrow.Author.Tests.{lt-leb, le-leb}
 use lib.ListN.{length, length-append, take-append-drop}
+use Rattle.std.specs.Prelude.{Result, Ok, Err}
 use Rattle.words.specs.Words.{part}
 use Rattle.layout.specs.Layout.{words_in}
 use Rattle.layout.specs.Places.{count_cell}
-use Rattle.layout.specs.Families.{count_of, family_by}
+use Rattle.layout.specs.Families.{count_of, family_by, Ready}
 use Rattle.refusals.specs.declared.Refusal.{Refusal}
 use Rattle.asked.specs.declared.Comparison.{Comparison}
-use Rattle.moves.specs.State.{Ready}
 use Rattle.asked.specs.Comparing.{comparison_of}
 use Rattle.words.specs.Writing.{written}
 use Rattle.spelling.specs.Lines.{line_of}
 use Rattle.lines.specs.Lines.{WrittenTo}
 use Rattle.lines.proofs.Laws.{put_both, room_first, room_second}
 use Rattle.output.specs.declared.Request.{Request}
-use Rattle.output.specs.declared.Request.TheVariants.{Compare, Refused}
 use Rattle.output.specs.Requests.{request_at}
 use Rattle.output.specs.Program.{book_text, refused_line, comparison_line, by_request, lines_from}
 use Rattle.output.specs.Writing.{lines_under, Lined, lines_of_accepted, Accepted}
 use Rattle.output.proofs.Reading.{Lies, lies_of}
 
 -- a record that asks for a comparison
-module _ (input : List ℕ) (at : ℕ) (r : Request) (e : r ≡ request_at input at) (a first second end : ℕ) (f : r ≡ Compare a first second end) where
-  pub asked_order : first ≤ second
-  asked_order = (lies_of input at r e a first second end f).order
+module _ (input : List ℕ) (at : ℕ) (r : Result Request Refusal) (e : r ≡ request_at input at) (request : Request) (f : r ≡ Ok request) where
+  pub asked_order : request.first ≤ request.second
+  asked_order = (lies_of input at r e request f).order
 
-  pub asked_next : second ≤ end
-  asked_next = (lies_of input at r e a first second end f).next
+  pub asked_next : request.second ≤ request.end
+  asked_next = (lies_of input at r e request f).next
 
-  pub asked_inside : end ≤ length input
-  asked_inside = (lies_of input at r e a first second end f).inside
+  pub asked_inside : request.end ≤ length input
+  asked_inside = (lies_of input at r e request f).inside
 
-  pub asked_middle : second ≤ length input
-  asked_middle = let l = lies_of input at r e a first second end f in omega (arith, l.next, l.inside)
+  pub asked_middle : request.second ≤ length input
+  asked_middle = let l = lies_of input at r e request f in omega (arith, l.next, l.inside)
 
 -- nothing is written yet
 put_none : (out : List ℕ) (place : ℕ) → WrittenTo out place [] out place
@@ -82,7 +81,7 @@ module _ (text table : List ℕ) (n letters : ℕ) (input : List ℕ) (start : �
         nothing zero = append-nil l.written
         nothing (suc most) = rw (le-leb (length input) at h) (append-nil l.written)
 
-    module _ (h : at < length input) (r : Request) (e : r ≡ request_at input at) where
+    module _ (h : at < length input) (r : Result Request Refusal) (e : r ≡ request_at input at) where
       -- the lines from here on, by what the record asks for
       on : (m : ℕ) × (length input ≤ at + suc m)
           × (lines_under text table n letters input start ≡ l.written ++ by_request (lines_from m letters (words_in text table n) (family_by table n) input) letters (words_in text table n) (family_by table n) input r)
@@ -102,9 +101,9 @@ module _ (text table : List ℕ) (n letters : ℕ) (input : List ℕ) (start : �
           let k = ap length q in
           omega (arith, length-append l.written (s ++ t), length-append s t, l.put.behind, l.put.kept)
 
-      module _ (x : Refusal) (f : r ≡ Refused x) where
+      module _ (x : Refusal) (f : r ≡ Err x) where
         last_whole : lines_under text table n letters input start ≡ l.written ++ refused_line x
-        last_whole = on.2 ∙ ap (λ (t : Request). l.written ++ by_request (lines_from on.0 letters (words_in text table n) (family_by table n) input) letters (words_in text table n) (family_by table n) input t) f
+        last_whole = on.2 ∙ ap (λ (t : Result Request Refusal). l.written ++ by_request (lines_from on.0 letters (words_in text table n) (family_by table n) input) letters (words_in text table n) (family_by table n) input t) f
 
         pub lining_last_room : end + length (refused_line x) ≤ length b
         lining_last_room = room_next (refused_line x) [] (last_whole ∙ rw append-nil)
@@ -114,27 +113,27 @@ module _ (text table : List ℕ) (n letters : ℕ) (input : List ℕ) (start : �
             subst (λ (s : List ℕ). WrittenTo out place s b' end') (sym last_whole)
             (put_both out place l.written b end (refused_line x) b' end' (subst (λ (s : List ℕ). place + length s ≤ length out) last_whole l.room) l.put p)
 
-      module _ (a first second to : ℕ) (f : r ≡ Compare a first second to) where
-        lies : Lies input at a first second to
-        lies = lies_of input at r e a first second to f
+      module _ (request : Request) (f : r ≡ Ok request) where
+        lies : Lies input at request.allowance request.first request.second request.end
+        lies = lies_of input at r e request f
 
-        pub lining_less : length input - to < length input - at
+        pub lining_less : length input - request.end < length input - at
         lining_less = let w0 = lies.behind in let w1 = lies.inside in omega arith
 
-        module _ (c : Comparison) (g : c ≡ comparison_of letters (words_in text table n) (family_by table n) (part input first second) (part input second to) a) where
-          next_whole : lines_under text table n letters input start ≡ l.written ++ (comparison_line c ++ lines_from on.0 letters (words_in text table n) (family_by table n) input to)
+        module _ (c : Result Comparison Refusal) (g : c ≡ comparison_of letters (words_in text table n) (family_by table n) (part input request.first request.second) (part input request.second request.end) request.allowance) where
+          next_whole : lines_under text table n letters input start ≡ l.written ++ (comparison_line c ++ lines_from on.0 letters (words_in text table n) (family_by table n) input request.end)
           next_whole =
-              on.2 ∙ ap (λ (t : Request). l.written ++ by_request (lines_from on.0 letters (words_in text table n) (family_by table n) input) letters (words_in text table n) (family_by table n) input t) f
+              on.2 ∙ ap (λ (t : Result Request Refusal). l.written ++ by_request (lines_from on.0 letters (words_in text table n) (family_by table n) input) letters (words_in text table n) (family_by table n) input t) f
               ∙ rw g
 
           pub lining_room : end + length (comparison_line c) ≤ length b
-          lining_room = room_next (comparison_line c) (lines_from on.0 letters (words_in text table n) (family_by table n) input to) next_whole
+          lining_room = room_next (comparison_line c) (lines_from on.0 letters (words_in text table n) (family_by table n) input request.end) next_whole
 
-          pub lining_more : (b' : List ℕ) (end' : ℕ) → WrittenTo b end (comparison_line c) b' end' → Lining text table n letters input start out place to end' b'
+          pub lining_more : (b' : List ℕ) (end' : ℕ) → WrittenTo b end (comparison_line c) b' end' → Lining text table n letters input start out place request.end end' b'
           lining_more b' end' p =
               let s = l.written in
               let t = comparison_line c in
-              let rest = lines_from on.0 letters (words_in text table n) (family_by table n) input to in
+              let rest = lines_from on.0 letters (words_in text table n) (family_by table n) input request.end in
               let q : lines_under text table n letters input start ≡ (s ++ t) ++ rest = next_whole ∙ sym (append_assoc s t rest) in
               let k : place + length ((s ++ t) ++ rest) ≤ length out = subst (λ (x : List ℕ). place + length x ≤ length out) q l.room in
               let w0 = lies.behind in

@@ -7,6 +7,7 @@ use native.Mathlib.Omega.{arith}
 use borrow.Author.Tests.{ltb-true, ltb-false, leb-false}
 use lib.Dec.{eqb, leb, ltb}
 use lib.ListN.{length, take, length-append, length-take}
+use Rattle.std.specs.Prelude.{Option, Some, None, Result, Ok, Err}
 use Rattle.words.specs.Words.{Word, part}
 use Rattle.words.specs.Relations.{relation_words}
 use Rattle.words.specs.Families.{words_of, family_of}
@@ -16,7 +17,6 @@ use Rattle.congruence.specs.Rows.Next.{end, go}
 use Rattle.congruence.specs.Rounds.{CompareAnswer, answer_from, compare_under}
 use Rattle.congruence.specs.Rounds.CompareAnswer.{same, different, spent}
 use Rattle.limits.specs.declared.Record.{Record}
-use Rattle.limits.specs.declared.Record.TheVariants.{Whole, CutOff}
 use Rattle.limits.specs.Limits.{input_most, relations_most, comparison_kind, compared_most}
 use Rattle.refusals.specs.declared.Refusal.{Refusal}
 use Rattle.refusals.specs.declared.Refusal.TheVariants.{Short, Kind, Length, Range, UnknownLetter, TooMany, Loose, Long, Stranger, Spent, Narrow, Heavy, NoSpace, NoSuchRelation, StaleTicket, BookWorn, NotPiece, NoPrefix}
@@ -28,17 +28,14 @@ use Rattle.format.proofs.Readings.{read_within}
 use Rattle.format.proofs.Refused.{RecordRefusal, refusal_place, BookUpto, book_upto}
 use Rattle.loading.specs.Loading.{by_verdict, by_reading, load_book}
 use Rattle.words.proofs.Relations.{length_words}
-use Rattle.asked.specs.declared.Given.{Given}
-use Rattle.asked.specs.declared.Given.TheVariants as Givens
 use Rattle.asked.specs.Given.{given_of, on_given, pair_of}
 use Rattle.asked.specs.declared.Comparison.{Comparison}
-use Rattle.asked.specs.declared.Comparison.TheVariants.{Same, Different, Refused}
+use Rattle.asked.specs.declared.Comparison.TheVariants.{Same, Different}
 use Rattle.asked.specs.Comparing.{by_answer, answer_of, comparison_of}
 use Rattle.spelling.specs.Decimal.{digit_count}
 use Rattle.spelling.specs.Lines.{numbered, line_of, pair_line_of}
 use Rattle.spelling.proofs.Decimal.{count_small, count_below, length_decimal}
 use Rattle.output.specs.declared.Request.{Request}
-use Rattle.output.specs.declared.Request.TheVariants as Requests
 use Rattle.output.specs.Requests.{long_field, fields_of, request_at}
 use Rattle.output.specs.Program.{book_text, same_text, different_text, refused_line, comparison_line, book_end_from, book_end, by_request, lines_from, by_loading, loaded_output, program_of}
 use Rattle.output.specs.Size.{line_most, output_most, OutputFits}
@@ -126,10 +123,10 @@ count_allowed B family (suc left) m u v p = step (count_allowed B family left (m
     step f (go u' v' p') e = rw e (omega (arith, f u' v' p'))
 
 -- a comparison whose numbers are small
-abbrev Small : Comparison → Type 0
-Small (Same n) = n < number_most
-Small (Different n) = n < number_most
-Small (Refused r) = (number_and_place r).place < number_most
+abbrev Small : Result Comparison Refusal → Type 0
+Small (Ok (Same n)) = n < number_most
+Small (Ok (Different n)) = n < number_most
+Small (Err r) = (number_and_place r).place < number_most
 
 small_answer : (a : CompareAnswer) → counted a < number_most → Small (by_answer a)
 small_answer (same n) h = h
@@ -137,31 +134,31 @@ small_answer (different n) h = h
 small_answer (spent n) h = h
 
 -- the refusal of a given word has a small place
-abbrev SmallGiven : Given → Type 0
-SmallGiven Givens.Fine = Unit {0}
-SmallGiven (Givens.Refused r) = (number_and_place r).place < number_most
+abbrev SmallGiven : Result (Unit {0}) Refusal → Type 0
+SmallGiven (Ok tt) = Unit {0}
+SmallGiven (Err r) = (number_and_place r).place < number_most
 
 small_word : (number letters : ℕ) (w : Word) → number ≤ 2 → SmallGiven (given_of number compared_most letters w)
 unfolding given_of
 small_word number letters w h = first (ltb compared_most (length w)) refl
   where
     second : length w ≤ compared_most → (b : Bool) → ltb (first_unknown letters w) (length w) ≡ b
-        → SmallGiven (cond b (Givens.Refused (Stranger number (first_unknown letters w))) Givens.Fine)
+        → SmallGiven (cond b (Err (Stranger number (first_unknown letters w))) (Ok tt))
     second k true e = omega (arith, ltb-true (first_unknown letters w) (length w) e)
     second k false e = tt
 
     first : (b : Bool) → ltb compared_most (length w) ≡ b
-        → SmallGiven (cond b (Givens.Refused (Long number)) (cond (ltb (first_unknown letters w) (length w)) (Givens.Refused (Stranger number (first_unknown letters w))) Givens.Fine))
+        → SmallGiven (cond b (Err (Long number)) (cond (ltb (first_unknown letters w) (length w)) (Err (Stranger number (first_unknown letters w))) (Ok tt)))
     first true e = omega arith
     first false e = second (ltb-false compared_most (length w) e) (ltb (first_unknown letters w) (length w)) refl
 
-small_then : (g h : Given) → SmallGiven g → SmallGiven h → SmallGiven (on_given g Givens.Refused h)
-small_then Givens.Fine h a b = b
-small_then (Givens.Refused r) h a b = a
+small_then : (g h : Result (Unit {0}) Refusal) → SmallGiven g → SmallGiven h → SmallGiven (on_given g Err h)
+small_then (Ok _) h a b = b
+small_then (Err r) h a b = a
 
-small_given : (g : Given) (c : Comparison) → SmallGiven g → Small c → Small (on_given g Refused c)
-small_given Givens.Fine c a b = b
-small_given (Givens.Refused r) c a b = a
+small_given : (g : Result (Unit {0}) Refusal) (c : Result Comparison Refusal) → SmallGiven g → Small c → Small (on_given g Err c)
+small_given (Ok _) c a b = b
+small_given (Err r) c a b = a
 
 small_comparison : (letters : ℕ) (B : List Word) (family : ℕ → ℕ) (u v : Word) (allowance : ℕ) → allowance < number_most → Small (comparison_of letters B family u v allowance)
 unfolding answer_of comparison_of pair_of
@@ -172,10 +169,10 @@ small_comparison letters B family u v allowance h =
     let c = small_answer (compare_under B family allowance u v) (omega arith) in
     small_given (pair_of letters u v) (by_answer (compare_under B family allowance u v)) (small_then (given_of 0 compared_most letters u) (given_of 1 compared_most letters v) a b) c
 
-comparison_short : (c : Comparison) → Small c → length (comparison_line c) ≤ line_most
-comparison_short (Same n) h = line_short same_text n (omega arith) h
-comparison_short (Different n) h = line_short different_text n (omega arith) h
-comparison_short (Refused r) h = refused_short r h
+comparison_short : (c : Result Comparison Refusal) → Small c → length (comparison_line c) ≤ line_most
+comparison_short (Ok (Same n)) h = line_short same_text n (omega arith) h
+comparison_short (Ok (Different n)) h = line_short different_text n (omega arith) h
+comparison_short (Err r) h = refused_short r h
 
 -- a four-byte field of bytes
 field_small : (input : List ℕ) (at : ℕ) → AreBytes input → long_field input at < number_most
@@ -199,42 +196,44 @@ few_more n at to s t h k f =
     record { count = suc f.count; lines = omega (arith, f.lines); records = omega (arith, f.records) }
 
 -- what a record of the kind 3 part asks for, or its refusal
-data PlacedAt (place : ℕ) : Request → Type 0 where
-  refused_there : {r : Refusal} → RecordRefusal place r → PlacedAt place (Requests.Refused r)
-  asked : {a first second to : ℕ} → PlacedAt place (Requests.Compare a first second to)
+data PlacedAt (place : ℕ) : Result Request Refusal → Type 0 where
+  refused_there : {r : Refusal} → RecordRefusal place r → PlacedAt place (Err r)
+  asked : {request : Request} → PlacedAt place (Ok request)
 
-request_cond : (place : ℕ) (b : Bool) (x y : Request) → PlacedAt place x → PlacedAt place y → PlacedAt place (cond b x y)
+request_cond : (place : ℕ) (b : Bool) (x y : Result Request Refusal) → PlacedAt place x → PlacedAt place y → PlacedAt place (cond b x y)
 request_cond place true x y h k = h
 request_cond place false x y h k = k
 
 ruleset requests = (request_cond, PlacedAt.refused_there, PlacedAt.asked, RecordRefusal.short_there, RecordRefusal.kind_there, RecordRefusal.length_there)
 
-request_whole : (input : List ℕ) (at : ℕ) (o : Record)
-    → PlacedAt at (on_whole o (Requests.Refused (Short at)) (λ kind from to. cond (differs kind comparison_kind) (Requests.Refused (Kind at)) (fields_of input at from to)))
+request_whole : (input : List ℕ) (at : ℕ) (o : Option Record)
+    → PlacedAt at (on_whole o (Err (Short at)) (λ kind from to. cond (differs kind comparison_kind) (Err (Kind at)) (fields_of input at from to)))
 unfolding fields_of
-request_whole input at CutOff = search requests
-request_whole input at (Whole kind from to) = search requests depth 8
+request_whole input at None = search requests
+request_whole input at (Some there) = search requests depth 8
 
-request_place : (input : List ℕ) (at : ℕ) (r : Refusal) → request_at input at ≡ Requests.Refused r → (number_and_place r).place ≡ at
+request_place : (input : List ℕ) (at : ℕ) (r : Refusal) → request_at input at ≡ Err r → (number_and_place r).place ≡ at
 unfolding request_at
 request_place input at r e = placed (subst (PlacedAt at) e (request_whole input at (record_at input at)))
   where
-    placed : PlacedAt at (Requests.Refused r) → (number_and_place r).place ≡ at
+    placed : PlacedAt at (Err r) → (number_and_place r).place ≡ at
     placed (refused_there h) = refusal_place at r h
 
 module _ (letters : ℕ) (B : List Word) (family : ℕ → ℕ) (input : List ℕ) (bytes : AreBytes input) (small : length input ≤ input_most) where
   -- the lines from a record on
-  few_request : (next : ℕ → List ℕ) (at : ℕ) → at < length input → ((to : ℕ) → to ≤ length input → Few (length input) to (next to)) → (r : Request) → request_at input at ≡ r
+  few_request : (next : ℕ → List ℕ) (at : ℕ) → at < length input → ((to : ℕ) → to ≤ length input → Few (length input) to (next to)) → (r : Result Request Refusal) → request_at input at ≡ r
       → Few (length input) at (by_request next letters B family input r)
-  few_request next at h f (Requests.Refused x) e =
+  few_request next at h f (Err x) e =
       let p = request_place input at x e in
       few_one _ at _ h (refused_short x (omega arith))
-  few_request next at h f (Requests.Compare a first second to) e =
-      let w = lies_of input at (Requests.Compare a first second to) (sym e) a first second to refl in
+  few_request next at h f (Ok request) e =
+      let w = lies_of input at (Ok request) (sym e) request refl in
       let k = field_small input (at + 4) bytes in
-      let c = comparison_of letters B family (part input first second) (part input second to) a in
-      let l = small_comparison letters B family (part input first second) (part input second to) a (omega (arith, w.allowed)) in
-      few_more _ at to (comparison_line c) (next to) (omega (arith, w.behind)) (comparison_short c l) (f to w.inside)
+      let u = part input request.first request.second in
+      let v = part input request.second request.end in
+      let c = comparison_of letters B family u v request.allowance in
+      let l = small_comparison letters B family u v request.allowance (omega (arith, w.allowed)) in
+      few_more _ at request.end (comparison_line c) (next request.end) (omega (arith, w.behind)) (comparison_short c l) (f request.end w.inside)
 
   few_lines : (most at : ℕ) → at ≤ length input → Few (length input) at (lines_from most letters B family input at)
   unfolding lines_from

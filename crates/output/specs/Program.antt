@@ -1,5 +1,5 @@
 -- What the program writes for its input (document 01, "The program"): book records, then comparison records (kind 3).
-use Rattle.std.specs.Prelude.{ℕ, zero, suc, ◌+◌, ◌≤◌, cond, List, [], ◌∷◌, ◌++◌, ◌≡◌, eqb, leb, ltb, length, take}
+use Rattle.std.specs.Prelude.{ℕ, zero, suc, ◌+◌, ◌≤◌, cond, List, [], ◌∷◌, ◌++◌, ◌≡◌, eqb, leb, ltb, length, take, Result, Ok, Err}
 use Rattle.words.specs.Words.{Word, part}
 use Rattle.words.specs.Families.{words_of, family_of}
 use Rattle.limits.specs.Limits.{record_prefix, input_most, comparison_kind}
@@ -9,11 +9,10 @@ use Rattle.refusals.specs.Refusals.{number_and_place}
 use Rattle.format.specs.Book.{BookReading, field}
 use Rattle.loading.specs.Loading.{load_book}
 use Rattle.asked.specs.declared.Comparison.{Comparison}
-use Rattle.asked.specs.declared.Comparison.TheVariants.{Same, Different, Refused}
+use Rattle.asked.specs.declared.Comparison.TheVariants.{Same, Different}
 use Rattle.asked.specs.Comparing.{comparison_of}
 use Rattle.spelling.specs.Lines.{line_of, pair_line_of}
 use Rattle.output.specs.declared.Request.{Request}
-use Rattle.output.specs.declared.Request.TheVariants as Requests
 use Rattle.output.specs.Requests.{request_at}
 
 -- the words of the output: refused, book, same, different
@@ -34,10 +33,10 @@ unfoldable pub refused_line : Refusal → List ℕ
 refused_line r = pair_line_of refused_text (number_and_place r).number (number_and_place r).place
 
 -- a comparison's line
-abbrev pub comparison_line : Comparison → List ℕ
-comparison_line (Same n) = line_of same_text n
-comparison_line (Different n) = line_of different_text n
-comparison_line (Refused r) = refused_line r
+abbrev pub comparison_line : Result Comparison Refusal → List ℕ
+comparison_line (Ok (Same n)) = line_of same_text n
+comparison_line (Ok (Different n)) = line_of different_text n
+comparison_line (Err r) = refused_line r
 
 -- where the book ends: at the first record whose kind field is there and is 3, its payload there or not; else with the input.
 -- A record has at least four bytes, so that a fuel of the input's length never runs out (FuelSuffices)
@@ -53,10 +52,11 @@ abbrev pub book_end : List ℕ → ℕ
 book_end input = book_end_from (length input) input 0
 
 -- the lines from a record on, by what it asks for: a refusal of the record (1, 2 or 3) ends them, else `next` gives those behind it
-abbrev pub by_request : (ℕ → List ℕ) → ℕ → List Word → (ℕ → ℕ) → List ℕ → Request → List ℕ
-by_request next letters B family input (Requests.Refused r) = refused_line r
-by_request next letters B family input (Requests.Compare allowance first second end) =
-    comparison_line (comparison_of letters B family (part input first second) (part input second end) allowance) ++ next end
+abbrev pub by_request : (ℕ → List ℕ) → ℕ → List Word → (ℕ → ℕ) → List ℕ → Result Request Refusal → List ℕ
+by_request next letters B family input (Err r) = refused_line r
+by_request next letters B family input (Ok request) =
+    comparison_line (comparison_of letters B family (part input request.first request.second) (part input request.second request.end) request.allowance)
+    ++ next request.end
 
 -- the lines of the comparison records from a position on; a fuel of the input's length never runs out (FuelSuffices)
 unfoldable pub lines_from : ℕ → ℕ → List Word → (ℕ → ℕ) → List ℕ → ℕ → List ℕ

@@ -1,8 +1,7 @@
 -- What the writing of the output's lines asks (document 01, "The program").
 use Rattle.std.specs.Prelude.{ℕ, ◌+◌, ◌≤◌, List, ◌++◌, length}
 use Rattle.layout.specs.Layout.{words_in}
-use Rattle.layout.specs.Families.{count_of, family_by}
-use Rattle.moves.specs.State.{Ready}
+use Rattle.layout.specs.Families.{count_of, family_by, Ready}
 use Rattle.spelling.specs.Lines.{line_of}
 use Rattle.output.specs.Program.{book_text, lines_from, loaded_output}
 

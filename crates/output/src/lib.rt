@@ -8,7 +8,6 @@ ghost use Rattle.output.specs.Program.{FuelSuffices};
 ghost use Rattle.output.specs.Size.{OutputFits, sizes};
 
 use limits::{ComparisonRecord, Input, Record};
-use refusals::Refusal;
 
 // What the program writes, by its length.
 #[derive(Clone, Copy)]
@@ -52,10 +51,11 @@ pub fn fuel_suffices()
     ensures { FuelSuffices }
 {}
 
-// What a record of the kind 3 part asks for: a comparison, by its allowance, where its first word begins, where the second begins and where it ends; or its
-// refusal.
+// What a record of the kind 3 part asks for: a comparison, by its allowance, where its first word begins, where the second begins and where it ends.
 #[derive(Clone, Copy)]
-pub enum Request {
-    Compare(u32, usize, usize, usize),
-    Refused(Refusal),
+pub struct Request {
+    pub allowance: u32,
+    pub first: usize,
+    pub second: usize,
+    pub end: usize,
 }

@@ -3,6 +3,7 @@ use Prim.Native.Nat.{ℕ, ◌+◌, ◌-◌, ◌≤◌, ◌<◌}
 use mathlib.Core.Bool.{Bool, true, false}
 use mathlib.Core.List.{List}
 use mathlib.Core.Path.{◌≡◌, refl, subst}
+use Rattle.std.proofs.Common.{Option, Some, None}
 use native.Mathlib.Omega.{arith}
 use borrow.Author.Rules.{rules}
 use borrow.Author.Tests.{lt-ltb, le-ltb, eq-eqb, ne_eqb}
@@ -14,12 +15,10 @@ use Rattle.moves.specs.declared.PlacedWord.{PlacedWord}
 use Rattle.moves.specs.declared.Mark.{Mark}
 use Rattle.moves.specs.State.{MarkFits}
 use Rattle.parts.specs.declared.Hint.{Hint}
-use Rattle.parts.specs.declared.Hint.TheVariants as Hints
 use Rattle.parts.specs.declared.Source.{Source}
+use Rattle.parts.specs.declared.Source.TheVariants as Sources
 use Rattle.parts.specs.declared.LeastState.{LeastState}
 use Rattle.parts.specs.declared.Stage.TheVariants as Stages
-use Rattle.parts.specs.declared.Told.{Told}
-use Rattle.parts.specs.declared.Told.TheVariants as Tolds
 use Rattle.parts.specs.Letters.{WordSmall, without_letter, first_source, HintLies, hint_behind}
 use Rattle.parts.specs.Choices.{hint_of, source_behind, rest_state, tail_state, other_stage}
 use Rattle.parts.specs.Asked.{PlacesSmall, EndsShared}
@@ -32,18 +31,18 @@ module _ (s : Site) (m : Mark) (h : PlacesSmall s m) where
   pub source_fits : Fits w64 (s.start + (m.to - m.at))
   source_fits = let a = h.start in let b = h.mark in omega arith
 
-pub source_made : (s : Site) (m : Mark) (to : ℕ) → record { given = false; from = s.start + (m.to - m.at); to = to } ≡ source_behind s m to
+pub source_made : (s : Site) (m : Mark) (to : ℕ) → Sources.Text (s.start + (m.to - m.at)) to ≡ source_behind s m to
 unfolding source_behind
 source_made s m to = refl
 
 pub ruleset sources = (source_up, source_fits, source_made, rules)
 
 -- the states behind X and Y
-pub rest_made : (k : ℕ) (m : Mark) (h : Hint) → record { word = record { at = 0; to = 0; from = k }; mark = m; hint = h } ≡ rest_state k m h
+pub rest_made : (k : ℕ) (m : Mark) (h : Option Hint) → record { word = record { at = 0; to = 0; from = k }; mark = m; hint = h } ≡ rest_state k m h
 unfolding rest_state
 rest_made k m h = refl
 
-pub tail_made : (s : Site) (k : ℕ) (m : Mark) → record { word = record { at = s.tail; to = s.stop; from = k }; mark = m; hint = Hints.Unknown } ≡ tail_state s k m
+pub tail_made : (s : Site) (k : ℕ) (m : Mark) → record { word = record { at = s.tail; to = s.stop; from = k }; mark = m; hint = None } ≡ tail_state s k m
 unfolding tail_state
 tail_made s k m = refl
 
@@ -68,12 +67,12 @@ module _ (s z : Site) (m : Mark) (l k : ℕ) (h : EndsShared s z m l k) where
 
 module _ (s z : Site) (m : Mark) (l k : ℕ) (x : Bool) (c : Source) (t : LeastState) where
   pub ends_left : x ≡ true → c ≡ source_behind z m (z.stop - l)
-      → t ≡ rest_state (k + (s.stop - l - s.tail)) (record { at = 0; to = 0 }) (Hints.Known (record { at = s.stop - l; to = s.stop }) true) → Stages.Go c t ≡ other_stage s z m l k x
+      → t ≡ rest_state (k + (s.stop - l - s.tail)) (record { at = 0; to = 0 }) (Some (record { mark = record { at = s.stop - l; to = s.stop }; possible = true })) → Stages.Go c t ≡ other_stage s z m l k x
   unfolding other_stage
   ends_left h e f = rw (h, e, f)
 
   pub ends_whole : x ≡ false → c ≡ source_behind z m z.stop
-      → t ≡ rest_state k (record { at = s.tail; to = s.stop }) (Hints.Known (record { at = s.tail; to = s.stop }) true) → Stages.Go c t ≡ other_stage s z m l k x
+      → t ≡ rest_state k (record { at = s.tail; to = s.stop }) (Some (record { mark = record { at = s.tail; to = s.stop }; possible = true })) → Stages.Go c t ≡ other_stage s z m l k x
   unfolding other_stage
   ends_whole h e f = rw (h, e, f)
 
@@ -96,11 +95,11 @@ module _ (h : PlacedWord) where
   unfolding without_letter
   without_rest l = rw (le-ltb _ _ l)
 
-  pub letter_part : h.at < h.to → record { given = false; from = h.at; to = h.at + 1 } ≡ first_source h
+  pub letter_part : h.at < h.to → Sources.Text h.at (h.at + 1) ≡ first_source h
   unfolding first_source
   letter_part l = rw (lt-ltb _ _ l)
 
-  pub letter_rest : h.to ≤ h.at → record { given = true; from = h.from; to = h.from + 1 } ≡ first_source h
+  pub letter_rest : h.to ≤ h.at → Sources.Given h.from (h.from + 1) ≡ first_source h
   unfolding first_source
   letter_rest l = rw (le-ltb _ _ l)
 
@@ -109,40 +108,40 @@ pub ruleset withouts = (letter_at_fits, letter_from_fits, without_part, without_
 pub ruleset first_sources = (letter_at_fits, letter_from_fits, letter_part, letter_rest, rules)
 
 -- what is known behind a letter
-pub hint_none : (text : List ℕ) (h : Hint) (x : ℕ) → h ≡ Hints.Unknown → Hints.Unknown ≡ hint_behind text h x
+pub hint_none : (text : List ℕ) (h : Option Hint) (x : ℕ) → h ≡ None → None ≡ hint_behind text h x
 unfolding hint_behind
 hint_none text h x e = rw e
 
-module _ (text : List ℕ) (h : Hint) (x : ℕ) (q : Mark) (b : Bool) (e : h ≡ Hints.Known q b) where
-  hint_mark : HintLies text h → MarkFits text q
+module _ (text : List ℕ) (h : Option Hint) (x : ℕ) (o : Hint) (e : h ≡ Some o) where
+  hint_mark : HintLies text h → MarkFits text o.mark
   hint_mark f = subst (HintLies text) e f
 
-  pub hint_place : HintLies text h → q.at < q.to → q.at < length text
+  pub hint_place : HintLies text h → o.mark.at < o.mark.to → o.mark.at < length text
   hint_place f l = let i = (hint_mark f).inside in omega arith
 
-  pub hint_fits : HintLies text h → Fits w64 (length text) → q.at < q.to → Fits w64 (q.at + 1)
+  pub hint_fits : HintLies text h → Fits w64 (length text) → o.mark.at < o.mark.to → Fits w64 (o.mark.at + 1)
   hint_fits f w l = let i = (hint_mark f).inside in omega arith
 
-  module _ (l : q.at < q.to) where
-    pub hint_same : get_or text q.at 0 ≡ x → Hints.Known (record { at = q.at + 1; to = q.to }) b ≡ hint_behind text h x
+  module _ (l : o.mark.at < o.mark.to) where
+    pub hint_same : get_or text o.mark.at 0 ≡ x → Some (record { mark = record { at = o.mark.at + 1; to = o.mark.to }; possible = o.possible }) ≡ hint_behind text h x
     unfolding hint_behind
     hint_same f = rw (e, lt-ltb _ _ l, eq-eqb _ _ f)
 
-    pub hint_unlike : (get_or text q.at 0 ≡ x → ⊥) → Hints.Unknown ≡ hint_behind text h x
+    pub hint_unlike : (get_or text o.mark.at 0 ≡ x → ⊥) → None ≡ hint_behind text h x
     unfolding hint_behind
     hint_unlike f = rw (e, lt-ltb _ _ l, ne_eqb _ _ f)
 
-  pub hint_empty : q.to ≤ q.at → Hints.Unknown ≡ hint_behind text h x
+  pub hint_empty : o.mark.to ≤ o.mark.at → None ≡ hint_behind text h x
   unfolding hint_behind
   hint_empty l = rw (e, le-ltb _ _ l)
 
 pub ruleset hints_behind = (hint_none, hint_place, hint_fits, hint_same, hint_unlike, hint_empty, rules)
 
-pub told_nothing : (s : Site) (t : Told) → t ≡ Tolds.Nothing → Hints.Unknown ≡ hint_of s t
+pub told_nothing : (s : Site) (t : Option Bool) → t ≡ None → None ≡ hint_of s t
 unfolding hint_of
 told_nothing s t e = rw e
 
-pub told_that : (s : Site) (t : Told) (b : Bool) → t ≡ Tolds.That b → Hints.Known (record { at = s.tail; to = s.stop }) b ≡ hint_of s t
+pub told_that : (s : Site) (t : Option Bool) (b : Bool) → t ≡ Some b → Some (record { mark = record { at = s.tail; to = s.stop }; possible = b }) ≡ hint_of s t
 unfolding hint_of
 told_that s t b e = rw e
 

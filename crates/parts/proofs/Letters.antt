@@ -1,9 +1,10 @@
 -- A law for each way that a round without a clean relation prefix can go.
 use Prim.Native.Nat.{ℕ, ◌+◌, ◌-◌, ◌≤◌, ◌<◌}
-use mathlib.Core.Bool.{Bool, true, false, true≢false}
+use mathlib.Core.Bool.{Bool, true, false}
 use mathlib.Core.Logic.{by_cases, ⊎_elim}
 use mathlib.Core.List.{List, [], ◌∷◌, ◌++◌}
 use mathlib.Core.Path.{◌≡◌, refl, sym, ap, ◌∙◌, subst}
+use Rattle.std.proofs.Common.{Option, Some, None}
 use native.Mathlib.Omega.{arith}
 use native.Mathlib.Decide.{dec_lt}
 use borrow.Author.Rules.{rules}
@@ -32,8 +33,8 @@ use Rattle.moves.specs.Drops.{HasLetter}
 use Rattle.moves.proofs.Drops.{rest_place}
 use Rattle.walks.proofs.Legs.{prefix_rest, passed}
 use Rattle.parts.specs.declared.Hint.{Hint}
-use Rattle.parts.specs.declared.Hint.TheVariants as Hints
 use Rattle.parts.specs.declared.Source.{Source}
+use Rattle.parts.specs.declared.Source.TheVariants as Sources
 use Rattle.parts.specs.declared.LeastState.{LeastState}
 use Rattle.parts.specs.declared.Stage.TheVariants as Stages
 use Rattle.parts.specs.State.{source_word, LettersLow, HintTold, HintRight, SourceFits, Makes, weight}
@@ -140,8 +141,7 @@ module _ (text : List ℕ) (B : List Word) (given : Word) (h : PlacedWord) (f : 
       rw (lt-ltb _ _ g) (record {
         up = omega arith;
         short = omega arith;
-        in_given = λ q. absurd (true≢false (sym q));
-        in_text = λ q. omega (arith, g, i);
+        inside = omega (arith, g, i);
         low = λ _. subst LettersLow (part_take text h.at h.to 1 (omega (arith, g))) (low_take 1 (part text h.at h.to) w);
       }))
       (λ g.
@@ -150,8 +150,7 @@ module _ (text : List ℕ) (B : List Word) (given : Word) (h : PlacedWord) (f : 
       rw (le-ltb _ _ g') (record {
         up = omega arith;
         short = omega arith;
-        in_given = λ q. omega (arith, r);
-        in_text = λ q. absurd (true≢false q);
+        inside = omega (arith, r);
         low = λ y. low_part given h.from (h.from + 1) (omega (arith, r)) y;
       }))
     where
@@ -204,20 +203,20 @@ module _ (text : List ℕ) (B : List Word) (fam : ℕ → ℕ) (given : Word) (h
           told = still;
         })
 
-  next_hint : (o : Hint) → HintRight text B fam given h o → HintRight text B fam given (without_letter h) (hint_behind text o x)
+  next_hint : (o : Option Hint) → HintRight text B fam given h o → HintRight text B fam given (without_letter h) (hint_behind text o x)
   unfolding hint_behind
-  next_hint Hints.Unknown r = tt
-  next_hint (Hints.Known q b) r = by_cases (dec_lt q.at q.to)
-      (λ g. go g (eqb (get_or text q.at 0) x) refl)
-      (λ g. let g' : q.to ≤ q.at = omega (arith, g) in rw (le-ltb _ _ g') tt)
+  next_hint None r = tt
+  next_hint (Some k) r = by_cases (dec_lt k.mark.at k.mark.to)
+      (λ g. go g (eqb (get_or text k.mark.at 0) x) refl)
+      (λ g. let g' : k.mark.to ≤ k.mark.at = omega (arith, g) in rw (le-ltb _ _ g') tt)
     where
-      go : q.at < q.to → (y : Bool) → eqb (get_or text q.at 0) x ≡ y → HintRight text B fam given (without_letter h) (hint_behind text (Hints.Known q b) x)
-      go g true d = rw (lt-ltb _ _ g, d) (known_next q b r g (eqb-true _ _ d))
+      go : k.mark.at < k.mark.to → (y : Bool) → eqb (get_or text k.mark.at 0) x ≡ y → HintRight text B fam given (without_letter h) (hint_behind text (Some k) x)
+      go g true d = rw (lt-ltb _ _ g, d) (known_next k.mark k.possible r g (eqb-true _ _ d))
       go g false d = rw (lt-ltb _ _ g, d) tt
 
-lies_of : (text : List ℕ) (B : List Word) (fam : ℕ → ℕ) (given : Word) (h : PlacedWord) (o : Hint) → HintRight text B fam given h o → HintLies text o
-lies_of text B fam given h Hints.Unknown r = tt
-lies_of text B fam given h (Hints.Known q b) r = r.mark
+lies_of : (text : List ℕ) (B : List Word) (fam : ℕ → ℕ) (given : Word) (h : PlacedWord) (o : Option Hint) → HintRight text B fam given h o → HintLies text o
+lies_of text B fam given h None r = tt
+lies_of text B fam given h (Some k) r = r.mark
 
 -- the round
 module _ (text table : List ℕ) (n : ℕ) (given : Word) (s : LeastState) (a : LetterAsked text table n given s) where
@@ -240,12 +239,12 @@ module _ (text table : List ℕ) (n : ℕ) (given : Word) (s : LeastState) (a : 
   pub letter_fits : s.mark.at < s.mark.to → Fits w64 (s.mark.at + 1)
   letter_fits h = let i = a.ready.standing.mark.inside in let t = a.ready.ready.text_short in omega (arith, h, i, t)
 
-  module _ (x : ℕ) (e : x ≡ get_or (placed_word text given s.word) 0 0) (next : PlacedWord) (en : next ≡ without_letter s.word) (o : Hint) (eo : o ≡ hint_behind text s.hint x) where
+  module _ (x : ℕ) (e : x ≡ get_or (placed_word text given s.word) 0 0) (next : PlacedWord) (en : next ≡ without_letter s.word) (o : Option Hint) (eo : o ≡ hint_behind text s.hint x) where
     standing : WordFits text (words_in text table n) given s.word
     standing = a.ready.standing.word
 
     pub letter_writes : s.mark.to ≤ s.mark.at → (c : Source) → c ≡ first_source s.word
-        → Makes text (words_in text table n) (family_by table n) given s (letter_part (placed_mark text s.mark) (placed_word text given s.word)) (Stages.Go c (record { word = next; mark = s.mark; hint = o }))
+        → Makes text (words_in text table n) (family_by table n) given s (letter_part (placed_mark text s.mark) (placed_word text given s.word)) (Some (Stages.Go c (record { word = next; mark = s.mark; hint = o })))
     unfolding letter_part
     letter_writes h c ec =
         let m = part_none text s.mark.at s.mark.to h in
@@ -274,18 +273,18 @@ module _ (text table : List ℕ) (n : ℕ) (given : Word) (s : LeastState) (a : 
 
       pub letter_same : get_or text s.mark.at 0 ≡ x
           → Makes text (words_in text table n) (family_by table n) given s (letter_part (placed_mark text s.mark) (placed_word text given s.word))
-          (Stages.Go (record { given = true; from = 0; to = 0 }) (record { word = next; mark = record { at = s.mark.at + 1; to = s.mark.to }; hint = o }))
+          (Some (Stages.Go (Sources.Given 0 0) (record { word = next; mark = record { at = s.mark.at + 1; to = s.mark.to }; hint = o })))
       unfolding letter_part source_word
       letter_same d =
           let k = a.ready.standing.mark in
           rw (some_mark, eq-eqb (get_or (placed_mark text s.mark) 0 0) (get_or (placed_word text given s.word) 0 0) (mark_first ∙ d ∙ e), en, eo)
-          (go_makes text (words_in text table n) (family_by table n) given s (record { given = true; from = 0; to = 0 })
+          (go_makes text (words_in text table n) (family_by table n) given s (Sources.Given 0 0)
           (record { word = without_letter s.word; mark = record { at = s.mark.at + 1; to = s.mark.to }; hint = hint_behind text s.hint x }) _ _ _
           refl
           (sym (part_drop text s.mark.at s.mark.to 1))
           (next_word text (words_in text table n) given s.word standing letter_has)
           (record {
-            source = record { up = omega arith; short = omega arith; in_given = λ q. omega arith; in_text = λ q. omega arith; low = λ _. empty_letters };
+            source = record { up = omega arith; short = omega arith; inside = omega arith; low = λ _. empty_letters };
             stands = record {
               word = next_fits text (words_in text table n) given s.word standing letter_has;
               low = next_low text (words_in text table n) given s.word standing letter_has a.ready.standing.low;
@@ -296,7 +295,7 @@ module _ (text table : List ℕ) (n : ℕ) (given : Word) (s : LeastState) (a : 
           }))
 
       pub letter_none : (get_or text s.mark.at 0 ≡ x → ⊥)
-          → Makes text (words_in text table n) (family_by table n) given s (letter_part (placed_mark text s.mark) (placed_word text given s.word)) Stages.None
+          → Makes text (words_in text table n) (family_by table n) given s (letter_part (placed_mark text s.mark) (placed_word text given s.word)) None
       unfolding letter_part
       letter_none d =
           rw (some_mark, ne_eqb (get_or (placed_mark text s.mark) 0 0) (get_or (placed_word text given s.word) 0 0) (λ q. d (sym mark_first ∙ q ∙ sym e)))

@@ -4,6 +4,7 @@ use mathlib.Core.Bool.{Bool, true, false, and-eq-true_iff}
 use mathlib.Core.List.{List}
 use mathlib.Core.Logic.{⊎_elim}
 use mathlib.Core.Path.{◌≡◌, refl, sym, ap, ◌∙◌, subst}
+use Rattle.std.proofs.Common.{Option, Some, None}
 use native.Mathlib.Omega.{arith}
 use borrow.Author.Rules.{rules}
 use borrow.Author.Tests.{not-true, ltb-false}
@@ -32,7 +33,6 @@ use Rattle.sites.proofs.Sites.{Lies, site_in_text}
 use Rattle.changes.specs.Changes.{shared_suffix}
 use Rattle.moves.specs.State.{placed_mark}
 use Rattle.walks.proofs.Legs.{passed}
-use Rattle.parts.specs.declared.Hint.TheVariants as Hints
 use Rattle.parts.specs.declared.Source.{Source}
 use Rattle.parts.specs.declared.LeastState.{LeastState}
 use Rattle.parts.specs.declared.Stage.{Stage}
@@ -161,8 +161,8 @@ module _ (text table : List ℕ) (n : ℕ) (given : Word) (s : LeastState) (i j 
               sym (rw (g, drop-drop (own.stop - l - own.tail) k given) at p) ∙ a
 
           other_quiet : (c : Source) → c ≡ source_behind z s.mark (z.stop - l)
-              → (t : LeastState) → t ≡ rest_state (k + (own.stop - l - own.tail)) (record { at = 0; to = 0 }) (Hints.Known (record { at = own.stop - l; to = own.stop }) true)
-              → Makes text (words_in text table n) (family_by table n) given s (other_part (words_in text table n) i j (placed_mark text s.mark) (drop k given)) (Stages.Go c t)
+              → (t : LeastState) → t ≡ rest_state (k + (own.stop - l - own.tail)) (record { at = 0; to = 0 }) (Some (record { mark = record { at = own.stop - l; to = own.stop }; possible = true }))
+              → Makes text (words_in text table n) (family_by table n) given s (other_part (words_in text table n) i j (placed_mark text s.mark) (drop k given)) (Some (Stages.Go c t))
           unfolding other_part rest_state
           other_quiet c ec t et =
               let y = own_lies in
@@ -173,7 +173,7 @@ module _ (text table : List ℕ) (n : ℕ) (given : Word) (s : LeastState) (i j 
               (record {
                 word = record { at = 0; to = 0; from = k + (own.stop - l - own.tail) };
                 mark = record { at = 0; to = 0 };
-                hint = Hints.Known (record { at = own.stop - l; to = own.stop }) true;
+                hint = Some (record { mark = record { at = own.stop - l; to = own.stop }; possible = true });
               }) _ _ _
               (sym (found_written text table n given s i k j f.chosen z ez (take (len (words_in text table n) j - l) (word (words_in text table n) j)) (z.stop - l) (found_short text table n given s i k j f.chosen z ez l w.1)))
               refl
@@ -195,8 +195,8 @@ module _ (text table : List ℕ) (n : ℕ) (given : Word) (s : LeastState) (i j 
               }))
 
         other_put : x ≡ false → (c : Source) → c ≡ source_behind z s.mark z.stop
-            → (t : LeastState) → t ≡ rest_state k (record { at = own.tail; to = own.stop }) (Hints.Known (record { at = own.tail; to = own.stop }) true)
-            → Makes text (words_in text table n) (family_by table n) given s (other_part (words_in text table n) i j (placed_mark text s.mark) (drop k given)) (Stages.Go c t)
+            → (t : LeastState) → t ≡ rest_state k (record { at = own.tail; to = own.stop }) (Some (record { mark = record { at = own.tail; to = own.stop }; possible = true }))
+            → Makes text (words_in text table n) (family_by table n) given s (other_part (words_in text table n) i j (placed_mark text s.mark) (drop k given)) (Some (Stages.Go c t))
         unfolding other_part quiet rest_state
         other_put h c ec t et =
             let y = own_lies in
@@ -207,7 +207,7 @@ module _ (text table : List ℕ) (n : ℕ) (given : Word) (s : LeastState) (i j 
             (record {
               word = record { at = 0; to = 0; from = k };
               mark = record { at = own.tail; to = own.stop };
-              hint = Hints.Known (record { at = own.tail; to = own.stop }) true;
+              hint = Some (record { mark = record { at = own.tail; to = own.stop }; possible = true });
             }) _ _ _
             (sym (found_written text table n given s i k j f.chosen z ez (word (words_in text table n) j) z.stop v.whole))
             (sym y.z)
@@ -228,7 +228,7 @@ module _ (text table : List ℕ) (n : ℕ) (given : Word) (s : LeastState) (i j 
             }))
 
         pub other_made : (r : Stage) → r ≡ other_stage own z s.mark l k x
-            → Makes text (words_in text table n) (family_by table n) given s (other_part (words_in text table n) i j (placed_mark text s.mark) (drop k given)) r
+            → Makes text (words_in text table n) (family_by table n) given s (other_part (words_in text table n) i j (placed_mark text s.mark) (drop k given)) (Some r)
         unfolding other_stage
         other_made r e = rw e (⊎_elim
             (λ h. subst Made (sym (ap (other_stage own z s.mark l k) h)) (other_quiet h _ refl _ refl))
@@ -236,6 +236,6 @@ module _ (text table : List ℕ) (n : ℕ) (given : Word) (s : LeastState) (i j 
             (true_or_false x))
           where
             Made : Stage → Type 0
-            Made r = Makes text (words_in text table n) (family_by table n) given s (other_part (words_in text table n) i j (placed_mark text s.mark) (drop k given)) r
+            Made r = Makes text (words_in text table n) (family_by table n) given s (other_part (words_in text table n) i j (placed_mark text s.mark) (drop k given)) (Some r)
 
 pub ruleset others = (other_room_own, other_room, other_sites, other_cut, other_asked, other_ends, other_made, rules)

@@ -4,6 +4,7 @@ use mathlib.Core.Bool.{Bool, true, false, true≢false}
 use mathlib.Core.Logic.{by_cases}
 use mathlib.Core.List.{List, []}
 use mathlib.Core.Path.{◌≡◌, refl, sym, ap, ◌∙◌}
+use Rattle.std.proofs.Common.{Option, Some, None}
 use native.Mathlib.Omega.{arith}
 use native.Mathlib.Decide.{dec_lt}
 use borrow.Author.Rules.{rules}
@@ -37,8 +38,6 @@ use Rattle.parts.specs.declared.Source.{Source}
 use Rattle.parts.specs.declared.LeastState.{LeastState}
 use Rattle.parts.specs.declared.Stage.{Stage}
 use Rattle.parts.specs.declared.Stage.TheVariants as Stages
-use Rattle.parts.specs.declared.Told.{Told}
-use Rattle.parts.specs.declared.Told.TheVariants as Tolds
 use Rattle.parts.specs.declared.Choice.{Choice}
 use Rattle.parts.specs.State.{HintRight, LeastReady, Makes, PartMade}
 use Rattle.parts.specs.Choices.{ToldRight, ChoiceMade, hint_of, source_behind, rest_state, own_stage}
@@ -47,7 +46,7 @@ use Rattle.parts.specs.Asked.{LetterAsked, PlacesSmall, CleanAsked, RestFound, C
 use Rattle.parts.proofs.Letters.{some_of}
 use Rattle.parts.proofs.Standing.{facts, site_lies, go_makes, empty_letters, empty_mark, bare_stands, found_small, found_written, found_source, found_lighter}
 
-pub own_made : (s : Site) (m : Mark) (k : ℕ) (t : Told) (c : Source) (o : Hint) (n : LeastState) → c ≡ source_behind s m s.tail → o ≡ hint_of s t
+pub own_made : (s : Site) (m : Mark) (k : ℕ) (t : Option Bool) (c : Source) (o : Option Hint) (n : LeastState) → c ≡ source_behind s m s.tail → o ≡ hint_of s t
     → n ≡ rest_state k (record { at = 0; to = 0 }) o → Stages.Go c n ≡ own_stage s m k t
 unfolding own_stage
 own_made s m k t c o n e f g = rw (e, g, f)
@@ -126,11 +125,11 @@ module _ (text table : List ℕ) (n : ℕ) (given : Word) (s : LeastState) (i : 
 pub ruleset behinds = (behind_room, behind_up, behind_tail, behind_past, behind_fits, behind_found, rules)
 
 -- what is told of Z of i is known of the word behind X and Y
-hint_of_told : (text : List ℕ) (B : List Word) (fam : ℕ → ℕ) (given : Word) (i k : ℕ) (own : Site) → Lies text B i own → (t : Told) → ToldRight B fam given i k t
+hint_of_told : (text : List ℕ) (B : List Word) (fam : ℕ → ℕ) (given : Word) (i k : ℕ) (own : Site) → Lies text B i own → (t : Option Bool) → ToldRight B fam given i k t
     → HintRight text B fam given (record { at = 0; to = 0; from = k }) (hint_of own t)
 unfolding hint_of
-hint_of_told text B fam given i k own y Tolds.Nothing r = tt
-hint_of_told text B fam given i k own y (Tolds.That b) r =
+hint_of_told text B fam given i k own y None r = tt
+hint_of_told text B fam given i k own y (Some b) r =
     record { bare = omega arith; mark = record { up = y.third; inside = y.inside; short = omega (arith, y.first, y.second, y.short) }; told = rw (← y.z) r }
 
 -- the part by the chosen member
@@ -139,7 +138,7 @@ module _ (text table : List ℕ) (n : ℕ) (given : Word) (s : LeastState) (i k 
   member_room = row_inside text table n f.found.asked.ready.ready.grouped.checked.laid i f.found.asked.there
 
   pub member_none : n ≤ c.member
-      → Makes text (words_in text table n) (family_by table n) given s (member_part (words_in text table n) (family_by table n) i c.member (placed_mark text s.mark) (placed_word text given s.word)) Stages.None
+      → Makes text (words_in text table n) (family_by table n) given s (member_part (words_in text table n) (family_by table n) i c.member (placed_mark text s.mark) (placed_word text given s.word)) None
   unfolding member_part
   member_none h = rw (le-leb (length (words_in text table n)) c.member (rw (words_length text table n) h)) (record { same = refl; stands = tt })
 
@@ -187,8 +186,8 @@ module _ (text table : List ℕ) (n : ℕ) (given : Word) (s : LeastState) (i k 
               ∙ sym (drop-drop (zlen (words_in text table n) i) (xylen (words_in text table n) i) (placed_word text given s.word))
               ∙ ap (drop (zlen (words_in text table n) i)) f.found.rest ∙ drop-drop (zlen (words_in text table n) i) k given ∙ rw z_long
 
-          pub member_wholed : (r : Stage) → Makes text (words_in text table n) (family_by table n) given s (whole_part (words_in text table n) (family_by table n) i c.member (placed_mark text s.mark) (drop (k + (own.stop - own.tail)) given)) r
-              → Makes text (words_in text table n) (family_by table n) given s (member_part (words_in text table n) (family_by table n) i c.member (placed_mark text s.mark) (placed_word text given s.word)) r
+          pub member_wholed : (r : Stage) → Makes text (words_in text table n) (family_by table n) given s (whole_part (words_in text table n) (family_by table n) i c.member (placed_mark text s.mark) (drop (k + (own.stop - own.tail)) given)) (Some r)
+              → Makes text (words_in text table n) (family_by table n) given s (member_part (words_in text table n) (family_by table n) i c.member (placed_mark text s.mark) (placed_word text given s.word)) (Some r)
           unfolding member_part
           member_wholed r m = rw (lt-leb (length (words_in text table n)) c.member member_known, f.found.rest, starts, t, behind_word) m
 
@@ -216,7 +215,7 @@ module _ (text table : List ℕ) (n : ℕ) (given : Word) (s : LeastState) (i k 
     apart_small = found_small text table n given s i k c.member chosen own own_is
 
     pub apart_own : (r : Stage) → r ≡ own_stage own s.mark k c.told
-        → Makes text (words_in text table n) (family_by table n) given s (member_part (words_in text table n) (family_by table n) i c.member (placed_mark text s.mark) (placed_word text given s.word)) r
+        → Makes text (words_in text table n) (family_by table n) given s (member_part (words_in text table n) (family_by table n) i c.member (placed_mark text s.mark) (placed_word text given s.word)) (Some r)
     unfolding member_part own_stage rest_state
     apart_own r er =
         let ch = f.choice.found.asked.ready.ready.grouped.checked in
@@ -242,8 +241,8 @@ module _ (text table : List ℕ) (n : ℕ) (given : Word) (s : LeastState) (i k 
     pub apart_other : OtherFound text table n given s i c.member k
     apart_other = record { chosen = chosen; apart = f.apart; differs = q }
 
-    pub apart_othered : (r : Stage) → Makes text (words_in text table n) (family_by table n) given s (other_part (words_in text table n) i c.member (placed_mark text s.mark) (drop k given)) r
-        → Makes text (words_in text table n) (family_by table n) given s (member_part (words_in text table n) (family_by table n) i c.member (placed_mark text s.mark) (placed_word text given s.word)) r
+    pub apart_othered : (r : Stage) → Makes text (words_in text table n) (family_by table n) given s (other_part (words_in text table n) i c.member (placed_mark text s.mark) (drop k given)) (Some r)
+        → Makes text (words_in text table n) (family_by table n) given s (member_part (words_in text table n) (family_by table n) i c.member (placed_mark text s.mark) (placed_word text given s.word)) (Some r)
     unfolding member_part
     apart_othered r m = rw (lt-leb (length (words_in text table n)) c.member apart_known, f.choice.found.rest, f.apart, ne_eqb c.member i q) m
 
@@ -261,7 +260,7 @@ module _ (text table : List ℕ) (n : ℕ) (given : Word) (s : LeastState) (i k 
       let x = length_xy (words_in text table n) i in
       some_of (placed_word text given s.word) (omega (arith, p, x, y.long_xy, y.first, y.second))
 
-  pub relation_made : (r : Stage) → Makes text (words_in text table n) (family_by table n) given s (member_part (words_in text table n) (family_by table n) i c.member (placed_mark text s.mark) (placed_word text given s.word)) r
+  pub relation_made : (r : Option Stage) → Makes text (words_in text table n) (family_by table n) given s (member_part (words_in text table n) (family_by table n) i c.member (placed_mark text s.mark) (placed_word text given s.word)) r
       → PartMade text table n given s r
   unfolding write_part
   relation_made r h =
@@ -286,13 +285,13 @@ module _ (text table : List ℕ) (n : ℕ) (given : Word) (s : LeastState) (a : 
         let l = leb-true (length given) s.word.from (rw (le-ltb _ _ g') at (sym e ∙ h)) in
         rw (part_none text s.word.at s.word.to g', drop_of_length-le given l))
 
-    pub round_none : s.mark.at < s.mark.to → PartMade text table n given s Stages.None
+    pub round_none : s.mark.at < s.mark.to → PartMade text table n given s None
     unfolding write_part
     round_none g =
         let p = part_length text s.mark.at s.mark.to a.standing.mark.inside in
         record { same = rw (word_empty, some_of (placed_mark text s.mark) (omega (arith, p, g))); stands = tt }
 
-    pub round_end : s.mark.to ≤ s.mark.at → PartMade text table n given s Stages.End
+    pub round_end : s.mark.to ≤ s.mark.at → PartMade text table n given s (Some Stages.End)
     unfolding write_part
     round_end g = record { same = rw (word_empty, part_none text s.mark.at s.mark.to g); stands = tt }
 
@@ -319,7 +318,7 @@ module _ (text table : List ℕ) (n : ℕ) (given : Word) (s : LeastState) (a : 
       pub round_clean : i < n → CleanAsked text table n given s i
       round_clean g = record { ready = a; there = g; clean = f }
 
-      pub round_lettered : n ≤ i → (r : Stage) → Makes text (words_in text table n) (family_by table n) given s (letter_part (placed_mark text s.mark) (placed_word text given s.word)) r → PartMade text table n given s r
+      pub round_lettered : n ≤ i → (r : Option Stage) → Makes text (words_in text table n) (family_by table n) given s (letter_part (placed_mark text s.mark) (placed_word text given s.word)) r → PartMade text table n given s r
       unfolding write_part
       round_lettered g r m =
           let b = words_length text table n in

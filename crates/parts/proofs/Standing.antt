@@ -1,8 +1,8 @@
 -- What a round with a clean relation prefix leaves: letters of relation words that are written, and states that stand.
 use Prim.Native.Nat.{ℕ, ◌+◌, ◌-◌, ◌≤◌, ◌<◌}
-use mathlib.Core.Bool.{true≢false}
 use mathlib.Core.List.{List, []}
-use mathlib.Core.Path.{◌≡◌, sym, ap, ◌∙◌, subst}
+use mathlib.Core.Path.{◌≡◌, ap, ◌∙◌, subst}
+use Rattle.std.proofs.Common.{Some}
 use native.Mathlib.Omega.{arith}
 use lib.ListN.{length, take, drop}
 use Rattle.words.specs.Words.{Word, part}
@@ -57,8 +57,7 @@ module _ (text table : List ℕ) (n : ℕ) (c : Checked text table n) where
         record {
           up = l;
           short = omega (arith, u, y.short);
-          in_given = λ q. absurd (true≢false (sym q));
-          in_text = λ q. omega (arith, u, y.inside);
+          inside = omega (arith, u, y.inside);
           low = λ g. site_letters (s.start + (m.to - m.at)) to (omega arith) u;
         }
 
@@ -91,7 +90,7 @@ empty_mark text = record { up = omega arith; inside = omega arith; short = omega
 
 -- a round that goes on, by what it writes and goes on with
 pub go_makes : (text : List ℕ) (B : List Word) (fam : ℕ → ℕ) (given : Word) (s : LeastState) (c : Source) (t : LeastState) (w p u : Word)
-    → source_word text given c ≡ w → placed_mark text t.mark ≡ p → placed_word text given t.word ≡ u → Goes text B fam given s c t → Makes text B fam given s (writes w p u) (Stages.Go c t)
+    → source_word text given c ≡ w → placed_mark text t.mark ≡ p → placed_word text given t.word ≡ u → Goes text B fam given s c t → Makes text B fam given s (writes w p u) (Some (Stages.Go c t))
 go_makes text B fam given s c t w p u e f g h = record { same = rw (e, f, g); stands = h }
 
 -- the chosen member j, at the site z

@@ -3,6 +3,7 @@ use Prim.Native.Nat.{ℕ, ◌≤◌, ◌<◌}
 use mathlib.Core.Bool.{Bool, true, false}
 use mathlib.Core.List.{List, ◌++◌}
 use mathlib.Core.Path.{◌≡◌, refl, sym, ap, ◌∙◌}
+use Rattle.std.proofs.Common.{Option, Some, None}
 use native.Mathlib.Omega.{arith}
 use borrow.Author.Rules.{rules}
 use lib.ListN.{length, drop, length-drop}
@@ -21,7 +22,6 @@ use Rattle.layout.proofs.Placed.{words_length, row_inside}
 use Rattle.sites.specs.declared.Site.{Site}
 use Rattle.sites.specs.Sites.{site_of}
 use Rattle.moves.specs.State.{placed_mark}
-use Rattle.parts.specs.declared.Hint.TheVariants as Hints
 use Rattle.parts.specs.declared.Source.{Source}
 use Rattle.parts.specs.declared.LeastState.{LeastState}
 use Rattle.parts.specs.declared.Stage.TheVariants as Stages
@@ -75,14 +75,14 @@ module _ (text table : List ℕ) (n : ℕ) (given : Word) (s : LeastState) (i j 
 
     module _ (x : Bool) (a : x ≡ active (words_in text table n) (z_of (words_in text table n) j) (drop k given)) (c : Source) where
       pub whole_active : x ≡ true → c ≡ source_behind z s.mark z.tail → (t : LeastState) → t ≡ tail_state z k (record { at = 0; to = 0 })
-          → Makes text (words_in text table n) (family_by table n) given s (whole_part (words_in text table n) (family_by table n) i j (placed_mark text s.mark) (drop k given)) (Stages.Go c t)
+          → Makes text (words_in text table n) (family_by table n) given s (whole_part (words_in text table n) (family_by table n) i j (placed_mark text s.mark) (drop k given)) (Some (Stages.Go c t))
       unfolding whole_part tail_state
       whole_active h q t et =
           let ch = found_checked text table n given s i f.before j f.chosen in
           let y = found_lies text table n given s i f.before j f.chosen z e in
           rw (sym a ∙ h, q, et)
           (go_makes text (words_in text table n) (family_by table n) given s (source_behind z s.mark z.tail)
-          (record { word = record { at = z.tail; to = z.stop; from = k }; mark = record { at = 0; to = 0 }; hint = Hints.Unknown }) _ _ _
+          (record { word = record { at = z.tail; to = z.stop; from = k }; mark = record { at = 0; to = 0 }; hint = None }) _ _ _
           (sym (found_written text table n given s i f.before j f.chosen z e (xy_of (words_in text table n) j) z.tail y.xy))
           refl
           (ap (◌++ drop k given) (sym y.z))
@@ -99,7 +99,7 @@ module _ (text table : List ℕ) (n : ℕ) (given : Word) (s : LeastState) (i j 
 
       pub whole_put : (m : ℕ) → m ≡ carrier (words_in text table n) (family_by table n) i (drop k given) → (y : Site) → y ≡ site_of table m → x ≡ false → c ≡ source_behind z s.mark z.stop
           → (o : LeastState) → o ≡ tail_state y k (record { at = y.tail; to = y.stop })
-          → Makes text (words_in text table n) (family_by table n) given s (whole_part (words_in text table n) (family_by table n) i j (placed_mark text s.mark) (drop k given)) (Stages.Go c o)
+          → Makes text (words_in text table n) (family_by table n) given s (whole_part (words_in text table n) (family_by table n) i j (placed_mark text s.mark) (drop k given)) (Some (Stages.Go c o))
       unfolding whole_part tail_state
       whole_put m g y d h q o eo =
           let ch = found_checked text table n given s i f.before j f.chosen in
@@ -108,7 +108,7 @@ module _ (text table : List ℕ) (n : ℕ) (given : Word) (s : LeastState) (i j 
           let u = site_lies text table n ch m t y d in
           rw (sym a ∙ h, q, eo, ← g)
           (go_makes text (words_in text table n) (family_by table n) given s (source_behind z s.mark z.stop)
-          (record { word = record { at = y.tail; to = y.stop; from = k }; mark = record { at = y.tail; to = y.stop }; hint = Hints.Unknown }) _ _ _
+          (record { word = record { at = y.tail; to = y.stop; from = k }; mark = record { at = y.tail; to = y.stop }; hint = None }) _ _ _
           (sym (found_written text table n given s i f.before j f.chosen z e (word (words_in text table n) j) z.stop v.whole))
           (sym u.z)
           (ap (◌++ drop k given) (sym u.z))

@@ -1,5 +1,5 @@
 -- What the functions that make one round ask.
-use Rattle.std.specs.Prelude.{ℕ, ◌+◌, ◌≤◌, ◌<◌, true, false, List, ◌≡◌, length, drop}
+use Rattle.std.specs.Prelude.{ℕ, ◌+◌, ◌≤◌, ◌<◌, Bool, true, false, Option, List, ◌≡◌, length, drop}
 use Rattle.words.specs.Words.{Word, is_prefix}
 use Rattle.overlap.specs.Cuts.{xylen, zlen, z_of}
 use Rattle.congruence.specs.Rows.{clean_relation_prefix}
@@ -12,7 +12,6 @@ use Rattle.moves.specs.declared.Mark.{Mark}
 use Rattle.moves.specs.State.{placed_word, placed_mark}
 use Rattle.moves.specs.Drops.{held_empty}
 use Rattle.parts.specs.declared.LeastState.{LeastState}
-use Rattle.parts.specs.declared.Told.{Told}
 use Rattle.parts.specs.declared.Choice.{Choice}
 use Rattle.parts.specs.State.{LeastReady}
 use Rattle.parts.specs.Choices.{ToldRight, ChoiceMade}
@@ -51,7 +50,7 @@ pub record RestFound (text table : List ℕ) (n : ℕ) (given : Word) (s : Least
   pub within : k ≤ length given
 
 -- the same, and what is told of Z of i behind X and Y is right
-pub record ToldFound (text table : List ℕ) (n : ℕ) (given : Word) (s : LeastState) (i k : ℕ) (t : Told) : Type 0 where
+pub record ToldFound (text table : List ℕ) (n : ℕ) (given : Word) (s : LeastState) (i k : ℕ) (t : Option Bool) : Type 0 where
   pub found : RestFound text table n given s i k
   pub told : ToldRight (words_in text table n) (family_by table n) given i k t
 

@@ -9,6 +9,7 @@ use borrow.Author.Rules.{rules}
 use borrow.Author.Tests.{lt-ltb, le-ltb}
 use lib.ListN.{length, get_or, take, replicate, length-replicate, length-take}
 use lib.Seq.{length-take-le, get_or-take, take_all}
+use Rattle.std.specs.Prelude.{Result, Ok, Err, ⊤}
 use Rattle.words.specs.Words.{Word}
 use Rattle.overlap.specs.Pieces.{C4}
 use Rattle.overlap.specs.Cuts.{first_loose}
@@ -26,21 +27,24 @@ use Rattle.loose.proofs.Fences.{text_short}
 use Rattle.loose.proofs.Lowest.{all_in_tables}
 use Rattle.cuts.specs.Cutting.{CutBy}
 use Rattle.cuts.proofs.Cutting.{cut_true, words_kept, laid_kept}
-use Rattle.pieces.specs.declared.Judged.{Judged}
-use Rattle.pieces.specs.declared.Judged.TheVariants.{Accepted, Loose}
+use Rattle.pieces.specs.declared.Loose.{Loose}
 use Rattle.pieces.specs.Judging.{Recut, Judging, judged_of, PiecesTabled, LongestKept, JudgedKept}
 
 -- the answers have different names
-said : Judged → ℕ
-said Accepted = 0
-said (Loose i) = 1
+said : Result ⊤ Loose → ℕ
+said (Ok u) = 0
+said (Err loose) = 1
 
-accepted_not_loose : {A : Type 0} {i : ℕ} → Accepted ≡ Loose i → A
+accepted_not_loose : {A : Type 0} {loose : Loose} → ◌≡◌ {A = Result ⊤ Loose} (Ok tt) (Err loose) → A
 unfolding said
 accepted_not_loose e = let d = ap said e in absurd (omega (arith, d))
 
-loose_number : (i k : ℕ) → Loose i ≡ Loose k → i ≡ k
-loose_number i k e = cc
+loose_same : (k l : Loose) → ◌≡◌ {A = Result ⊤ Loose} (Err k) (Err l) → k ≡ l
+loose_same k l e = cc
+
+-- a word of this number is loose
+abbrev loose_at : ℕ → Result ⊤ Loose
+loose_at i = Err (record { word = i })
 
 -- the table is copied, or the array has no room
 pub keep_copied : (longest array kept : List ℕ) → kept ≡ written 0 longest array → LongestKept longest array kept
@@ -86,7 +90,7 @@ module _ (text table : List ℕ) (n : ℕ) (f : Fenced text table n) where
           subst (λ (t : List ℕ). Tabled t kept) (sym (take_all (start_of table n) text (omega (arith, f.whole))))
           (tabled_copy text longest kept m.tabled (ap (λ (i : ℕ). take i kept) whole_part ∙ e))
 
-      pub whole_loose : r < n → JudgedKept text table n array table kept (Loose r)
+      pub whole_loose : r < n → JudgedKept text table n array table kept (loose_at r)
       unfolding judged_of
       whole_loose h =
           let e = m.lowest in
@@ -94,14 +98,14 @@ module _ (text table : List ℕ) (n : ℕ) (f : Fenced text table n) where
           let t = lt-ltb (first_loose (words_in text table n)) (length (words_in text table n)) (omega (arith, e, l, h)) in
           record {
             judging = record {
-              verdict = rw t (ap Loose e);
+              verdict = rw t (ap loose_at e);
               cuts = λ d. accepted_not_loose (sym d);
-              looses = λ i d. refl;
+              looses = λ l d. refl;
             };
             tabled = whole_kept;
           }
 
-      pub whole_cut : n ≤ r → (after : List ℕ) → CutBy longest table n after → JudgedKept text table n array after kept Accepted
+      pub whole_cut : n ≤ r → (after : List ℕ) → CutBy longest table n after → JudgedKept text table n array after kept (Ok tt)
       unfolding judged_of
       whole_cut h after c =
           let e = m.lowest in
@@ -111,7 +115,7 @@ module _ (text table : List ℕ) (n : ℕ) (f : Fenced text table n) where
             judging = record {
               verdict = rw t;
               cuts = λ d. record { kept = c.kept; cut = cut_true text table longest after n f m.tabled c };
-              looses = λ i d. accepted_not_loose d;
+              looses = λ l d. accepted_not_loose d;
             };
             tabled = whole_kept;
           }
@@ -161,7 +165,7 @@ module _ (text table : List ℕ) (n : ℕ) (f : Laid text table n) (t : ℕ) (e 
         let w : take (start_of table n) (take t b) ≡ take (start_of table n) text = ap (λ (k : ℕ). take k (take t b)) (sym e) ∙ take_all t (take t b) (omega (arith, copied_long)) ∙ copied ∙ ap (λ (k : ℕ). take k text) e in
         subst (λ (u : List ℕ). Tabled u kept) w p
 
-    pub copied_judged : (array after kept : List ℕ) (r : Judged) → JudgedKept (take t b) table n array after kept r → JudgedKept text table n array after kept r
+    pub copied_judged : (array after kept : List ℕ) (r : Result ⊤ Loose) → JudgedKept (take t b) table n array after kept r → JudgedKept text table n array after kept r
     copied_judged array after kept r k =
         let w : Judging (take t text) table n after r = rw copied at k.judging in
         record {
@@ -176,21 +180,25 @@ module _ (text table : List ℕ) (n : ℕ) (f : Laid text table n) (t : ℕ) (e 
 pub ruleset copies = (copy_inside, copy_long, copy_narrowing, copied_inside, copied_long, copied_fenced, copied_judged, rules)
 
 -- where the words are accepted, none is loose
-pub none_loose : (B : List Word) → judged_of B ≡ Accepted → first_loose B ≡ length B
+pub none_loose : (B : List Word) → judged_of B ≡ Ok tt → first_loose B ≡ length B
 unfolding judged_of
 none_loose B e =
     let b = first_loose_bound B in
-    by_cases (dec_lt (first_loose B) (length B)) (λ h. accepted_not_loose {i = first_loose B} (sym e ∙ rw (lt-ltb (first_loose B) (length B) h))) (λ h. omega (arith, b, h))
+    by_cases (dec_lt (first_loose B) (length B))
+    (λ h. accepted_not_loose {loose = record { word = first_loose B }} (sym e ∙ rw (lt-ltb (first_loose B) (length B) h))) (λ h. omega (arith, b, h))
 
 -- where one is, it is the lowest
-pub lowest_loose : (B : List Word) (i : ℕ) → judged_of B ≡ Loose i → (i < length B) × (first_loose B ≡ i)
+pub lowest_loose : (B : List Word) (loose : Loose) → judged_of B ≡ Err loose → (loose.word < length B) × (first_loose B ≡ loose.word)
 unfolding judged_of
-lowest_loose B i e = by_cases (dec_lt (first_loose B) (length B))
-    (λ h. let f : first_loose B ≡ i = loose_number (first_loose B) i (sym (rw (lt-ltb (first_loose B) (length B) h)) ∙ e) in (omega (arith, f, h), f))
-    (λ h. accepted_not_loose {i = i} (sym (rw (le-ltb (first_loose B) (length B) (omega (arith, h)))) ∙ e))
+lowest_loose B loose e = by_cases (dec_lt (first_loose B) (length B))
+    (λ h.
+    let f : first_loose B ≡ loose.word
+    = ap (λ (l : Loose). l.word) (loose_same (record { word = first_loose B }) loose (sym (rw (lt-ltb (first_loose B) (length B) h)) ∙ e)) in
+    (omega (arith, f, h), f))
+    (λ h. accepted_not_loose {loose = loose} (sym (rw (le-ltb (first_loose B) (length B) (omega (arith, h)))) ∙ e))
 
 -- accepted words: the table that is left has them at the same places, and they meet C(4)
-module _ (text table : List ℕ) (n : ℕ) (after : List ℕ) (r : Judged) (j : Judging text table n after r) (e : r ≡ Accepted) (f : Laid text table n) where
+module _ (text table : List ℕ) (n : ℕ) (after : List ℕ) (r : Result ⊤ Loose) (j : Judging text table n after r) (e : r ≡ Ok tt) (f : Laid text table n) where
   pub accepted_laid : Laid text after n
   accepted_laid = laid_kept text table after n (j.cuts e).kept f
 

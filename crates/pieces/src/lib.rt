@@ -9,14 +9,14 @@ use cuts::cut;
 use layout::{Text, start_of};
 use loose::first_loose;
 
-// What the relation words are found to be: accepted, or this is the lowest that is a product of three or fewer pieces.
+// Why relation words are not accepted: the lowest that is a product of three or fewer pieces.
 #[derive(Clone, Copy)]
-pub enum Judged {
-    Accepted,
-    Loose(usize),
+pub struct Loose {
+    pub word: usize,
 }
 
 // Keeps the table of longest pieces in an array if that has room for it.
+#[tactic(auto, using(crate::proofs::Verdicts::keeps))]
 fn keep_longest(longest: &[u8], array: &mut [u8])
     ensures { LongestKept longest.now array.old array.new }
 {
@@ -26,7 +26,7 @@ fn keep_longest(longest: &[u8], array: &mut [u8])
 }
 
 // The verdict, and the cuts, of a text that ends with its last fence. The table of longest pieces is of use to few callers: it is kept in an array that has room for it.
-fn judge_whole(text: &[u8], table: &mut [u16], n: usize, array: &mut [u8]) -> Judged
+fn judge_whole(text: &[u8], table: &mut [u16], n: usize, array: &mut [u8]) -> Result<(), Loose>
     requires { Fenced text.now table.old n }
     ensures { JudgedKept text.now table.old n array.old table.new array.new result }
 {
@@ -34,14 +34,14 @@ fn judge_whole(text: &[u8], table: &mut [u16], n: usize, array: &mut [u8]) -> Ju
     let r = first_loose(text, table, n, &mut longest);
     keep_longest(&longest[..text.len()], array);
     if r < n {
-        return Judged::Loose(r);
+        return Err(Loose { word: r });
     }
     cut(&longest, table, n);
-    Judged::Accepted
+    Ok(())
 }
 
 // The verdict, and the cuts, of a text that may go on behind its last fence. The loops run on a copy in bytes, of which the compiler takes twice as many in a turn.
-pub fn judge(text: &[u16], table: &mut [u16], n: usize, array: &mut [u8]) -> Judged
+pub fn judge(text: &[u16], table: &mut [u16], n: usize, array: &mut [u8]) -> Result<(), Loose>
     requires { Laid text.now table.old n }
     ensures { JudgedKept text.now table.old n array.old table.new array.new result }
 {

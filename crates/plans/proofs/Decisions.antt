@@ -26,8 +26,9 @@ use Rattle.sites.proofs.Laws.{tail_after, stop_after}
 use Rattle.kin.proofs.Laws.{grouped_lies}
 use Rattle.rows.specs.declared.Found.{Found}
 use Rattle.rows.specs.Shapes.{FoundRow}
-use Rattle.changes.specs.declared.Plan.{Plan}
-use Rattle.changes.specs.declared.Plan.TheVariants.{End}
+use Rattle.changes.specs.declared.Changes.{Changes}
+use Rattle.changes.specs.declared.Round.{Round}
+use Rattle.changes.specs.declared.Round.TheVariants.{End}
 use Rattle.changes.specs.Asked.{SitesUpwards}
 use Rattle.changes.specs.Changes.{plan6, plan7, shared_suffix}
 use Rattle.plans.specs.Plans.{planned, Carries, PlansRound}
@@ -46,7 +47,7 @@ module _ (text : List ℕ) (s t : Site) (h : SitesInText text s t) (l : ℕ) (e 
       let b = part_length text t.tail t.stop h.other.inside in
       record { own = record { site = h.own; lies = omega arith }; other = record { site = h.other; lies = omega arith } }
 
-  pub shared_made : (u v p : Word) (r : Plan) → r ≡ plan8_of text s t l u v p → r ≡ plan8_of text s t (shared_suffix text s t) u v p
+  pub shared_made : (u v p : Word) (r : Round Changes) → r ≡ plan8_of text s t l u v p → r ≡ plan8_of text s t (shared_suffix text s t) u v p
   shared_made u v p r f = rw (← e) f
 
 pub ruleset sharings = (shared_lies, shared_made, rules)
@@ -90,7 +91,7 @@ module _ (text table : List ℕ) (n : ℕ) (u v p : Word) (f : Found) (h : Found
       some (fits2 a b l) = record { some_u = a; some_v = b }
 
   -- a plan that carries what the row makes gives the round
-  by_row : (k : ℕ) → f.row ≡ k → (r : Plan)
+  by_row : (k : ℕ) → f.row ≡ k → (r : Round Changes)
       → Carries text (words_in text table n) u v p r (row_makes text table n u v p k)
       → PlansRound text table n u v p r
   unfolding round
@@ -100,11 +101,11 @@ module _ (text table : List ℕ) (n : ℕ) (u v p : Word) (f : Found) (h : Found
         fits = q.fits;
       }
 
-  pub by1 : (r : Plan) → f.row ≡ 1 → r ≡ plan1 u v p → PlansRound text table n u v p r
+  pub by1 : (r : Round Changes) → f.row ≡ 1 → r ≡ plan1 u v p → PlansRound text table n u v p r
   unfolding makes row1 plan1 planned
   by1 r e g = by_row 1 e r (rw g (record { same = refl; fits = ends }))
 
-  pub by2 : (r : Plan) → f.row ≡ 2 → r ≡ plan2 u v p → PlansRound text table n u v p r
+  pub by2 : (r : Round Changes) → f.row ≡ 2 → r ≡ plan2 u v p → PlansRound text table n u v p r
   unfolding makes
   by2 r e g =
       by_row 2 e r (rw g (carried2 text (words_in text table n) (family_by table n) (own_word text table n u) (member_word text table n u v) u v p (fits_found 2 e)))
@@ -158,7 +159,7 @@ module _ (text table : List ℕ) (n : ℕ) (u v p : Word) (f : Found) (h : Found
     pub row7_sites : f.row ≡ 7 → SitesUpwards f.own f.member
     row7_sites e = sites_upwards (found_sites 7 e (omega arith))
 
-    module _ (r : Plan) where
+    module _ (r : Round Changes) where
       pub by4 : f.row ≡ 4
           → r ≡ plan4 f.own f.member (site_of table (tail_member (words_in text table n) (family_by table n) f.word (drop (f.own.stop - f.own.start) u))) (length p)
           → PlansRound text table n u v p r
@@ -205,7 +206,7 @@ module _ (text table : List ℕ) (n : ℕ) (u v p : Word) (f : Found) (h : Found
       pub row8_sites : SitesInText text f.own f.member
       row8_sites = found_sites 8 last (omega arith)
 
-      pub by8 : (r : Plan) → r ≡ plan8_of text f.own f.member (shared_suffix text f.own f.member) u v p → PlansRound text table n u v p r
+      pub by8 : (r : Round Changes) → r ≡ plan8_of text f.own f.member (shared_suffix text f.own f.member) u v p → PlansRound text table n u v p r
       unfolding makes
       by8 r g =
           let lo = lies_own 8 last (omega arith) in

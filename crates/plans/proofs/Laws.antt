@@ -24,23 +24,24 @@ use Rattle.sites.proofs.Sites.{Lies}
 use Rattle.kin.specs.Asked.{IdleRest}
 use Rattle.kin.proofs.Laws.{grouped_room, grouped_lies}
 use Rattle.changes.specs.declared.Change.{Change}
-use Rattle.changes.specs.declared.Plan.{Plan}
-use Rattle.changes.specs.declared.Plan.TheVariants.{End, Go}
+use Rattle.changes.specs.declared.Changes.{Changes}
+use Rattle.changes.specs.declared.Round.{Round}
+use Rattle.changes.specs.declared.Round.TheVariants.{End, Next}
 use Rattle.changes.specs.Asked.{TailHas, SitesHave}
 use Rattle.changes.specs.Changes.{cut_by, put_both, mark_after, rest_at, plan8}
 use Rattle.plans.specs.Asked.{BothNonEmpty, WholeWords, TailsHave}
 use Rattle.plans.specs.RowPlans.{plan1, drop_one, mark_drop, letter_drop, plan2, plan4, plan5, plan8_of}
 use Rattle.sites.proofs.Laws.{tail_after}
 use Rattle.plans.proofs.Carried.{active_between}
-use Rattle.rows.proofs.Laws.{empty_right}
+use Rattle.joined.proofs.Laws.{empty_right}
 
 -- plans by their changes
 module _ (c d : Change) where
-  pub made2 : (m : ℕ) → c ≡ cut_by 1 → d ≡ cut_by m → Go c c d ≡ drop_one m
+  pub made2 : (m : ℕ) → c ≡ cut_by 1 → d ≡ cut_by m → Next (record { u = c; v = c; mark = d }) ≡ drop_one m
   unfolding drop_one
   made2 m e f = rw (e, f)
 
-  pub made5 : (text : List ℕ) (s : Site) (p : Word) → d ≡ mark_after text s p → c ≡ cut_by (s.tail - s.start) → Go c c d ≡ plan5 text s p
+  pub made5 : (text : List ℕ) (s : Site) (p : Word) → d ≡ mark_after text s p → c ≡ cut_by (s.tail - s.start) → Next (record { u = c; v = c; mark = d }) ≡ plan5 text s p
   unfolding plan5
   made5 text s p e f = rw (e, f)
 
@@ -64,7 +65,7 @@ module _ (u v p : Word) (x : Bool) (e : x ≡ is_empty u) where
 pub ruleset finishes = (finish_u, finish_v, finish_p, rules)
 
 -- row 2
-pub mark_none : (x : ℕ) (p : Word) (r : Plan) → length p ≡ 0 → r ≡ drop_one 0 → r ≡ mark_drop x p
+pub mark_none : (x : ℕ) (p : Word) (r : Round Changes) → length p ≡ 0 → r ≡ drop_one 0 → r ≡ mark_drop x p
 unfolding mark_drop
 mark_none x [] r h e = e
 mark_none x (y ∷ p) r h e = absurd (omega arith)
@@ -72,7 +73,7 @@ mark_none x (y ∷ p) r h e = absurd (omega arith)
 pub mark_there : (p : Word) → (length p ≡ 0 → ⊥) → 0 < length p
 mark_there p h = omega arith
 
-pub mark_like : (x : ℕ) (p : Word) → (length p ≡ 0 → ⊥) → get_or p 0 0 ≡ x → (r : Plan) → r ≡ drop_one 1 → r ≡ mark_drop x p
+pub mark_like : (x : ℕ) (p : Word) → (length p ≡ 0 → ⊥) → get_or p 0 0 ≡ x → (r : Round Changes) → r ≡ drop_one 1 → r ≡ mark_drop x p
 unfolding mark_drop
 mark_like x [] h k r e = absurd (h refl)
 mark_like x (y ∷ p) h k r e = let q : min 1 (suc (length p)) ≡ 1 = omega arith in rw (eq-eqb y x k, q) e
@@ -88,13 +89,13 @@ pub drop_unlike : (x y : ℕ) (p : Word) → (x ≡ y → ⊥) → End false ≡
 unfolding letter_drop
 drop_unlike x y p d = rw (ne_eqb x y d)
 
-pub drop_like : (x y : ℕ) (p : Word) → x ≡ y → (r : Plan) → r ≡ mark_drop x p → r ≡ letter_drop x y p
+pub drop_like : (x y : ℕ) (p : Word) → x ≡ y → (r : Round Changes) → r ≡ mark_drop x p → r ≡ letter_drop x y p
 unfolding letter_drop
 drop_like x y p d r h = rw (eq-eqb x y d) h
 
 pub ruleset alike_drops = (drop_unlike, drop_like, rules)
 
-pub drop_letters : (u v p : Word) (x y : ℕ) → x ≡ get_or u 0 0 → y ≡ get_or v 0 0 → (r : Plan) → r ≡ letter_drop x y p → r ≡ plan2 u v p
+pub drop_letters : (u v p : Word) (x y : ℕ) → x ≡ get_or u 0 0 → y ≡ get_or v 0 0 → (r : Round Changes) → r ≡ letter_drop x y p → r ≡ plan2 u v p
 unfolding plan2
 drop_letters u v p x y e f r h = rw (← e, ← f) h
 
@@ -135,7 +136,7 @@ module _ (text table : List ℕ) (n i : ℕ) (s t : Site) (ua ub : Word) (h : Wh
     active_own : x ≡ active (words_in text table n) (z_of (words_in text table n) i) (drop (s.stop - s.start) (ua ++ ub))
     active_own = ex ∙ sym (active_between text (words_in text table n) i s lies_whole (ua ++ ub) h.begins)
 
-    pub replace_own : x ≡ true → (k : ℕ) (r : Plan) → r ≡ put_both (s.stop - s.start) s (t.stop - t.start) k
+    pub replace_own : x ≡ true → (k : ℕ) (r : Round Changes) → r ≡ put_both (s.stop - s.start) s (t.stop - t.start) k
         → r ≡ plan4 s t (site_of table (tail_member (words_in text table n) (family_by table n) i (drop (s.stop - s.start) (ua ++ ub)))) k
     unfolding plan4 tail_member
     replace_own q k r f = f ∙ rw (← active_own, q, ← h.at)
@@ -153,7 +154,7 @@ module _ (text table : List ℕ) (n i : ℕ) (s t : Site) (ua ub : Word) (h : Wh
             let a = tail_member_there B (rigid_of_c4 B h.known.grouped.checked.accepted) (family_by table n) i (drop (s.stop - s.start - length ua) ub) (omega (arith, b, t)) in
             grouped_room text table n j (record { grouped = h.known.grouped; there = omega (arith, a, b, e) })
 
-        pub replace_made : (z : Site) → z ≡ site_of table j → (k : ℕ) (r : Plan) → r ≡ put_both (s.stop - s.start) z (t.stop - t.start) k
+        pub replace_made : (z : Site) → z ≡ site_of table j → (k : ℕ) (r : Round Changes) → r ≡ put_both (s.stop - s.start) z (t.stop - t.start) k
             → r ≡ plan4 s t (site_of table (tail_member (words_in text table n) (family_by table n) i (drop (s.stop - s.start) (ua ++ ub)))) k
         unfolding plan4
         replace_made z ez k r f = rw (rest_is, ← e, ← ez) f
@@ -188,7 +189,7 @@ module _ (text : List ℕ) (s t : Site) (l : ℕ) (u v p : Word) (x : Bool) (e :
     unfolding plan8_of
     common_v k = rw (← e, h, ← f, k)
 
-    pub common_both : y ≡ true → (r : Plan) → r ≡ plan8 s t l (length p) → r ≡ plan8_of text s t l u v p
+    pub common_both : y ≡ true → (r : Round Changes) → r ≡ plan8 s t l (length p) → r ≡ plan8_of text s t l u v p
     unfolding plan8_of
     common_both k r g = rw (← e, h, ← f, k) g
 

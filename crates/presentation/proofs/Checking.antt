@@ -7,16 +7,16 @@ use borrow.Author.Rules.{rules}
 use borrow.Author.Tests.{eq-eqb, ne_eqb}
 use lib.Dec.{eqb}
 use lib.ListN.{length, get_or, take}
+use Rattle.std.specs.Prelude.{Result, Ok, Err, ⊤}
 use Rattle.words.proofs.Searching.{NoneBelow, none_start, none_more, least_is, least_none}
 use Rattle.layout.specs.Places.{words_most, start_cell, side_cell, count_cell}
 use Rattle.layout.specs.Layout.{Laid, start_of}
 use Rattle.longest.specs.Longest.{Tabled}
 use Rattle.layout.specs.Families.{side_word_of, sides_in, count_of}
 use Rattle.layout.proofs.Cells.{sides_same}
-use Rattle.refusals.specs.declared.Refusal.TheVariants.{Loose}
-use Rattle.format.specs.declared.Reading.TheVariants.{Read, Refused}
-use Rattle.pieces.specs.declared.Judged.{Judged}
-use Rattle.pieces.specs.declared.Judged.TheVariants as Judges
+use Rattle.refusals.specs.declared.Refusal.TheVariants as Refusals
+use Rattle.format.specs.declared.BookSize.{BookSize}
+use Rattle.pieces.specs.declared.Loose.{Loose}
 use Rattle.pieces.specs.Judging.{Judging, JudgedKept}
 use Rattle.pieces.proofs.Verdicts.{accepted_laid, accepted_words, accepted_c4}
 use Rattle.listing.specs.Listing.{Unlisted, IndexMade}
@@ -35,13 +35,13 @@ module _ (text table : List ℕ) (relations : ℕ) (u : Unchecked text table rel
     few_words : n ≤ words_most
     few_words = checks_laid.few
 
-    module _ (array after kept : List ℕ) (r : Judged) (d : JudgedKept text table n array after kept r) where
+    module _ (array after kept : List ℕ) (r : Result ⊤ Loose) (d : JudgedKept text table n array after kept r) where
       j : Judging text table n after r
       j = d.judging
 
-      loose_checked : (i : ℕ) → r ≡ Judges.Loose i → WordsChecked text table relations after r
-      loose_checked i e =
-          let same = j.looses i e in
+      loose_checked : (loose : Loose) → r ≡ Err loose → WordsChecked text table relations after r
+      loose_checked loose e =
+          let same = j.looses loose e in
           record {
             verdict = rw (← c) j.verdict;
             grouped = λ a. absurd (never a);
@@ -52,14 +52,14 @@ module _ (text table : List ℕ) (relations : ℕ) (u : Unchecked text table rel
             sided = record { room = ap length same ∙ u.room; few = omega (arith, u.few) };
           }
         where
-          never : r ≡ Judges.Accepted → ⊥
+          never : r ≡ Ok tt → ⊥
           never a = let z : ◌≡◌ {A = ℕ} 0 1 = cc in omega arith
 
       -- a loose word: the table is as it was
-      pub checks_loose : (i : ℕ) → r ≡ Judges.Loose i → WordsKept text table relations array after kept r
-      checks_loose i e = record { checked = loose_checked i e; tabled = λ h a. let z : ◌≡◌ {A = ℕ} 0 1 = cc in absurd (omega arith) }
+      pub checks_loose : (loose : Loose) → r ≡ Err loose → WordsKept text table relations array after kept r
+      checks_loose loose e = record { checked = loose_checked loose e; tabled = λ h a. let z : ◌≡◌ {A = ℕ} 0 1 = cc in absurd (omega arith) }
 
-      module _ (e : r ≡ Judges.Accepted) where
+      module _ (e : r ≡ Ok tt) where
         pub accepted_unlisted : Unlisted text after n
         accepted_unlisted = record { laid = accepted_laid text table n after r j e checks_laid; room = (j.cuts e).kept.long ∙ u.room }
 
@@ -101,11 +101,12 @@ module _ (text table : List ℕ) (relations : ℕ) (u : Unchecked text table rel
           start_kept last g =
               sym (g.kept.before (start_cell n) (omega (arith, few_words)) ∙ m.kept.same (start_cell n) (omega (arith, few_words)) ∙ (j.cuts e).kept.starts n few_words)
 
-          pub checks_accepted : (last : List ℕ) → GroupsMade listed n relations last → WordsKept text table relations array last kept r
+          pub checks_accepted : (last : List ℕ) → GroupsMade listed n relations last → WordsKept text table relations array last kept (Ok tt)
           checks_accepted last g =
               let w = accepted_checked last g in
               let k : count_of last ≡ n = w.counted ∙ sym c in
-              record { checked = w; tabled = λ h _. rw k (subst (λ (p : ℕ). Tabled (take p text) kept) (start_kept last g) (d.tabled h)) }
+              subst (λ (o : Result ⊤ Loose). WordsKept text table relations array last kept o) e
+              (record { checked = w; tabled = λ h _. rw k (subst (λ (p : ℕ). Tabled (take p text) kept) (start_kept last g) (d.tabled h)) })
 
 pub ruleset checks = (checks_laid, checks_loose, accepted_unlisted, accepted_groupable, checks_accepted, rules)
 
@@ -136,11 +137,11 @@ module _ (table : List ℕ) (sides word s : ℕ) (a : Siding table sides word s)
 pub ruleset sidings = (siding_start, siding_more, siding_found, siding_end, rules)
 
 -- the answer by the verdict
-pub answer_accepted : (table : List ℕ) (letters count : ℕ) (j : Judged) → j ≡ Judges.Accepted → Read letters count ≡ by_judged table letters count j
-answer_accepted table letters count j e = rw e
+pub answer_accepted : (table : List ℕ) (size : BookSize) (j : Result ⊤ Loose) → j ≡ Ok tt → Ok size ≡ by_judged table size j
+answer_accepted table size j e = rw e
 
-pub answer_loose : (table : List ℕ) (letters count : ℕ) (j : Judged) (i s : ℕ) → j ≡ Judges.Loose i → s ≡ first_side table (2 * count) i
-    → Refused (Loose s) ≡ by_judged table letters count j
-answer_loose table letters count j i s e f = rw (e, f)
+pub answer_loose : (table : List ℕ) (size : BookSize) (j : Result ⊤ Loose) (loose : Loose) (s : ℕ) → j ≡ Err loose
+    → s ≡ first_side table (2 * size.relations) loose.word → Err (Refusals.Loose s) ≡ by_judged table size j
+answer_loose table size j loose s e f = rw (e, f)
 
 pub ruleset answers = (answer_accepted, answer_loose, rules)

@@ -2,9 +2,13 @@
 // byte which it must keep.
 #![tactic(auto)]
 
+use fields::{behind, front, is_kept};
 use refusals::Refusal;
 use std::io;
 use std::io::Write;
+
+// How many bytes are printed in hexadecimal with one writing.
+const PORTION: usize = 8192;
 
 // Prints a text as a line.
 pub fn print_text<W: Write>(out: &mut W, line: &[u8]) -> io::Result<()> {
@@ -26,11 +30,11 @@ pub fn print_pair<W: Write>(out: &mut W, word: &[u8], m: usize, n: usize) -> io:
 
 // Prints a refusal: its number and its place.
 pub fn print_refusal<W: Write>(out: &mut W, refusal: Refusal) -> io::Result<()> {
-    let numbered = refusals::number_and_place(refusal);
+    let numbered = refusals::Numbered::from(refusal);
     print_pair(
         out,
         b"refused ",
-        numbers::wide(numbered.number),
+        usize::from(numbered.number),
         numbered.place,
     )
 }
@@ -44,30 +48,22 @@ pub fn print_end<W: Write>(out: &mut W, same: bool) -> io::Result<()> {
     }
 }
 
-// Prints the next words of a round, the first bytes of its three buffers.
-pub fn print_next<W: Write>(
-    out: &mut W,
-    nu: &[u8],
-    i: usize,
-    nv: &[u8],
-    j: usize,
-    np: &[u8],
-    k: usize,
-) -> io::Result<()> {
+// Prints the next words of a round.
+pub fn print_next<W: Write>(out: &mut W, u: &[u8], v: &[u8], p: &[u8]) -> io::Result<()> {
     out.write_all(b"next ")?;
-    print_bytes(out, nu, i)?;
+    print_bytes(out, u)?;
     out.write_all(b" ")?;
-    print_bytes(out, nv, j)?;
+    print_bytes(out, v)?;
     out.write_all(b" ")?;
-    print_bytes(out, np, k)?;
+    print_bytes(out, p)?;
     out.write_all(b"\n")
 }
 
-// Prints a sheet, and before it whether a byte behind it was changed.
-pub fn print_sheet<W: Write>(out: &mut W, sheet: &[u8], n: usize) -> io::Result<()> {
-    print_touched(out, sheet, n)?;
+// Prints a sheet, the first bytes of a buffer, and before it whether a byte behind it was changed.
+pub fn print_sheet<W: Write>(out: &mut W, buffer: &[u8], n: usize) -> io::Result<()> {
+    print_touched(out, behind(buffer, n))?;
     out.write_all(b"sheet ")?;
-    print_bytes(out, sheet, n)?;
+    print_bytes(out, front(buffer, n))?;
     out.write_all(b"\n")
 }
 
@@ -79,63 +75,41 @@ pub fn print_placed<W: Write>(
     offset: usize,
     letters: usize,
 ) -> io::Result<()> {
-    if !fields::is_kept_outside(buffer, offset, letters) {
+    let placed = behind(buffer, offset);
+    if !(is_kept(front(buffer, offset)) && is_kept(behind(placed, letters))) {
         out.write_all(b"touched ")?;
     }
     out.write_all(name)?;
     write!(out, "{letters} ")?;
-    print_part(out, buffer, offset, letters)?;
+    print_bytes(out, front(placed, letters))?;
     out.write_all(b"\n")
 }
 
-// Tells of each of a round's three buffers whether a byte behind its first ones was changed.
-pub fn print_touches<W: Write>(
-    out: &mut W,
-    nu: &[u8],
-    i: usize,
-    nv: &[u8],
-    j: usize,
-    np: &[u8],
-    k: usize,
-) -> io::Result<()> {
-    print_touched(out, nu, i)?;
-    print_touched(out, nv, j)?;
-    print_touched(out, np, k)
-}
-
-// Tells that a byte of a buffer from a position on is not what it was filled with.
-pub fn print_touched<W: Write>(out: &mut W, buffer: &[u8], from: usize) -> io::Result<()> {
-    if fields::is_kept(buffer, from) {
+// Tells that a byte is not what its buffer was filled with.
+pub fn print_touched<W: Write>(out: &mut W, bytes: &[u8]) -> io::Result<()> {
+    if is_kept(bytes) {
         return Ok(());
     }
     out.write_all(b"touched ")
 }
 
-// Prints n bytes of a buffer from an offset on, in portions, each as long as `print_bytes` has room for.
-fn print_part<W: Write>(out: &mut W, bytes: &[u8], offset: usize, n: usize) -> io::Result<()> {
-    if n == 0 {
-        print_bytes(out, bytes, 0)?;
+// Prints bytes in hexadecimal, `-` being none.
+pub fn print_bytes<W: Write>(out: &mut W, bytes: &[u8]) -> io::Result<()> {
+    if bytes.is_empty() {
+        return out.write_all(b"-");
     }
-    let mut at = offset;
-    let mut left = n;
-    while at < bytes.len() {
-        if left == 0 {
-            return Ok(());
-        }
-        let portion = numbers::smaller(left, 8192);
-        print_bytes(out, &bytes[at..], portion)?;
-        at += portion;
-        left -= portion;
+    for portion in bytes.chunks(PORTION) {
+        print_portion(out, portion)?;
     }
     Ok(())
 }
 
-// Prints the first bytes of a buffer, at most 8,192.
-pub fn print_bytes<W: Write>(out: &mut W, bytes: &[u8], n: usize) -> io::Result<()> {
-    if n == 0 {
-        return out.write_all(b"-");
+// Prints a portion of bytes in hexadecimal by way of a buffer, so that the system is asked once and not for each byte.
+fn print_portion<W: Write>(out: &mut W, bytes: &[u8]) -> io::Result<()> {
+    let mut text = [0u8; 2 * PORTION];
+    let mut room: &mut [u8] = &mut text;
+    for byte in bytes {
+        write!(room, "{byte:02x}")?;
     }
-    let mut text = [0u8; 16384];
-    let m = fields::put_digits(bytes, n, &mut text);
-    out.write_all(&text[..m])
+    out.write_all(front(&text, 2 * bytes.len()))
 }

@@ -8,22 +8,11 @@ use native.Mathlib.Decide.{dec_lt}
 use mir.Syntax.{w8}
 use mir.Val.{Fits}
 use borrow.Author.Rules.{rules}
-use lib.ListN.{length, get_or}
+use lib.ListN.{length}
 use Rattle.overlap.specs.Counts.{pieces, none, no_product, number, reach}
 use Rattle.overlap.proofs.Reaching.{reach_first, reach_next, reach_stays, fewest_is}
 use Rattle.layout.specs.Places.{word_most}
-use Rattle.layout.specs.Layout.{start_of, end_of}
-use Rattle.loose.specs.Pieces.{InTables}
-use Rattle.loose.proofs.Lowest.{cells_start, length_small}
-use Rattle.products.specs.Products.{piece_by, number_from, number_by, Enclosed}
-
--- one piece
-
-module _ (longest : List ℕ) (start a w : ℕ) (e : w ≡ a) where
-  pub piece_here : (r : ℕ) → r ≡ get_or longest (start + w) 0 → r ≡ piece_by longest start a
-  piece_here r d = d ∙ ap (λ k. get_or longest (start + k) 0) e
-
-pub ruleset piecing = (piece_here, rules)
+use Rattle.products.specs.Products.{piece_by, number_from, Enclosed}
 
 -- the loop: `count` pieces end at place a, and no fewer reach the end of the word
 pub record Numbering (longest : List ℕ) (start n a count : ℕ) : Type 0 where
@@ -87,22 +76,3 @@ module _ (longest : List ℕ) (start n a count : ℕ) (s : Numbering longest sta
           }
 
 pub ruleset numbering = (number_start, number_inside, number_end, number_none, number_fits, count_fits, number_less, number_more, rules)
-
--- word i
-
-module _ (longest table : List ℕ) (i : ℕ) (f : InTables longest table i) (s n : ℕ) (d : s ≡ start_of table i) (e : n ≡ end_of table i - start_of table i) where
-  pub enclosed_here : Enclosed longest s n
-  enclosed_here =
-      let u = f.upwards in
-      let k = f.inside in
-      let l = f.long in
-      record {
-        inside = omega (arith, d, e, u, k);
-        short = omega (arith, e, l);
-        within = λ a h. let w = f.within (s + a) (omega (arith, d)) (omega (arith, d, e, h)) in omega (arith, d, e, w, u);
-      }
-
-  pub number_here : (r : ℕ) → r ≡ number_from longest s n → r ≡ number_by longest table i
-  number_here r h = h ∙ rw (d, e)
-
-pub ruleset words = (cells_start, length_small, enclosed_here, number_here, rules)

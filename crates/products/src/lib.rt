@@ -8,14 +8,14 @@ ghost use Rattle.loose.specs.Pieces.{InTables};
 ghost use Rattle.products.specs.Products.{piece_by, number_from, number_by, Enclosed};
 
 use layout::{length_of, start_of};
-use numbers::wide;
 
 // The number of pieces of a relation word.
 #[derive(Clone, Copy)]
 pub struct Number {}
 
 impl Number {
-    // For a word that is no product of pieces.
+    // For a word that is no product of pieces. Kept: a number and no Option, since docs/SPECIFICATION.md ("Forms of the code") fixes this byte; it stands in a cell of
+    // the table and in the cut sheet, and the contract of `number_of` (`number_by`) has it as that number.
     pub const NONE: u8 = 255;
 }
 
@@ -24,7 +24,7 @@ fn piece_at(longest: &[u8], start: usize, a: u8) -> u8
     requires { (start + a < length longest.now) × (a ≤ word_most) }
     ensures { result ≡ piece_by longest.now start a }
 {
-    longest[start + wide(a)]
+    longest[start + usize::from(a)]
 }
 
 // The number of pieces of the word of n letters that starts at `start`.
@@ -32,6 +32,7 @@ fn number_from(longest: &[u8], start: usize, n: u8) -> u8
     requires { Enclosed longest.now start n }
     ensures { result ≡ number_from longest.now start n }
 {
+    // Kept: no index is counted here, as place a goes up by a whole piece, and a `for` has no such step.
     let mut a = 0;
     let mut count = 0;
     while a < n {
@@ -50,5 +51,5 @@ pub fn number_of(longest: &[u8], table: &[u16], i: usize) -> u16
     requires { InTables longest.now table.now i }
     ensures { result ≡ number_by longest.now table.now i }
 {
-    number_from(longest, start_of(table, i), length_of(table, i)) as u16
+    u16::from(number_from(longest, start_of(table, i), length_of(table, i)))
 }

@@ -11,9 +11,8 @@ ghost use Rattle.held.specs.Asked.{change_asked};
 ghost use Rattle.held.specs.Tickets.{ProposalOutcome, shown, propose_of};
 ghost use Rattle.proposing.specs.Proposing.{Showable};
 
-use answers::Verdict;
 use entries::cut_sheet;
-use held::{Asked, Made};
+use held::Asked;
 use holding::changes_of;
 use limits::{Held, Ticket};
 use refusals::Refusal;
@@ -22,6 +21,7 @@ use settling::refuse_last;
 use tickets::put_ticket;
 
 // Writes the sheet of a new book, worked out afresh, and, where that is not refused, the ticket of the change that leads to it.
+#[tactic(auto, using(crate::proofs::Laws::shows))]
 fn show(
     book: &[u8],
     asked: Asked,
@@ -29,35 +29,30 @@ fn show(
     bytes: &[u8],
     sheet: &mut [u8],
     ticket: &mut [u8],
-) -> Verdict
+) -> Result<usize, Refusal>
     requires { Showable (change_asked asked bytes.now) held.now }
     ensures { ProposalOutcome.after (of_verdict result) sheet.new ticket.new ≡ shown (change_asked asked bytes.now) held.now sheet.old ticket.old (lastly (ltb (length ticket.old) ticket_room) (Narrow ticket_buffer) (settled (length sheet.old) book.now)) }
 {
     if ticket.len() < Ticket::ROOM {
         return refuse_last(book, sheet, Refusal::Narrow(Ticket::BUFFER));
     }
-    let written = cut_sheet(book, sheet);
-    let Verdict::Accepted(_) = written else {
-        return written;
-    };
+    let relations = cut_sheet(book, sheet)?;
     put_ticket(changes_of(held), asked, bytes, ticket);
-    written
+    Ok(relations)
 }
 
 // Shows what the change that is asked for would lead to, and gives a ticket for it.
+#[tactic(auto, using(crate::proofs::Laws::proposals))]
 pub fn propose_change(
     asked: Asked,
     held: &[u8],
     bytes: &[u8],
     sheet: &mut [u8],
     ticket: &mut [u8],
-) -> Verdict
+) -> Result<usize, Refusal>
     ensures { ProposalOutcome.after (of_verdict result) sheet.new ticket.new ≡ propose_of (change_asked asked bytes.now) held.now sheet.old ticket.old }
 {
     let mut fresh = [0u8; Held::BOOK];
-    let made = make_change(asked, held, bytes, &mut fresh);
-    match made {
-        Made::Refused(refusal) => Verdict::Refused(refusal),
-        Made::Book(n) => show(&fresh[..n], asked, held, bytes, sheet, ticket),
-    }
+    let n = make_change(asked, held, bytes, &mut fresh)?;
+    show(&fresh[..n], asked, held, bytes, sheet, ticket)
 }

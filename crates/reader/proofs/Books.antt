@@ -6,6 +6,7 @@ use native.Mathlib.Omega.{arith}
 use borrow.Author.Rules.{rules}
 use lib.ListN.{length, get_or, set, length-append, length-set}
 use lib.Seq.{get_or-set_same, get_or-set_other}
+use Rattle.std.specs.Prelude.{Result, Ok, Err}
 use Rattle.words.specs.Relations.{Relation, relation_words}
 use Rattle.words.specs.Families.{distinct_words, including_all, places_in, side_words, words_of}
 use Rattle.words.proofs.Distinct.{distinct_last, side_words_last}
@@ -15,19 +16,15 @@ use Rattle.layout.specs.Families.{sides_in, count_of}
 use Rattle.layout.proofs.Placed.{words_of_places, laid_of_places}
 use Rattle.layout.proofs.Cells.{sides_same}
 use Rattle.refusals.specs.declared.Refusal.{Refusal}
-use Rattle.format.specs.declared.HeadReading.{HeadReading}
-use Rattle.format.specs.declared.HeadReading.TheVariants as Heads
-use Rattle.format.specs.declared.RelationReading.{RelationReading}
-use Rattle.format.specs.declared.RelationReading.TheVariants as Relations
-use Rattle.format.specs.declared.Reading.{Reading}
-use Rattle.format.specs.declared.Reading.TheVariants as Readings
+use Rattle.format.specs.declared.HeadFields.{HeadFields}
+use Rattle.format.specs.declared.RelationFields.{RelationFields}
+use Rattle.format.specs.declared.BookSize.{BookSize}
 use Rattle.format.specs.Book.{Presentation, adding, read, refused, head_at, relation_at, relation_in, relations_from, read_book}
 use Rattle.format.specs.Bytes.{Within}
 use Rattle.format.proofs.Readings.{RelationRead, relation_read, relation_within, within_more, head_read, within_head}
 use Rattle.laying.specs.Appending.{Arrays}
 use Rattle.laying.specs.Relations.{including_both, both_places, RelationRoom, RelationAppended}
 use Rattle.laying.proofs.Appending.{nothing_laid}
-use Rattle.scanning.specs.Reading.{of_head, of_relation}
 use Rattle.scanning.proofs.Records.{from_end, from_refused, from_more}
 use Rattle.reader.specs.Reading.{Stored, BookRead}
 
@@ -49,29 +46,30 @@ pub record Going (book text₀ : List ℕ) (letters at count n : ℕ) (text tabl
   pub arrays : Arrays text table
 
 -- a book that is refused: its arrays hold nothing
-refused_book : (book text table : List ℕ) (x : Refusal) (r : Reading) (text' table' : List ℕ) → read_book book ≡ refused x → r ≡ Readings.Refused x
+refused_book : (book text table : List ℕ) (x : Refusal) (r : Result BookSize Refusal) (text' table' : List ℕ) → read_book book ≡ refused x → r ≡ Err x
     → length text' ≡ length text → length table' ≡ length table → BookRead book text table r text' table'
 refused_book book text table x r text' table' b f h k =
     record { answer = rw (b, f); stored = λ p q. absurd (let z : ◌≡◌ {A = ℕ} 0 1 = cc in omega arith); text_long = h; table_long = k }
 
-module _ (book text table : List ℕ) (head : HeadReading) (e : head ≡ head_at 64 0 book 0) where
-  pub head_refused : (x : Refusal) → head ≡ Heads.Refused x → (r : Reading) → r ≡ of_head head → BookRead book text table r text table
+module _ (book text table : List ℕ) (head : Result HeadFields Refusal) (e : head ≡ head_at 64 0 book 0) where
+  pub head_refused : (x : Refusal) → head ≡ Err x → BookRead book text table (Err x) text table
   unfolding read_book
-  head_refused x f r g = refused_book book text table x r text table (rw (← e, f)) (g ∙ rw f) refl refl
+  head_refused x f = refused_book book text table x (Err x) text table (rw (← e, f)) refl refl refl
 
-  pub going_start : (letters first : ℕ) → head ≡ Heads.Read letters first → Arrays text table → Going book text letters first 0 0 text (set table 0 0)
+  pub going_start : (fields : HeadFields) → head ≡ Ok fields → Arrays text table
+      → Going book text fields.letters fields.end 0 0 text (set table 0 0)
   unfolding read_book words_in relation_words distinct_words including_all sides_in side_words places_in
-  going_start letters first f a =
-      let h = head_read 64 0 book 0 letters first (sym e ∙ f) in
+  going_start fields f a =
+      let h = head_read 64 0 book 0 fields.letters fields.end (sym e ∙ f) in
       record {
-        presentation = record { letters = letters; relations = [] };
+        presentation = record { letters = fields.letters; relations = [] };
         lettered = refl;
         counted = refl;
         inside = h.fits;
         fuel = length book;
         enough = omega arith;
         same = rw (← e, f);
-        within = within_head 64 book 0 letters first (omega arith) h;
+        within = within_head 64 book 0 fields.letters fields.end (omega arith) h;
         laid = nothing_laid text table a.table_long;
         before = omega arith;
         words = refl;
@@ -137,7 +135,7 @@ module _ (book text₀ : List ℕ) (letters at count n : ℕ) (text table : List
           within = g.within;
         }
 
-    pub going_end : (table₀ : List ℕ) → Arrays text₀ table₀ → length book ≤ at → BookRead book text₀ table₀ (Readings.Read letters count) text table'
+    pub going_end : (table₀ : List ℕ) → Arrays text₀ table₀ → length book ≤ at → BookRead book text₀ table₀ (Ok (record { letters = letters; relations = count })) text table'
     going_end table₀ a h =
         let b : read_book book ≡ read g.presentation = g.same ∙ from_end g.fuel g.presentation book at h in
         record {
@@ -147,30 +145,29 @@ module _ (book text₀ : List ℕ) (letters at count n : ℕ) (text table : List
           table_long = going_long v table₀ a;
         }
 
-  module _ (h : at < length book) (r : RelationReading) (e : r ≡ relation_at letters count at book at) where
+  module _ (h : at < length book) (r : Result RelationFields Refusal) (e : r ≡ relation_at letters count at book at) where
     here : r ≡ relation_at g.presentation.letters (length g.presentation.relations) at book at
     here = rw (← g.counted, ← g.lettered) e
 
-    pub going_refused : (table₀ : List ℕ) → Arrays text₀ table₀ → (x : Refusal) → r ≡ Relations.Refused x → (n : ℕ) (o : Reading) → o ≡ of_relation letters n r
-        → BookRead book text₀ table₀ o text table
-    going_refused table₀ a x f n o q =
-        refused_book book text₀ table₀ x o text table (g.same ∙ from_refused g.presentation book at h g.fuel g.enough x (sym here ∙ f)) (q ∙ rw f) g.text_long
+    pub going_refused : (table₀ : List ℕ) → Arrays text₀ table₀ → (x : Refusal) → r ≡ Err x → BookRead book text₀ table₀ (Err x) text table
+    going_refused table₀ a x f =
+        refused_book book text₀ table₀ x (Err x) text table (g.same ∙ from_refused g.presentation book at h g.fuel g.enough x (sym here ∙ f)) refl g.text_long
         (g.arrays.table_long ∙ sym a.table_long)
 
-    module _ (left right to : ℕ) (f : r ≡ Relations.Read left right to) where
-      read_here : RelationRead g.presentation.letters (length g.presentation.relations) book at left right to
-      read_here = relation_read g.presentation.letters (length g.presentation.relations) at book at left right to (sym here ∙ f)
+    module _ (fields : RelationFields) (f : r ≡ Ok fields) where
+      read_here : RelationRead g.presentation.letters (length g.presentation.relations) book at fields.left fields.right fields.end
+      read_here = relation_read g.presentation.letters (length g.presentation.relations) at book at fields.left fields.right fields.end (sym here ∙ f)
 
-      pub going_less : length book - to < length book - at
+      pub going_less : length book - fields.end < length book - at
       going_less = let q = read_here in omega (arith, q.behind, q.left_some, q.right_some, q.fits)
 
-      pub going_room : RelationRoom book left right to text table count n
+      pub going_room : RelationRoom book fields.left fields.right fields.end text table count n
       going_room =
           let q = read_here in
           record {
             letters = g.presentation.letters;
             few = g.within.few;
-            within = relation_within g.presentation.letters (length g.presentation.relations) book at left right to q;
+            within = relation_within g.presentation.letters (length g.presentation.relations) book at fields.left fields.right fields.end q;
             first = omega (arith, q.left_some);
             second = omega (arith, q.right_some);
             inside = q.fits;
@@ -180,24 +177,24 @@ module _ (book text₀ : List ℕ) (letters at count n : ℕ) (text table : List
             arrays = g.arrays;
           }
 
-      pub going_more : (text' table' : List ℕ) (n' : ℕ) → RelationAppended book left right to text table count n text' table' n'
-          → Going book text₀ letters to (count + 1) n' text' table'
+      pub going_more : (text' table' : List ℕ) (n' : ℕ) → RelationAppended book fields.left fields.right fields.end text table count n text' table' n'
+          → Going book text₀ letters fields.end (count + 1) n' text' table'
       going_more text' table' n' a =
           let q = read_here in
-          let t = from_more g.presentation book at h g.fuel g.enough left right to (sym here ∙ f) in
+          let t = from_more g.presentation book at h g.fuel g.enough fields.left fields.right fields.end (sym here ∙ f) in
           record {
-            presentation = adding g.presentation (relation_in book left right to);
+            presentation = adding g.presentation (relation_in book fields.left fields.right fields.end);
             lettered = g.lettered;
             counted = simp length-append (omega (arith, g.counted));
             inside = q.fits;
             fuel = t.0;
             enough = omega (arith, q.behind, q.left_some, q.right_some, g.enough, t.1);
             same = g.same ∙ t.2;
-            within = within_more g.presentation book at left right to g.within q;
+            within = within_more g.presentation book at fields.left fields.right fields.end g.within q;
             laid = a.laid;
             before = a.before;
-            words = a.words ∙ rw g.words (sym (distinct_more g.presentation.relations (relation_in book left right to)));
-            sides = a.sides ∙ rw (g.words, g.sides) (sym (numbers_more g.presentation.relations (relation_in book left right to)));
+            words = a.words ∙ rw g.words (sym (distinct_more g.presentation.relations (relation_in book fields.left fields.right fields.end)));
+            sides = a.sides ∙ rw (g.words, g.sides) (sym (numbers_more g.presentation.relations (relation_in book fields.left fields.right fields.end)));
             text_long = a.text_long ∙ g.text_long;
             arrays = record { text_long = omega (arith, a.text_long, g.arrays.text_long); table_long = a.table_long ∙ g.arrays.table_long };
           }

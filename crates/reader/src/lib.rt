@@ -5,35 +5,42 @@
 ghost use Rattle.laying.specs.Appending.{Arrays};
 ghost use Rattle.reader.specs.Reading.{BookRead};
 
-use format::{HeadReading, Reading, RelationReading};
+use format::BookSize;
 use laying::append_relation;
 use layout::Table;
-use numbers::narrow;
+use refusals::Refusal;
 use relations::{head_at, relation_at};
-use scanning::{of_head, of_relation};
 
 // Reads a book. The relation words are laid in the text and the table as they are read, each once, and their number is put into the table at the end.
-pub fn read_book(book: &[u8], text: &mut [u16], table: &mut [u16]) -> Reading
+#[tactic(auto, using(crate::proofs::Books::goings))]
+pub fn read_book(book: &[u8], text: &mut [u16], table: &mut [u16]) -> Result<BookSize, Refusal>
     requires { Arrays text.old table.old }
     ensures { BookRead book.now text.old table.old result text.new table.new }
 {
-    let head = head_at(book, 0, 0);
-    let HeadReading::Read(letters, first) = head else {
-        return of_head(head);
-    };
+    let head = head_at(book, 0, 0)?;
     table[Table::START] = 0;
-    let mut at = first;
+    let mut at = head.end;
     let mut count = 0;
     let mut n = 0;
+    // Kept: each record tells where the next one begins, so that the loop steps by what it reads; no iterator is plainer.
     while at < book.len() {
-        let relation = relation_at(book, at, at, letters, count);
-        let RelationReading::Read(left, right, to) = relation else {
-            return of_relation(letters, count + 1, relation);
-        };
-        n = append_relation(book, left, right, to, text, table, count, n);
-        at = to;
+        let relation = relation_at(book, at, at, head.letters, count)?;
+        n = append_relation(
+            book,
+            relation.left,
+            relation.right,
+            relation.end,
+            text,
+            table,
+            count,
+            n,
+        );
+        at = relation.end;
         count += 1;
     }
-    table[Table::COUNT] = narrow(n);
-    Reading::Read(letters, count)
+    table[Table::COUNT] = n as u16;
+    Ok(BookSize {
+        letters: head.letters,
+        relations: count,
+    })
 }

@@ -5,9 +5,8 @@ ghost use Rattle.std.specs.Prelude.{◌≡◌};
 ghost use Rattle.refusals.specs.Refusals.{number_and_place};
 
 use limits::{Input, Word};
-use numbers::wide;
 
-// What can be refused, in the order of document 01's table, in which 7 is not used; `number_and_place` gives its number and its place. A record's place is its
+// What can be refused, in the order of document 01's table, in which 7 is not used; `Numbered::from` gives its number and its place. A record's place is its
 // first byte.
 #[derive(Clone, Copy)]
 pub enum Refusal {
@@ -64,30 +63,32 @@ fn told(number: u8, place: usize) -> Numbered
 }
 
 // Document 01's number and place of a refusal.
-pub fn number_and_place(refusal: Refusal) -> Numbered
-    ensures { result ≡ number_and_place refusal }
-{
-    match refusal {
-        Refusal::Short(at) => told(1, at),
-        Refusal::Kind(at) => told(2, at),
-        Refusal::Length(at) => told(3, at),
-        Refusal::Range(at) => told(4, at),
-        Refusal::UnknownLetter(at) => told(5, at),
-        Refusal::TooMany(at) => told(6, at),
-        Refusal::Loose(side) => told(8, side),
-        Refusal::Long(word) => told(9, Word::SPACING * wide(word)),
-        Refusal::Stranger(word, position) => told(
-            10,
-            Word::SPACING * wide(word) + position as usize,
-        ),
-        Refusal::Spent(rounds) => told(11, rounds as usize),
-        Refusal::Narrow(buffer) => told(12, buffer),
-        Refusal::Heavy => told(13, Input::MOST),
-        Refusal::NoSpace => told(14, 0),
-        Refusal::NoSuchRelation => told(15, 0),
-        Refusal::StaleTicket => told(16, 0),
-        Refusal::BookWorn => told(17, 0),
-        Refusal::NotPiece => told(18, 0),
-        Refusal::NoPrefix => told(19, 0),
+impl From<Refusal> for Numbered {
+    ghost from_gives = { λ refusal numbered. numbered ≡ number_and_place refusal };
+
+    fn from(refusal: Refusal) -> Numbered {
+        match refusal {
+            Refusal::Short(at) => told(1, at),
+            Refusal::Kind(at) => told(2, at),
+            Refusal::Length(at) => told(3, at),
+            Refusal::Range(at) => told(4, at),
+            Refusal::UnknownLetter(at) => told(5, at),
+            Refusal::TooMany(at) => told(6, at),
+            Refusal::Loose(side) => told(8, side),
+            Refusal::Long(word) => told(9, Word::SPACING * usize::from(word)),
+            Refusal::Stranger(word, position) => told(
+                10,
+                Word::SPACING * usize::from(word) + usize::from(position),
+            ),
+            Refusal::Spent(rounds) => told(11, rounds as usize),
+            Refusal::Narrow(buffer) => told(12, buffer),
+            Refusal::Heavy => told(13, Input::MOST),
+            Refusal::NoSpace => told(14, 0),
+            Refusal::NoSuchRelation => told(15, 0),
+            Refusal::StaleTicket => told(16, 0),
+            Refusal::BookWorn => told(17, 0),
+            Refusal::NotPiece => told(18, 0),
+            Refusal::NoPrefix => told(19, 0),
+        }
     }
 }

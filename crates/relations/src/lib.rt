@@ -9,37 +9,38 @@ ghost use Rattle.words.specs.Letters.{unknown_in};
 ghost use Rattle.format.specs.Book.{head_at, fields_at, relation_at};
 ghost use Rattle.records.specs.Reads.{Payload};
 
-use format::{HeadReading, RelationReading};
+use format::{HeadFields, RelationFields};
 use letters::first_unknown;
-use limits::{Head, MadeHead, MadeRelation, Record, Relation};
-use numbers::wide;
+use limits::{Head, Relation};
 use records::record_at;
 use refusals::Refusal;
 
 // The head whose record begins at `at`: refusals 1, 2, 3, 4, reported at `place`.
-pub fn head_at(book: &[u8], at: usize, place: usize) -> HeadReading
+#[tactic(auto, using(crate::proofs::Fields::heads))]
+pub fn head_at(book: &[u8], at: usize, place: usize) -> Result<HeadFields, Refusal>
     ensures { result ≡ head_at letters_most place book.now at }
 {
-    let record = record_at(book, at);
-    let Record::Whole(kind, from, to) = record else {
-        return HeadReading::Refused(Refusal::Short(place));
+    let Some(record) = record_at(book, at) else {
+        return Err(Refusal::Short(place));
     };
-    match kind {
+    // Kept: a kind is any number of two bytes, which the definition `head_kind` names; an enum would say no more of the others than `_` does.
+    match record.kind {
         Head::KIND => {
-            if to - from != Head::PAYLOAD {
-                return HeadReading::Refused(Refusal::Length(place));
+            if record.to - record.from != Head::PAYLOAD {
+                return Err(Refusal::Length(place));
             }
-            let made = Head::make(book[from]);
-            let MadeHead::Good(head) = made else {
-                return HeadReading::Refused(Refusal::Range(place));
-            };
-            HeadReading::Read(head.letters, to)
+            let head = Head::make(book[record.from]).ok_or(Refusal::Range(place))?;
+            Ok(HeadFields {
+                letters: head.letters,
+                end: record.to,
+            })
         }
-        _ => HeadReading::Refused(Refusal::Kind(place)),
+        _ => Err(Refusal::Kind(place)), // no head
     }
 }
 
 // Some letter of a part is not below the number of letters.
+#[tactic(auto, using(crate::proofs::Fields::unknowns))]
 fn unknown_in(book: &[u8], from: usize, to: usize, letters: u8) -> bool
     requires { Payload book.now from to }
     ensures { result ≡ unknown_in letters (part book.now from to) }
@@ -49,50 +50,59 @@ fn unknown_in(book: &[u8], from: usize, to: usize, letters: u8) -> bool
 }
 
 // The fields of a relation, from one position to another: refusals 3, 4, 5, reported at `place`.
-pub fn fields_at(book: &[u8], from: usize, to: usize, place: usize, letters: u8) -> RelationReading
+#[tactic(auto, using(crate::proofs::Fields::fieldsets))]
+pub fn fields_at(
+    book: &[u8],
+    from: usize,
+    to: usize,
+    place: usize,
+    letters: u8,
+) -> Result<RelationFields, Refusal>
     requires { Payload book.now from to }
     ensures { result ≡ fields_at letters place book.now from to }
 {
     if to - from < Relation::FIXED_PAYLOAD {
-        return RelationReading::Refused(Refusal::Length(place));
+        return Err(Refusal::Length(place));
     }
-    let m = wide(book[from]);
-    let n = wide(book[from + 1]);
+    let m = usize::from(book[from]);
+    let n = usize::from(book[from + 1]);
     if to - from != Relation::FIXED_PAYLOAD + m + n {
-        return RelationReading::Refused(Refusal::Length(place));
+        return Err(Refusal::Length(place));
     }
-    let made = Relation::make(m, n);
-    let MadeRelation::Good(relation) = made else {
-        return RelationReading::Refused(Refusal::Range(place));
-    };
+    let relation = Relation::make(m, n).ok_or(Refusal::Range(place))?;
     let left = from + Relation::FIXED_PAYLOAD;
     if unknown_in(book, left, to, letters) {
-        return RelationReading::Refused(Refusal::UnknownLetter(place));
+        return Err(Refusal::UnknownLetter(place));
     }
-    RelationReading::Read(left, left + relation.left, to)
+    Ok(RelationFields {
+        left,
+        right: left + relation.left,
+        end: to,
+    })
 }
 
 // The relation whose record begins at `at`, so many standing before it: refusals 1, 2, 6, reported at `place`, then those of its fields.
+#[tactic(auto, using(crate::proofs::Fields::relations))]
 pub fn relation_at(
     book: &[u8],
     at: usize,
     place: usize,
     letters: u8,
     count: usize,
-) -> RelationReading
+) -> Result<RelationFields, Refusal>
     ensures { result ≡ relation_at letters count place book.now at }
 {
-    let record = record_at(book, at);
-    let Record::Whole(kind, from, to) = record else {
-        return RelationReading::Refused(Refusal::Short(place));
+    let Some(record) = record_at(book, at) else {
+        return Err(Refusal::Short(place));
     };
-    match kind {
+    // Kept: a kind is a number, as in `head_at`; the definition `relation_kind` names it.
+    match record.kind {
         Relation::KIND => {
             if Relation::MOST <= count {
-                return RelationReading::Refused(Refusal::TooMany(place));
+                return Err(Refusal::TooMany(place));
             }
-            fields_at(book, from, to, place, letters)
+            fields_at(book, record.from, record.to, place, letters)
         }
-        _ => RelationReading::Refused(Refusal::Kind(place)),
+        _ => Err(Refusal::Kind(place)), // no relation
     }
 }

@@ -1,13 +1,13 @@
 -- A refusal keeps every lent byte: of the cases of the definition, the one that writes has another answer.
 use mathlib.Core.Bool.{Bool, true, false, cond}
 use mathlib.Core.Path.{◌≡◌, refl}
+use Rattle.std.specs.Prelude.{Result, Ok, Err}
+use Rattle.refusals.specs.declared.Refusal.{Refusal}
 use Rattle.words.specs.Families.{words_of, family_of}
 use Rattle.overlap.specs.Cuts.{is_piece}
 use Rattle.refusals.specs.declared.Refusal.TheVariants.{NotPiece}
 use Rattle.format.specs.Book.{BookReading}
 use Rattle.loading.specs.Loading.{load_book}
-use Rattle.asked.specs.declared.Given.{Given}
-use Rattle.asked.specs.declared.Given.TheVariants as Givens
 use Rattle.asked.specs.Given.{on_given, marked_of}
 use Rattle.least.specs.Writing.{Found}
 use Rattle.asked.specs.Least.{least_from}
@@ -25,10 +25,10 @@ removals_keep book u p old offset n place buffer e = step (load_book book) refl
     piece true f d = found_keeps offset old n place buffer f d
     piece false f d = cc
 
-    asked : (g : Given) (b : Bool) (f : Found) → on_given g (λ r. WordOutcome.after (refusal r) old) (cond b (found_at offset f old) (WordOutcome.after (refusal NotPiece) old))
+    asked : (g : Result (Unit {0}) Refusal) (b : Bool) (f : Found) → on_given g (λ r. WordOutcome.after (refusal r) old) (cond b (found_at offset f old) (WordOutcome.after (refusal NotPiece) old))
         ≡ WordOutcome.after (refused n place) buffer → buffer ≡ old
-    asked Givens.Fine b f d = piece b f d
-    asked (Givens.Refused r) b f d = cc
+    asked (Ok _) b f d = piece b f d
+    asked (Err r) b f d = cc
 
     step : (o : BookReading) → load_book book ≡ o → buffer ≡ old
     step (BookReading.refused r) f = let d : WordOutcome.after (refusal r) old ≡ WordOutcome.after (refused n place) buffer = rw f at e in cc

@@ -7,6 +7,7 @@ use mathlib.Core.Path.{◌≡◌, refl, sym, ap, ◌∙◌, subst}
 use native.Mathlib.Omega.{arith}
 use native.Mathlib.Nat.{mul-le-mul}
 use lib.ListN.{length, take, drop}
+use Rattle.std.specs.Prelude.{Ok}
 use Rattle.words.specs.Words.{Word}
 use Rattle.words.specs.Relations.{Relation, relation_words}
 use Rattle.words.specs.Families.{words_of, family_of}
@@ -24,7 +25,6 @@ use Rattle.limits.specs.Limits.{side_most, compared_most}
 use Rattle.words.specs.Writing.{over}
 use Rattle.format.specs.Book.{Presentation, BookReading}
 use Rattle.loading.specs.Loading.{load_book}
-use Rattle.asked.specs.declared.Given.TheVariants as Givens
 use Rattle.asked.specs.Given.{marked_of}
 use Rattle.given.proofs.Laws.{fine_short, fine_marked}
 use Rattle.asked.specs.Least.{least_from}
@@ -137,7 +137,7 @@ module _ (relations : List Relation) (writes : (p u : Word) → IsPiece (words_o
 
 -- an accepted book, and words that are fine
 module _ (book : List ℕ) (presentation : Presentation) (e : load_book book ≡ BookReading.read presentation) where
-  pub removal_is : (u p : Word) (old : List ℕ) (offset : ℕ) → marked_of presentation.letters u p ≡ Givens.Fine
+  pub removal_is : (u p : Word) (old : List ℕ) (offset : ℕ) → marked_of presentation.letters u p ≡ Ok tt
       → removal_of book u p old offset ≡ removed_at (words_of presentation.relations) (family_of presentation.relations) u p old offset
   unfolding removal_of loaded_removal
   removal_is u p old offset f = rw (e, f)
@@ -146,7 +146,7 @@ module _ (book : List ℕ) (presentation : Presentation) (e : load_book book ≡
       → Written (words_of presentation.relations) (family_of presentation.relations) house_rank (Congruent (relation_words presentation.relations)) p u
   loaded_writes p u s = rounds_write_least presentation.relations (loaded_c4 book presentation e) house_rank house_injective p u s
 
-  pub loaded_removes : (u p : Word) (old : List ℕ) (offset : ℕ) → marked_of presentation.letters u p ≡ Givens.Fine
+  pub loaded_removes : (u p : Word) (old : List ℕ) (offset : ℕ) → marked_of presentation.letters u p ≡ Ok tt
       → RemovesPrefix presentation.relations u p old offset (removal_of book u p old offset)
   loaded_removes u p old offset f =
       let B = words_of presentation.relations in

@@ -1,9 +1,8 @@
 -- What the parts of the entry ask once the book is loaded.
-use Rattle.std.specs.Prelude.{ℕ, List, ◌≡◌}
+use Rattle.std.specs.Prelude.{ℕ, List, ◌≡◌, Ok}
 use Rattle.words.specs.Words.{Word}
 use Rattle.limits.specs.Limits.{mark_most}
 use Rattle.pieces.specs.Judging.{PiecesTabled}
-use Rattle.asked.specs.declared.Given.TheVariants as Givens
 use Rattle.asked.specs.Given.{given_of, marked_of}
 use Rattle.answers.specs.Parts.{LeastLoaded}
 
@@ -16,10 +15,10 @@ pub record Removable (text table longest : List ℕ) (n letters : ℕ) : Type 0 
 pub record PrefixGiven (text table longest : List ℕ) (n : ℕ) (p : Word) : Type 0 where
   pub letters : ℕ
   pub known : Removable text table longest n letters
-  pub fine : given_of 2 mark_most letters p ≡ Givens.Fine
+  pub fine : given_of 2 mark_most letters p ≡ Ok tt
 
 -- the same, and a word and a front mark that are fine
 pub record Marked (text table longest : List ℕ) (n : ℕ) (u p : Word) : Type 0 where
   pub letters : ℕ
   pub known : Removable text table longest n letters
-  pub fine : marked_of letters u p ≡ Givens.Fine
+  pub fine : marked_of letters u p ≡ Ok tt

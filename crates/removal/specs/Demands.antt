@@ -1,5 +1,5 @@
 -- What is owed of the removal of a prefix, said of its answer in the words of the papers (document 01, "Taking a front off"), and what follows for its callers.
-use Rattle.std.specs.Prelude.{ℕ, ◌+◌, ◌<◌, ◌≤◌, List, [], ◌++◌, ◌↔◌, ◌≡◌, length}
+use Rattle.std.specs.Prelude.{ℕ, ◌+◌, ◌<◌, ◌≤◌, List, [], ◌++◌, ◌↔◌, ◌≡◌, length, Ok}
 use Rattle.words.specs.Words.{Word}
 use Rattle.words.specs.Relations.{Relation, relation_words}
 use Rattle.words.specs.Families.{words_of}
@@ -10,7 +10,6 @@ use Rattle.least.specs.Least.{LeastBehind}
 use Rattle.limits.specs.Limits.{side_most, least_most}
 use Rattle.format.specs.Book.{Presentation, BookReading}
 use Rattle.loading.specs.Loading.{load_book}
-use Rattle.asked.specs.declared.Given.TheVariants as Givens
 use Rattle.asked.specs.Given.{marked_of}
 use Rattle.answers.specs.Answers.{refused}
 use Rattle.answers.specs.Entries.{WordOutcome, least_of}
@@ -39,7 +38,7 @@ pub record RemovesPrefix (relations : List Relation) (u p : Word) (old : List �
 -- what the removal promises of its outcome: it is the definition's; and of an accepted book and words that are fine, the prefix is removed
 pub record RemovalAnswered (book : List ℕ) (u p : Word) (old : List ℕ) (offset : ℕ) (outcome : WordOutcome) : Type 0 where
   pub is : outcome ≡ removal_of book u p old offset
-  pub removes : (presentation : Presentation) → load_book book ≡ BookReading.read presentation → marked_of presentation.letters u p ≡ Givens.Fine
+  pub removes : (presentation : Presentation) → load_book book ≡ BookReading.read presentation → marked_of presentation.letters u p ≡ Ok tt
       → RemovesPrefix presentation.relations u p old offset outcome
 
 -- the empty piece, whatever else is given: the least word with all its refusals
@@ -49,18 +48,18 @@ NothingRemoved = (book : List ℕ) (u : Word) (old : List ℕ) (offset : ℕ) �
 -- a word of as many letters as a side can have is no piece of an accepted book, so that it is 18
 abbrev pub LongNoPiece : Type 0
 LongNoPiece = (book : List ℕ) (u p : Word) (old : List ℕ) (offset : ℕ) (presentation : Presentation) → load_book book ≡ BookReading.read presentation
-    → marked_of presentation.letters u p ≡ Givens.Fine → side_most ≤ length p → removal_of book u p old offset ≡ WordOutcome.after (refused 18 0) old
+    → marked_of presentation.letters u p ≡ Ok tt → side_most ≤ length p → removal_of book u p old offset ≡ WordOutcome.after (refused 18 0) old
 
 -- a piece that was put in front of a word v comes off again: a word is found, and it is v or comes before it
 abbrev pub JoinedComeOff : Type 0
 JoinedComeOff = (book : List ℕ) (p v : Word) (old : List ℕ) (offset : ℕ) (presentation : Presentation) → load_book book ≡ BookReading.read presentation
-    → marked_of presentation.letters (p ++ v) p ≡ Givens.Fine → IsPiece (words_of presentation.relations) p
+    → marked_of presentation.letters (p ++ v) p ≡ Ok tt → IsPiece (words_of presentation.relations) p
     → (w : WritesBehind (relation_words presentation.relations) (p ++ v) p old offset (removal_of book (p ++ v) p old offset)) × AtMost house_rank w.word v
 
 -- congruent words have one answer, whichever of them is given
 abbrev pub ClassesAlike : Type 0
 ClassesAlike = (book : List ℕ) (u v p : Word) (old : List ℕ) (offset : ℕ) (presentation : Presentation) → load_book book ≡ BookReading.read presentation
-    → marked_of presentation.letters u p ≡ Givens.Fine → marked_of presentation.letters v p ≡ Givens.Fine → Congruent (relation_words presentation.relations) u v
+    → marked_of presentation.letters u p ≡ Ok tt → marked_of presentation.letters v p ≡ Ok tt → Congruent (relation_words presentation.relations) u v
     → removal_of book u p old offset ≡ removal_of book v p old offset
 
 -- a refusal keeps every lent byte, whatever its number and place are

@@ -3,77 +3,74 @@
 #![tactic(auto)]
 
 ghost use Rattle.std.specs.Prelude.{◌≡◌};
-ghost use Rattle.layout.specs.Layout.{words_in};
-ghost use Rattle.layout.specs.Families.{family_by};
 ghost use Rattle.occurrence.specs.Standing.{PieceSought};
 ghost use Rattle.answers.specs.Answers.{of_written_word};
 ghost use Rattle.answers.specs.Entries.{WordOutcome};
 ghost use Rattle.removal.specs.Removal.{removed_at, loaded_removal};
 ghost use Rattle.removal.specs.Asked.{Removable, PrefixGiven, Marked};
 ghost use Rattle.removal.specs.Demands.{RemovalAnswered};
+ghost use Rattle.layout.specs.Views.{words_of, family_of, on};
 
-pub use answers::WrittenWord;
-use asked::Given;
-use format::Reading;
+use layout::RelationWords;
 use given::widen_word;
 use layout::{Table, Text};
 use limits::Word;
-use occurrence::Place;
+use moves::Mark;
 use placing::place_word;
 use presentation::load_pieces;
 use refusals::Refusal;
 
 // Where the prefix stands in the text if it is a piece. It is widened, as words inside are.
-fn find_prefix(text: &[u16], table: &[u16], longest: &[u8], n: usize, p: &[u8]) -> Place
-    requires { PrefixGiven text.now table.now longest.now n p.now }
-    ensures { PieceSought text.now table.now n p.now result }
+fn find_prefix(words: &RelationWords, longest: &[u8], p: &[u8]) -> Option<Mark>
+    requires { PrefixGiven words.now.text.now words.now.table.now longest.now words.now.n p.now }
+    ensures { on words.now PieceSought p.now result }
 {
     let mut wide = [0u16; Word::MARK];
     widen_word(p, &mut wide);
-    occurrence::find_piece(text, table, n, longest, &wide[..p.len()])
+    occurrence::find_piece(
+        words.text,
+        words.table,
+        words.n,
+        longest,
+        &wide[..p.len()],
+    )
 }
 
 // The removal of a prefix from a word, both of which are fine: 18, or the least word behind the piece.
 fn remove_piece(
-    text: &[u16],
-    table: &[u16],
+    words: &RelationWords,
     longest: &[u8],
-    n: usize,
     u: &[u8],
     p: &[u8],
     buffer: &mut [u8],
     offset: usize,
-) -> WrittenWord
-    requires { Marked text.now table.now longest.now n u.now p.now }
-    ensures { WordOutcome.after (of_written_word result) buffer.new ≡ removed_at (words_in text.now table.now n) (family_by table.now n) u.now p.now buffer.old offset }
+) -> Result<usize, Refusal>
+    requires { Marked words.now.text.now words.now.table.now longest.now words.now.n u.now p.now }
+    ensures { WordOutcome.after (of_written_word result) buffer.new ≡ removed_at (words_of words.now) (family_of words.now) u.now p.now buffer.old offset }
 {
-    let place = find_prefix(text, table, longest, n, p);
-    let Place::At(piece) = place else {
-        return WrittenWord::Refused(Refusal::NotPiece);
+    let place = find_prefix(words, longest, p);
+    let Some(piece) = place else {
+        return Err(Refusal::NotPiece);
     };
-    place_word(text, table, n, u, piece, buffer, offset)
+    place_word(words, u, piece, buffer, offset)
 }
 
 // The removal of a given prefix from a given word, which are checked first, under a loaded book of so many letters with the table of its longest pieces.
+#[tactic(auto, using(crate::proofs::Laws::given_removals))]
 fn loaded_removal(
-    text: &[u16],
-    table: &[u16],
+    words: &RelationWords,
     longest: &[u8],
-    n: usize,
     letters: u8,
     u: &[u8],
     p: &[u8],
     buffer: &mut [u8],
     offset: usize,
-) -> WrittenWord
-    requires { Removable text.now table.now longest.now n letters }
-    ensures { WordOutcome.after (of_written_word result) buffer.new ≡ loaded_removal letters (words_in text.now table.now n) (family_by table.now n) u.now p.now buffer.old offset }
+) -> Result<usize, Refusal>
+    requires { Removable words.now.text.now words.now.table.now longest.now words.now.n letters }
+    ensures { WordOutcome.after (of_written_word result) buffer.new ≡ loaded_removal letters (words_of words.now) (family_of words.now) u.now p.now buffer.old offset }
 {
-    let given = given::check_marked(letters, u, p);
-    match given {
-        Given::Refused(refusal) => WrittenWord::Refused(refusal),
-        Given::Fine => remove_piece(text, table, longest, n, u, p, buffer, offset),
-    }
+    given::check_marked(letters, u, p)?;
+    remove_piece(words, longest, u, p, buffer, offset)
 }
 
 // Writes the least word w of which p w is congruent to u, for a piece p of the book, into the part of a lent buffer from an offset on.
@@ -83,25 +80,17 @@ pub fn remove_prefix(
     p: &[u8],
     buffer: &mut [u8],
     offset: usize,
-) -> WrittenWord
+) -> Result<usize, Refusal>
     ensures { RemovalAnswered book.now u.now p.now buffer.old offset (WordOutcome.after (of_written_word result) buffer.new) }
 {
     let mut text = [0u16; Text::ROOM];
     let mut table = [0u16; Table::ROOM];
     let mut longest = [0u8; Text::ROOM];
-    let loaded = load_pieces(book, &mut text, &mut table, &mut longest);
-    match loaded {
-        Reading::Read(letters, _) => loaded_removal(
-            &text,
-            &table,
-            &longest,
-            layout::count_of(&table),
-            letters,
-            u,
-            p,
-            buffer,
-            offset,
-        ),
-        Reading::Refused(refusal) => WrittenWord::Refused(refusal),
-    }
+    let size = load_pieces(book, &mut text, &mut table, &mut longest)?;
+    let words = RelationWords {
+        text: &text,
+        table: &table,
+        n: layout::count_of(&table),
+    };
+    loaded_removal(&words, &longest, size.letters, u, p, buffer, offset)
 }

@@ -1,12 +1,10 @@
 -- What the making of a new book's bytes asks and promises.
-use Rattle.std.specs.Prelude.{ℕ, ◌+◌, ◌≤◌, List, ◌++◌, ◌≡◌, length, take, drop}
+use Rattle.std.specs.Prelude.{ℕ, ◌+◌, ◌≤◌, List, ◌++◌, ◌≡◌, length, take, drop, Result, Ok, Err}
 use Rattle.limits.specs.Limits.{book_most, held_room}
 use Rattle.refusals.specs.declared.Refusal.{Refusal}
 use Rattle.format.specs.Book.{Presentation, read, refused, relation_start}
 use Rattle.format.specs.Bytes.{book_bytes}
 use Rattle.records.specs.Reads.{Starts}
-use Rattle.held.specs.declared.Made.{Made}
-use Rattle.held.specs.declared.Made.TheVariants as Mades
 use Rattle.held.specs.Held.{book_in}
 use Rattle.held.specs.Changes.{Change, changed_in}
 
@@ -20,9 +18,9 @@ pub record NewBook (change : Change) (held : List ℕ) (n : ℕ) (fresh : List �
   pub room : held_room ≤ length held
 
 -- the new book is made, or the change's refusal is given; the array keeps its length
-pub record NewMade (change : Change) (held fresh : List ℕ) (r : Made) (fresh' : List ℕ) : Type 0 where
-  pub book : (n : ℕ) → r ≡ Mades.Book n → NewBook change held n fresh'
-  pub refuses : (x : Refusal) → r ≡ Mades.Refused x → changed_in change held ≡ refused x
+pub record NewMade (change : Change) (held fresh : List ℕ) (r : Result ℕ Refusal) (fresh' : List ℕ) : Type 0 where
+  pub book : (n : ℕ) → r ≡ Ok n → NewBook change held n fresh'
+  pub refuses : (x : Refusal) → r ≡ Err x → changed_in change held ≡ refused x
   pub long : length fresh' ≡ length fresh
 
 -- a book and what is to stand behind it have room in an array

@@ -9,16 +9,17 @@ ghost use Rattle.held.specs.Changes.{addition, withdrawal};
 ghost use Rattle.held.specs.Asked.{change_asked};
 ghost use Rattle.renewing.specs.Making.{NewMade, Appendable, BookAppended, PartRemovable, PartLeftOut, Removable, RecordLeftOut};
 
-use format::{Reading, RelationReading};
-use held::{Asked, Made};
+use format::RelationFields;
+use held::Asked;
 use holding::{book_of, take_up};
-use limits::{Record, Relation};
+use limits::Relation;
 use records::{record_at, relation_start};
 use refusals::Refusal;
 use relations::fields_at;
 use writing::put_bytes;
 
 // Writes the book that is held, and a record behind it, into an array, and answers how many bytes they are.
+#[tactic(auto, using(crate::proofs::Laws::appends))]
 fn append_record(held: &[u8], bytes: &[u8], fresh: &mut [u8]) -> usize
     requires { Appendable held.now bytes.now fresh.old }
     ensures { BookAppended held.now bytes.now fresh.old result fresh.new }
@@ -30,6 +31,7 @@ fn append_record(held: &[u8], bytes: &[u8], fresh: &mut [u8]) -> usize
 }
 
 // Writes a book without the bytes from one position to another into an array, and answers how many bytes that is.
+#[tactic(auto, using(crate::proofs::Laws::parts))]
 fn put_without(book: &[u8], from: usize, to: usize, fresh: &mut [u8]) -> usize
     requires { PartRemovable book.now from to fresh.old }
     ensures { PartLeftOut book.now from to fresh.old result fresh.new }
@@ -52,29 +54,40 @@ fn leave_out(held: &[u8], i: usize, fresh: &mut [u8]) -> usize
 
 // The relation that is given apart from its book, as one record and nothing behind it, so many standing before it: refusals 1, 2, 6, 3 for bytes behind it, reported
 // at `place`, then those of its fields.
-fn addition_at(bytes: &[u8], place: usize, letters: u8, count: usize) -> RelationReading
+#[tactic(auto, using(crate::proofs::Additions::additions))]
+fn addition_at(
+    bytes: &[u8],
+    place: usize,
+    letters: u8,
+    count: usize,
+) -> Result<RelationFields, Refusal>
     ensures { result ≡ addition_at letters count place bytes.now }
 {
-    let record = record_at(bytes, 0);
-    let Record::Whole(kind, from, to) = record else {
-        return RelationReading::Refused(Refusal::Short(place));
+    let Some(record) = record_at(bytes, 0) else {
+        return Err(Refusal::Short(place));
     };
-    match kind {
+    // Kept: a kind is any number of two bytes, which the definition `relation_kind` names; an enum would say no more of the others than `_` does.
+    match record.kind {
         Relation::KIND => {
             if Relation::MOST <= count {
-                return RelationReading::Refused(Refusal::TooMany(place));
+                return Err(Refusal::TooMany(place));
             }
-            if to < bytes.len() {
-                return RelationReading::Refused(Refusal::Length(place));
+            if record.to < bytes.len() {
+                return Err(Refusal::Length(place));
             }
-            fields_at(bytes, from, to, place, letters)
+            fields_at(bytes, record.from, record.to, place, letters)
         }
-        _ => RelationReading::Refused(Refusal::Kind(place)),
+        _ => Err(Refusal::Kind(place)),
     }
 }
 
 // What a record says as the next relation of the book that is held, which has so many letters and relations: its refusals have the book's length as their place.
-fn check_record(held: &[u8], bytes: &[u8], letters: u8, count: usize) -> RelationReading
+fn check_record(
+    held: &[u8],
+    bytes: &[u8],
+    letters: u8,
+    count: usize,
+) -> Result<RelationFields, Refusal>
     ensures { result ≡ addition_at letters count (length (book_in held.now)) bytes.now }
 {
     let book = book_of(held);
@@ -82,42 +95,34 @@ fn check_record(held: &[u8], bytes: &[u8], letters: u8, count: usize) -> Relatio
 }
 
 // The new book of an addition.
-fn make_addition(held: &[u8], bytes: &[u8], fresh: &mut [u8]) -> Made
+fn make_addition(held: &[u8], bytes: &[u8], fresh: &mut [u8]) -> Result<usize, Refusal>
     requires { length fresh.old ≡ book_most }
     ensures { NewMade (addition bytes.now) held.now fresh.old result fresh.new }
 {
-    let taken = take_up(held);
-    match taken {
-        Reading::Refused(refusal) => Made::Refused(refusal),
-        Reading::Read(letters, count) => {
-            let relation = check_record(held, bytes, letters, count);
-            match relation {
-                RelationReading::Refused(refusal) => Made::Refused(refusal),
-                RelationReading::Read(_, _, _) => Made::Book(append_record(held, bytes, fresh)),
-            }
-        }
-    }
+    let size = take_up(held)?;
+    check_record(held, bytes, size.letters, size.relations)?;
+    Ok(append_record(held, bytes, fresh))
 }
 
 // The new book of a withdrawal.
-fn make_withdrawal(held: &[u8], i: usize, fresh: &mut [u8]) -> Made
+fn make_withdrawal(held: &[u8], i: usize, fresh: &mut [u8]) -> Result<usize, Refusal>
     requires { length fresh.old ≡ book_most }
     ensures { NewMade (withdrawal i) held.now fresh.old result fresh.new }
 {
-    let taken = take_up(held);
-    match taken {
-        Reading::Refused(refusal) => Made::Refused(refusal),
-        Reading::Read(_, count) => {
-            if count <= i {
-                return Made::Refused(Refusal::NoSuchRelation);
-            }
-            Made::Book(leave_out(held, i, fresh))
-        }
+    let size = take_up(held)?;
+    if size.relations <= i {
+        return Err(Refusal::NoSuchRelation);
     }
+    Ok(leave_out(held, i, fresh))
 }
 
 // The new book of the change that is asked for.
-pub fn make_change(asked: Asked, held: &[u8], bytes: &[u8], fresh: &mut [u8]) -> Made
+pub fn make_change(
+    asked: Asked,
+    held: &[u8],
+    bytes: &[u8],
+    fresh: &mut [u8],
+) -> Result<usize, Refusal>
     requires { length fresh.old ≡ book_most }
     ensures { NewMade (change_asked asked bytes.now) held.now fresh.old result fresh.new }
 {

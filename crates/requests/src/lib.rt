@@ -22,20 +22,22 @@ fn long_field_at(input: &[u8], at: usize) -> u32
 }
 
 // Where the book ends: at the first record of kind 3, its payload there or not, else with the input.
+#[tactic(auto, using(output::proofs::Reading::endings))]
 pub fn book_end(input: &[u8]) -> usize
     ensures { result ≡ book_end input.now }
 {
     let mut at = 0;
+    // Kept: each record tells where the next one begins, so that the loop steps by what it reads; no iterator is plainer.
     while Record::PREFIX <= input.len() - at {
         let kind = field_at(input, at + 2);
+        // Kept: a kind is any number of two bytes, which the definition `comparison_kind` names; an enum would say no more of the others than `_` does.
         match kind {
             ComparisonRecord::KIND => return at,
             _ => {
-                let record = record_at(input, at);
-                let Record::Whole(_, _, to) = record else {
+                let Some(record) = record_at(input, at) else {
                     return input.len();
                 };
-                at = to;
+                at = record.to;
             }
         }
     }
@@ -43,33 +45,39 @@ pub fn book_end(input: &[u8]) -> usize
 }
 
 // The fields of a comparison, from one position to another: refusal 3, reported at `place`.
-fn fields_at(input: &[u8], from: usize, to: usize, place: usize) -> Request
+#[tactic(auto, using(output::proofs::Reading::fieldsets))]
+fn fields_at(input: &[u8], from: usize, to: usize, place: usize) -> Result<Request, Refusal>
     requires { Payload input.now from to }
     ensures { result ≡ fields_of input.now place from to }
 {
     if to - from < ComparisonRecord::FIXED_PAYLOAD {
-        return Request::Refused(Refusal::Length(place));
+        return Err(Refusal::Length(place));
     }
     let m = field_at(input, from + 4);
     let n = field_at(input, from + 6);
     if to - from != ComparisonRecord::FIXED_PAYLOAD + m + n {
-        return Request::Refused(Refusal::Length(place));
+        return Err(Refusal::Length(place));
     }
-    let allowance = long_field_at(input, from);
     let first = from + ComparisonRecord::FIXED_PAYLOAD;
-    Request::Compare(allowance, first, first + m, to)
+    Ok(Request {
+        allowance: long_field_at(input, from),
+        first,
+        second: first + m,
+        end: to,
+    })
 }
 
 // What the record at a position of the kind 3 part asks for: refusals 1, 2, then those of its fields.
-pub fn request_at(input: &[u8], at: usize) -> Request
+#[tactic(auto, using(output::proofs::Reading::requests))]
+pub fn request_at(input: &[u8], at: usize) -> Result<Request, Refusal>
     ensures { result ≡ request_at input.now at }
 {
-    let record = record_at(input, at);
-    let Record::Whole(kind, from, to) = record else {
-        return Request::Refused(Refusal::Short(at));
+    let Some(record) = record_at(input, at) else {
+        return Err(Refusal::Short(at));
     };
-    match kind {
-        ComparisonRecord::KIND => fields_at(input, from, to, at),
-        _ => Request::Refused(Refusal::Kind(at)),
+    // Kept: a kind is a number, as in `book_end`.
+    match record.kind {
+        ComparisonRecord::KIND => fields_at(input, record.from, record.to, at),
+        _ => Err(Refusal::Kind(at)),
     }
 }

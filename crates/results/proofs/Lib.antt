@@ -1,3 +1,2 @@
--- A law for each case of an answer, and for each C function that passes one on.
-pub mod Laws
+-- A law for each C function, which passes an answer on.
 pub mod Calls

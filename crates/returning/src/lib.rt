@@ -1,16 +1,18 @@
 // The answers of the entries as the plain structs that the C functions return: the code of what crate `results` defines.
+// Kept: functions, and no `From` for the structs, which could stand in their own crate alone: `results` is among the definitions that an auditor reads, and
+// tools/definitions.py lets no code stand there.
 #![tactic(auto)]
 
 ghost use Rattle.std.specs.Prelude.{◌≡◌};
-ghost use Rattle.refusals.specs.Refusals.{number_and_place};
 ghost use Rattle.answers.specs.Answers.{of_verdict, of_round, of_comparison, of_printed, of_written_word};
 ghost use Rattle.results.specs.Numbers.{end_outcome, check_result, round_result, compare_result, program_result, least_result, held_result};
 ghost use Rattle.results.specs.Calls.{version};
+ghost use Rattle.returning.specs.Told.{told};
 
-use answers::{Printed, Round, Verdict, WrittenWord};
 use asked::Comparison;
-use refusals::{Refusal, number_and_place};
+use refusals::{Numbered, Refusal};
 use results::{CheckResult, CompareResult, HeldResult, LeastResult, ProgramResult, RoundResult};
+use rounds::{Lengths, Round};
 
 // The version of the C functions, as a number: 10,000 times the first part, 100 times the second, and the third.
 #[derive(Clone, Copy)]
@@ -23,6 +25,7 @@ impl Version {
 }
 
 // What a round or a comparison says, as a number. 0 says nothing, so that a refused result, and one filled with zeros, reads as no answer.
+// Kept: numbers, which the C header gives to its callers.
 #[derive(Clone, Copy)]
 pub struct Outcome {
     pub code: u32,
@@ -46,37 +49,28 @@ pub fn version_number() -> u32
     Version::NUMBER
 }
 
-// A refusal's number, in the width of the structs.
-fn number(refusal: Refusal) -> u32
-    ensures { result ≡ (number_and_place refusal).number }
+// The number and the place of a refusal; 0 and 0 where there is none.
+fn told(refusal: Option<Refusal>) -> Numbered
+    ensures { result ≡ told refusal }
 {
-    let numbered = number_and_place(refusal);
-    numbered.number as u32
-}
-
-// A refusal's place, in the width of the structs.
-fn place(refusal: Refusal) -> u64
-    ensures { result ≡ (number_and_place refusal).place }
-{
-    let numbered = number_and_place(refusal);
-    numbered.place as u64
+    match refusal {
+        Some(refusal) => Numbered::from(refusal),
+        None => Numbered {
+            number: 0,
+            place: 0,
+        },
+    }
 }
 
 // The numbers of a verdict.
-pub fn of_verdict(verdict: Verdict) -> CheckResult
+pub fn of_verdict(verdict: Result<usize, Refusal>) -> CheckResult
     ensures { result ≡ check_result (of_verdict verdict) }
 {
-    match verdict {
-        Verdict::Accepted(relations) => CheckResult {
-            refusal: 0,
-            place: 0,
-            rules: relations as u64,
-        },
-        Verdict::Refused(refusal) => CheckResult {
-            refusal: number(refusal),
-            place: place(refusal),
-            rules: 0,
-        },
+    let told = told(verdict.err());
+    CheckResult {
+        refusal: u32::from(told.number),
+        place: told.place as u64,
+        rules: verdict.unwrap_or(0) as u64,
     }
 }
 
@@ -91,96 +85,82 @@ fn of_end(same: bool) -> u32
 }
 
 // The numbers of a round.
-pub fn of_round(round: Round) -> RoundResult
+pub fn of_round(round: Result<Round<Lengths>, Refusal>) -> RoundResult
     ensures { result ≡ round_result (of_round round) }
 {
+    let told = told(round.err());
+    let none = RoundResult {
+        refusal: u32::from(told.number),
+        place: told.place as u64,
+        outcome: Outcome::NONE,
+        u_length: 0,
+        v_length: 0,
+        p_length: 0,
+    };
     match round {
-        Round::End(same) => RoundResult {
-            refusal: 0,
-            place: 0,
+        Ok(Round::End(same)) => RoundResult {
             outcome: of_end(same),
-            u_length: 0,
-            v_length: 0,
-            p_length: 0,
+            ..none
         },
-        Round::Next(u, v, p) => RoundResult {
-            refusal: 0,
-            place: 0,
+        Ok(Round::Next(next)) => RoundResult {
             outcome: Outcome::NEXT,
-            u_length: u as u64,
-            v_length: v as u64,
-            p_length: p as u64,
+            u_length: next.u as u64,
+            v_length: next.v as u64,
+            p_length: next.p as u64,
+            ..none
         },
-        Round::Refused(refusal) => RoundResult {
-            refusal: number(refusal),
-            place: place(refusal),
-            outcome: Outcome::NONE,
-            u_length: 0,
-            v_length: 0,
-            p_length: 0,
-        },
+        Err(_) => none,
     }
 }
 
 // The numbers of a comparison.
-pub fn of_comparison(comparison: Comparison) -> CompareResult
+pub fn of_comparison(comparison: Result<Comparison, Refusal>) -> CompareResult
     ensures { result ≡ compare_result (of_comparison comparison) }
 {
+    let told = told(comparison.err());
+    let none = CompareResult {
+        refusal: u32::from(told.number),
+        place: told.place as u64,
+        outcome: Outcome::NONE,
+        rounds: 0,
+    };
     match comparison {
-        Comparison::Same(rounds) => CompareResult {
-            refusal: 0,
-            place: 0,
+        Ok(Comparison::Same(rounds)) => CompareResult {
             outcome: Outcome::SAME,
-            rounds: rounds as u64,
+            rounds: u64::from(rounds),
+            ..none
         },
-        Comparison::Different(rounds) => CompareResult {
-            refusal: 0,
-            place: 0,
+        Ok(Comparison::Different(rounds)) => CompareResult {
             outcome: Outcome::DIFFERENT,
-            rounds: rounds as u64,
+            rounds: u64::from(rounds),
+            ..none
         },
-        Comparison::Refused(refusal) => CompareResult {
-            refusal: number(refusal),
-            place: place(refusal),
-            outcome: Outcome::NONE,
-            rounds: 0,
-        },
+        Err(_) => none,
     }
 }
 
 // The numbers of what the program gave.
-pub fn of_printed(printed: Printed) -> ProgramResult
+pub fn of_printed(printed: Result<usize, Refusal>) -> ProgramResult
     ensures { result ≡ program_result (of_printed printed) }
 {
-    match printed {
-        Printed::Wrote(length) => ProgramResult {
-            refusal: 0,
-            place: 0,
-            length: length as u64,
-        },
-        Printed::Refused(refusal) => ProgramResult {
-            refusal: number(refusal),
-            place: place(refusal),
-            length: 0,
-        },
+    let told = told(printed.err());
+    ProgramResult {
+        refusal: u32::from(told.number),
+        place: told.place as u64,
+        length: printed.unwrap_or(0) as u64,
     }
 }
 
 // The numbers of a least word.
-pub fn of_least(least: WrittenWord) -> LeastResult
+// Kept: a twin of `of_printed`, since `LeastResult` and `ProgramResult` are two structs of the C header.
+pub fn of_least(least: Result<usize, Refusal>) -> LeastResult
     ensures { result ≡ least_result (of_written_word least) }
 {
-    match least {
-        WrittenWord::Wrote(letters) => LeastResult {
-            refusal: 0,
-            place: 0,
-            length: letters as u64,
-        },
-        WrittenWord::Refused(refusal) => LeastResult {
-            refusal: number(refusal),
-            place: place(refusal),
-            length: 0,
-        },
+    let told = told(least.err());
+    LeastResult {
+        refusal: u32::from(told.number),
+        place: told.place as u64,
+        length: least.unwrap_or(0) as u64,
     }
 }
 

@@ -23,10 +23,10 @@ use Rattle.writing.specs.Writing.{Bytes, Narrowing}
 use Rattle.words.specs.Writing.{written}
 use Rattle.writing.proofs.Writing.{written_zero, written_length, written_behind, bytes_drop, bytes_take}
 use Rattle.changes.specs.declared.Change.{Change}
-use Rattle.changes.specs.declared.Plan.{Plan}
-use Rattle.changes.specs.declared.Plan.TheVariants.{End, Go}
-use Rattle.rounds.specs.declared.RoundLengths.{RoundLengths}
-use Rattle.rounds.specs.declared.RoundLengths.TheVariants as S
+use Rattle.changes.specs.declared.Changes.{Changes}
+use Rattle.changes.specs.declared.Round.{Round}
+use Rattle.changes.specs.declared.Round.TheVariants as S
+use Rattle.rounds.specs.declared.Lengths.{Lengths}
 use Rattle.plans.specs.Plans.{planned, Fit, MarkFit, PlanFit, PlansRound}
 use Rattle.plans.specs.Plans.PlanFit.{goes}
 use Rattle.plans.specs.Asked.{HeadClear}
@@ -82,8 +82,8 @@ module _ (text : List ℕ) (c : Change) (w d : List ℕ) (h : Writable text c w 
 pub ruleset writings = (writable_up, writable_inside, writable_within, writable_first, writable_fits, writable_second, change_written, rules)
 
 -- the three changes of a plan that goes on
-pub go_fit : (text : List ℕ) (B : List Word) (u v p : Word) (cu cv cp : Change) → PlanFit text B u v p (Go cu cv cp) → Fit text B u cu × Fit text B v cv × MarkFit text B p cp
-go_fit text B u v p cu cv cp (goes a b c) = (a, b, c)
+pub go_fit : (text : List ℕ) (B : List Word) (u v p : Word) (k : Changes) → PlanFit text B u v p (S.Next k) → Fit text B u k.u × Fit text B v k.v × MarkFit text B p k.mark
+go_fit text B u v p k (goes a b c) = (a, b, c)
 
 -- the mark's next word is no longer than 64
 mark_room : (m k l : ℕ) → m ≤ 64 → l ≤ 64 → k ≤ l → (0 < m → k ≡ l) → m + (l - k) ≤ 64
@@ -91,34 +91,34 @@ mark_room zero k l a b c f = omega arith
 mark_room (suc m) k l a b c f = let e = f (omega arith) in omega arith
 
 -- three changes are written
-module _ (text : List ℕ) (cu cv cp : Change) (u v p nu nv np : List ℕ) (h : AllWritable text cu cv cp u v p nu nv np) where
-  pub changes_u : Writable text cu u nu
+module _ (text : List ℕ) (k : Changes) (u v p nu nv np : List ℕ) (h : AllWritable text k u v p nu nv np) where
+  pub changes_u : Writable text k.u u nu
   changes_u = h.for_u
 
-  pub changes_v : Writable text cv v nv
+  pub changes_v : Writable text k.v v nv
   changes_v = h.for_v
 
-  pub changes_p : Writable text cp p np
+  pub changes_p : Writable text k.mark p np
   changes_p = h.for_p
 
-pub changes_written : (text : List ℕ) (cu cv cp : Change) (u v p nu nv np : List ℕ) (x : ℕ) (nu' : List ℕ) → Written text cu u nu x nu' → (y : ℕ) (nv' : List ℕ) → Written text cv v nv y nv'
-    → (z : ℕ) (np' : List ℕ) → Written text cp p np z np' → after (S.Next x y z) nu' nv' np' ≡ written_by (planned text u v p (Go cu cv cp)) nu nv np
+pub changes_written : (text : List ℕ) (k : Changes) (u v p nu nv np : List ℕ) (x : ℕ) (nu' : List ℕ) → Written text k.u u nu x nu' → (y : ℕ) (nv' : List ℕ) → Written text k.v v nv y nv'
+    → (z : ℕ) (np' : List ℕ) → Written text k.mark p np z np' → after (S.Next (record { u = x; v = y; p = z })) nu' nv' np' ≡ written_by (planned text u v p (S.Next k)) nu nv np
 unfolding planned written_by
-changes_written text cu cv cp u v p nu nv np x nu' wu y nv' wv z np' wp = rw (wu.count, wu.bytes, wv.count, wv.bytes, wp.count, wp.bytes)
+changes_written text k u v p nu nv np x nu' wu y nv' wv z np' wp = rw (wu.count, wu.bytes, wv.count, wv.bytes, wp.count, wp.bytes)
 
 pub ruleset change_writes = (changes_u, changes_v, changes_p, changes_written, rules)
 
 -- a plan is written
-pub plan_end : (text : List ℕ) (plan : Plan) (u v p nu nv np : List ℕ) (b : Bool) → plan ≡ End b → after (S.End b) nu nv np ≡ written_by (planned text u v p plan) nu nv np
+pub plan_end : (text : List ℕ) (plan : Round Changes) (u v p nu nv np : List ℕ) (b : Bool) → plan ≡ S.End b → after (S.End b) nu nv np ≡ written_by (planned text u v p plan) nu nv np
 unfolding planned written_by
 plan_end text plan u v p nu nv np b e = rw e
 
-pub plan_changes : (text : List ℕ) (plan : Plan) (u v p nu nv np : List ℕ) → Planned text plan u v p nu nv np → (cu cv cp : Change) → plan ≡ Go cu cv cp → AllWritable text cu cv cp u v p nu nv np
-plan_changes text plan u v p nu nv np h cu cv cp e = h.changes cu cv cp e
+pub plan_changes : (text : List ℕ) (plan : Round Changes) (u v p nu nv np : List ℕ) → Planned text plan u v p nu nv np → (k : Changes) → plan ≡ S.Next k → AllWritable text k u v p nu nv np
+plan_changes text plan u v p nu nv np h k e = h.changes k e
 
-pub plan_go : (text : List ℕ) (plan : Plan) (u v p nu nv np : List ℕ) (cu cv cp : Change) → plan ≡ Go cu cv cp → (r : RoundLengths) (nu' nv' np' : List ℕ)
-    → after r nu' nv' np' ≡ written_by (planned text u v p (Go cu cv cp)) nu nv np → after r nu' nv' np' ≡ written_by (planned text u v p plan) nu nv np
-plan_go text plan u v p nu nv np cu cv cp e r nu' nv' np' f = rw e f
+pub plan_go : (text : List ℕ) (plan : Round Changes) (u v p nu nv np : List ℕ) (k : Changes) → plan ≡ S.Next k → (r : Round Lengths) (nu' nv' np' : List ℕ)
+    → after r nu' nv' np' ≡ written_by (planned text u v p (S.Next k)) nu nv np → after r nu' nv' np' ≡ written_by (planned text u v p plan) nu nv np
+plan_go text plan u v p nu nv np k e r nu' nv' np' f = rw e f
 
 pub ruleset plan_writes = (plan_end, plan_changes, plan_go, rules)
 
@@ -144,7 +144,7 @@ module _ (text table : List ℕ) (n : ℕ) (u v p : Word) (a c : List ℕ) (g : 
   pub given_p : length p ≤ length (replicate {A = ℕ} 64 0)
   given_p = let l = length-replicate {A = ℕ} 64 0 in omega (arith, g.given.short_p)
 
-pub given_decided : (text table : List ℕ) (n : ℕ) (u v p nu nv np : List ℕ) (plan : Plan) → Widened u nu → Widened v nv → Widened p np
+pub given_decided : (text table : List ℕ) (n : ℕ) (u v p nu nv np : List ℕ) (plan : Round Changes) → Widened u nu → Widened v nv → Widened p np
     → PlansRound text table n (take (length u) nu) (take (length v) nv) (take (length p) np) plan → PlansRound text table n u v p plan
 given_decided text table n u v p nu nv np plan x y z q = rw (x.same, y.same, z.same) at q
 
@@ -155,20 +155,20 @@ module _ (text table : List ℕ) (n : ℕ) (u v p nu nv np : List ℕ) (h : Lent
   pub lent_given : GivenShort text table n u v p
   lent_given = h.lent.given
 
-  module _ (plan : Plan) (q : PlansRound text table n u v p plan) where
+  module _ (plan : Round Changes) (q : PlansRound text table n u v p plan) where
     pub round_planned : Planned text plan u v p nu nv np
     round_planned = record {
-      changes = λ cu cv cp e.
-          let f = go_fit text (words_in text table n) u v p cu cv cp (rw e at q.fits) in
+      changes = λ k e.
+          let f = go_fit text (words_in text table n) u v p k (rw e at q.fits) in
           let g = h.lent.given in
           record {
-            for_u = fit_writable text (words_in text table n) u nu cu h.small f.0 g.short_u h.lent.room_u;
-            for_v = fit_writable text (words_in text table n) v nv cv h.small f.1 g.short_v h.lent.room_v;
-            for_p = mark_writable text (words_in text table n) p np cp h.small f.2 g.short_p h.lent.room_p;
+            for_u = fit_writable text (words_in text table n) u nu k.u h.small f.0 g.short_u h.lent.room_u;
+            for_v = fit_writable text (words_in text table n) v nv k.v h.small f.1 g.short_v h.lent.room_v;
+            for_p = mark_writable text (words_in text table n) p np k.mark h.small f.2 g.short_p h.lent.room_p;
           };
     }
 
-    pub round_written : (r : RoundLengths) (nu' nv' np' : List ℕ) → after r nu' nv' np' ≡ written_by (planned text u v p plan) nu nv np
+    pub round_written : (r : Round Lengths) (nu' nv' np' : List ℕ) → after r nu' nv' np' ≡ written_by (planned text u v p plan) nu nv np
         → after r nu' nv' np' ≡ written_by (round (words_in text table n) (family_by table n) u v p) nu nv np
     round_written r nu' nv' np' f = rw (← q.same) f
 
@@ -207,7 +207,7 @@ module _ (text table : List ℕ) (n : ℕ) (u v p nu nv np : List ℕ) (h : Lent
           small = whole_bytes text table n laid t e;
         }
 
-    pub lent_written : (r : RoundLengths) (nu' nv' np' : List ℕ) → after r nu' nv' np' ≡ written_by (round (words_in (take t text) table n) (family_by table n) u v p) nu nv np
+    pub lent_written : (r : Round Lengths) (nu' nv' np' : List ℕ) → after r nu' nv' np' ≡ written_by (round (words_in (take t text) table n) (family_by table n) u v p) nu nv np
         → after r nu' nv' np' ≡ written_by (round (words_in text table n) (family_by table n) u v p) nu nv np
     lent_written r nu' nv' np' f = rw (whole_words text table n laid t e) at f
 

@@ -8,20 +8,20 @@ use Rattle.congruence.specs.Rows.Next.{end, go}
 use Rattle.limits.specs.Limits.{round_most, next_room, mark_most}
 use Rattle.layout.specs.Families.{Grouped}
 use Rattle.changes.specs.declared.Change.{Change}
-use Rattle.changes.specs.declared.Plan.{Plan}
-use Rattle.changes.specs.declared.Plan.TheVariants.{Go}
-use Rattle.rounds.specs.declared.RoundLengths.{RoundLengths}
-use Rattle.rounds.specs.declared.RoundLengths.TheVariants as S
+use Rattle.changes.specs.declared.Changes.{Changes}
+use Rattle.changes.specs.declared.Round.{Round}
+use Rattle.changes.specs.declared.Round.TheVariants as S
+use Rattle.rounds.specs.declared.Lengths.{Lengths}
 use Rattle.plans.specs.Plans.{applied}
 
 -- an outcome, and the buffers for u, v and p after it
 pub data Outcome : Type 0 where
-  after : RoundLengths → List ℕ → List ℕ → List ℕ → Outcome
+  after : Round Lengths → List ℕ → List ℕ → List ℕ → Outcome
 
 -- an end writes nothing; else the next u, v and p stand at the start of the buffers, and their lengths are given
 unfoldable pub written_by : Next → List ℕ → List ℕ → List ℕ → Outcome
 written_by (end b) nu nv np = after (S.End b) nu nv np
-written_by (go u v p) nu nv np = after (S.Next (length u) (length v) (length p)) (over u nu) (over v nv) (over p np)
+written_by (go u v p) nu nv np = after (S.Next (record { u = length u; v = length v; p = length p })) (over u nu) (over v nv) (over p np)
 
 -- a change can be written into a buffer
 pub record Writable (text : List ℕ) (c : Change) (w d : List ℕ) : Type 0 where
@@ -37,14 +37,14 @@ pub record Written (text : List ℕ) (c : Change) (w d : List ℕ) (r : ℕ) (d'
   pub bytes : d' ≡ over (applied text c w) d
 
 -- three changes can be written, each into its buffer
-pub record AllWritable (text : List ℕ) (cu cv cp : Change) (u v p nu nv np : List ℕ) : Type 0 where
-  pub for_u : Writable text cu u nu
-  pub for_v : Writable text cv v nv
-  pub for_p : Writable text cp p np
+pub record AllWritable (text : List ℕ) (c : Changes) (u v p nu nv np : List ℕ) : Type 0 where
+  pub for_u : Writable text c.u u nu
+  pub for_v : Writable text c.v v nv
+  pub for_p : Writable text c.mark p np
 
 -- the changes of a plan, if it has any, can be written
-pub record Planned (text : List ℕ) (plan : Plan) (u v p nu nv np : List ℕ) : Type 0 where
-  pub changes : (cu cv cp : Change) → plan ≡ Go cu cv cp → AllWritable text cu cv cp u v p nu nv np
+pub record Planned (text : List ℕ) (plan : Round Changes) (u v p nu nv np : List ℕ) : Type 0 where
+  pub changes : (c : Changes) → plan ≡ S.Next c → AllWritable text c u v p nu nv np
 
 -- what a round asks of its words: a checked presentation with families, and the limits of u, v and p
 pub record GivenShort (text table : List ℕ) (n : ℕ) (u v p : Word) : Type 0 where

@@ -1,7 +1,7 @@
 -- A law for each way that the code can go which looks for the first row that fits.
-use Prim.Native.Nat.{ℕ, suc, ◌≤◌, ◌<◌}
+use Prim.Native.Nat.{ℕ, ◌≤◌, ◌<◌}
 use mathlib.Core.Bool.{Bool, true, false, ◌&&◌, ◌||◌, not, true≢false, and-eq-true_iff}
-use mathlib.Core.List.{List, [], ◌∷◌, ◌++◌}
+use mathlib.Core.List.{List}
 use mathlib.Core.Logic.{by_cases}
 use mathlib.Core.Path.{◌≡◌, refl, sym, ap, ◌∙◌, subst}
 use native.Mathlib.Decide.{dec_lt, ℕ_discrete}
@@ -197,21 +197,6 @@ module _ (text table : List ℕ) (n : ℕ) (w : Word) (i : ℕ) (h : OneLeft tex
         left_unlike q = none_begun (λ _. sym ez ∙ q)
 
 pub ruleset lefts = (left_linked, left_alone, left_word, left_begins, left_unlike, rules)
-
--- empty words
-pub empty_left : (a b : Word) → 0 < length a → false ≡ is_empty (a ++ b)
-empty_left [] b h = absurd (omega arith)
-empty_left (x ∷ a) b h = refl
-
-empty_length : (b : Word) → eqb (length b) 0 ≡ is_empty b
-empty_length [] = refl
-empty_length (x ∷ b) = ne_eqb (suc (length b)) 0 (λ e. absurd (omega arith))
-
-pub empty_right : (a b : Word) → length a ≤ 0 → eqb (length b) 0 ≡ is_empty (a ++ b)
-empty_right [] b h = empty_length b
-empty_right (x ∷ a) b h = absurd (omega arith)
-
-pub ruleset empties = (empty_left, empty_right, rules)
 
 module _ (u v : Word) (x : Bool) (e : x ≡ is_empty u) where
   pub either_u : x ≡ true → true ≡ (is_empty u || is_empty v)

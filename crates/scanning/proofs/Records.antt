@@ -6,38 +6,13 @@ use native.Mathlib.Omega.{arith}
 use borrow.Author.Rules.{rules}
 use borrow.Author.Tests.{le-leb, lt-leb}
 use lib.ListN.{length, length-append}
+use Rattle.std.specs.Prelude.{Result, Ok, Err}
 use Rattle.limits.specs.Limits.{letters_most, relations_most}
 use Rattle.refusals.specs.declared.Refusal.{Refusal}
-use Rattle.format.specs.declared.HeadReading.{HeadReading}
-use Rattle.format.specs.declared.HeadReading.TheVariants as Heads
-use Rattle.format.specs.declared.RelationReading.{RelationReading}
-use Rattle.format.specs.declared.RelationReading.TheVariants as Relations
-use Rattle.format.specs.declared.Reading.{Reading}
-use Rattle.format.specs.declared.Reading.TheVariants as Readings
+use Rattle.format.specs.declared.HeadFields.{HeadFields}
+use Rattle.format.specs.declared.RelationFields.{RelationFields}
 use Rattle.format.specs.Book.{Presentation, adding, read, refused, head_at, relation_at, relation_in, relations_from, read_book, reading_of}
 use Rattle.format.proofs.Readings.{RelationRead, relation_read}
-use Rattle.scanning.specs.Reading.{of_head, of_relation}
-
--- the answer for a book that ends here, by what was read last
-module _ (head : HeadReading) where
-  -- a head
-  pub head_read_answer : (letters to : ℕ) → head ≡ Heads.Read letters to → Readings.Read letters 0 ≡ of_head head
-  head_read_answer letters to e = rw e
-
-  -- a head that is refused
-  pub head_refused_answer : (r : Refusal) → head ≡ Heads.Refused r → Readings.Refused r ≡ of_head head
-  head_refused_answer r e = rw e
-
-module _ (letters count : ℕ) (relation : RelationReading) where
-  -- a relation
-  pub relation_read_answer : (left right to : ℕ) → relation ≡ Relations.Read left right to → Readings.Read letters count ≡ of_relation letters count relation
-  relation_read_answer left right to e = rw e
-
-  -- a relation that is refused
-  pub relation_refused_answer : (r : Refusal) → relation ≡ Relations.Refused r → Readings.Refused r ≡ of_relation letters count relation
-  relation_refused_answer r e = rw e
-
-pub ruleset answers = (head_read_answer, head_refused_answer, relation_read_answer, relation_refused_answer, rules)
 
 -- the book up to `at` is read: the rest, with the presentation so far, gives what the whole book gives
 pub record Going (book : List ℕ) (letters at count : ℕ) : Type 0 where
@@ -50,18 +25,18 @@ pub record Going (book : List ℕ) (letters at count : ℕ) : Type 0 where
   pub same : read_book book ≡ relations_from fuel presentation book at
 
 -- the head of a book
-module _ (book : List ℕ) (head : HeadReading) (e : head ≡ head_at letters_most 0 book 0) where
+module _ (book : List ℕ) (head : Result HeadFields Refusal) (e : head ≡ head_at letters_most 0 book 0) where
   -- its refusal is the book's
-  pub head_refused : (x : Refusal) → head ≡ Heads.Refused x → (r : Reading) → r ≡ of_head head → r ≡ reading_of (read_book book)
+  pub head_refused : (x : Refusal) → head ≡ Err x → Err x ≡ reading_of (read_book book)
   unfolding read_book
-  head_refused x f r g = g ∙ rw (← e, f)
+  head_refused x f = rw (← e, f)
 
   -- behind it no relation is read yet
-  pub going_start : (letters first : ℕ) → head ≡ Heads.Read letters first → Going book letters first 0
+  pub going_start : (fields : HeadFields) → head ≡ Ok fields → Going book fields.letters fields.end 0
   unfolding read_book
-  going_start letters first f =
+  going_start fields f =
       record {
-        presentation = record { letters = letters; relations = [] };
+        presentation = record { letters = fields.letters; relations = [] };
         lettered = refl;
         counted = refl;
         few = omega arith;
@@ -78,7 +53,7 @@ from_end (suc fuel) p book at h = rw (le-leb (length book) at h)
 
 module _ (p : Presentation) (book : List ℕ) (at : ℕ) (h : at < length book) where
   -- its turn at a refusal
-  pub from_refused : (fuel : ℕ) → length book ≤ at + fuel → (r : Refusal) → relation_at p.letters (length p.relations) at book at ≡ Relations.Refused r
+  pub from_refused : (fuel : ℕ) → length book ≤ at + fuel → (r : Refusal) → relation_at p.letters (length p.relations) at book at ≡ Err r
       → relations_from fuel p book at ≡ refused r
   unfolding relations_from
   from_refused zero k r e = absurd (omega arith)
@@ -86,7 +61,7 @@ module _ (p : Presentation) (book : List ℕ) (at : ℕ) (h : at < length book) 
 
   -- its turn over one relation
   pub from_more : (fuel : ℕ) → length book ≤ at + fuel → (left right to : ℕ)
-      → relation_at p.letters (length p.relations) at book at ≡ Relations.Read left right to
+      → relation_at p.letters (length p.relations) at book at ≡ Ok (record { left = left; right = right; end = to })
       → (f : ℕ) × (fuel ≡ suc f) × (relations_from fuel p book at ≡ relations_from f (adding p (relation_in book left right to)) book to)
   unfolding relations_from
   from_more zero k left right to e = absurd (omega arith)
@@ -95,38 +70,38 @@ module _ (p : Presentation) (book : List ℕ) (at : ℕ) (h : at < length book) 
 -- the loop's ways on
 module _ (book : List ℕ) (letters at count : ℕ) (g : Going book letters at count) where
   -- the book ends
-  pub going_end : length book ≤ at → Readings.Read letters count ≡ reading_of (read_book book)
+  pub going_end : length book ≤ at → Ok (record { letters = letters; relations = count }) ≡ reading_of (read_book book)
   going_end h =
       let b : read_book book ≡ read g.presentation = g.same ∙ from_end g.fuel g.presentation book at h in
       rw (b, g.counted, g.lettered)
 
-  module _ (h : at < length book) (r : RelationReading) (e : r ≡ relation_at letters count at book at) where
+  module _ (h : at < length book) (r : Result RelationFields Refusal) (e : r ≡ relation_at letters count at book at) where
     -- the next relation is the one that the definition reads
     here : r ≡ relation_at g.presentation.letters (length g.presentation.relations) at book at
     here = rw (← g.counted, ← g.lettered) e
 
     -- its refusal is the book's
-    pub going_refused : (x : Refusal) → r ≡ Relations.Refused x → (n : ℕ) (o : Reading) → o ≡ of_relation letters n r → o ≡ reading_of (read_book book)
-    going_refused x f n o q =
+    pub going_refused : (x : Refusal) → r ≡ Err x → Err x ≡ reading_of (read_book book)
+    going_refused x f =
         let b : read_book book ≡ refused x = g.same ∙ from_refused g.presentation book at h g.fuel g.enough x (sym here ∙ f) in
-        q ∙ rw (b, f)
+        rw b
 
-    module _ (left right to : ℕ) (f : r ≡ Relations.Read left right to) where
+    module _ (fields : RelationFields) (f : r ≡ Ok fields) where
       -- what its record says
-      read_here : RelationRead letters count book at left right to
-      read_here = relation_read letters count at book at left right to (sym e ∙ f)
+      read_here : RelationRead letters count book at fields.left fields.right fields.end
+      read_here = relation_read letters count at book at fields.left fields.right fields.end (sym e ∙ f)
 
       -- fewer bytes are behind it
-      pub going_less : length book - to < length book - at
+      pub going_less : length book - fields.end < length book - at
       going_less = let q = read_here in omega (arith, q.behind, q.left_some, q.right_some, q.fits)
 
       -- it is one relation more
-      pub going_more : Going book letters to (count + 1)
+      pub going_more : Going book letters fields.end (count + 1)
       going_more =
           let q = read_here in
-          let t = from_more g.presentation book at h g.fuel g.enough left right to (sym here ∙ f) in
+          let t = from_more g.presentation book at h g.fuel g.enough fields.left fields.right fields.end (sym here ∙ f) in
           record {
-            presentation = adding g.presentation (relation_in book left right to);
+            presentation = adding g.presentation (relation_in book fields.left fields.right fields.end);
             lettered = g.lettered;
             counted = simp length-append (omega (arith, g.counted));
             few = omega (arith, q.room);

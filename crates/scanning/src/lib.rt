@@ -3,48 +3,27 @@
 
 ghost use Rattle.std.specs.Prelude.{◌≡◌};
 ghost use Rattle.format.specs.Book.{read_book, reading_of};
-ghost use Rattle.scanning.specs.Reading.{of_head, of_relation};
 
-use format::{HeadReading, Reading, RelationReading};
+use format::BookSize;
+use refusals::Refusal;
 use relations::{head_at, relation_at};
 
-// The answer for a book that ends with its head: the head's refusal, or no relations.
-pub fn of_head(head: HeadReading) -> Reading
-    ensures { result ≡ of_head head }
-{
-    match head {
-        HeadReading::Read(letters, _) => Reading::Read(letters, 0),
-        HeadReading::Refused(refusal) => Reading::Refused(refusal),
-    }
-}
-
-// The answer for a book that ends with this relation: its refusal, or so many relations with it.
-pub fn of_relation(letters: u8, count: usize, relation: RelationReading) -> Reading
-    ensures { result ≡ of_relation letters count relation }
-{
-    match relation {
-        RelationReading::Read(_, _, _) => Reading::Read(letters, count),
-        RelationReading::Refused(refusal) => Reading::Refused(refusal),
-    }
-}
-
 // Reads the records of a book in turn: the number of letters and of relations, or the first refusal.
-pub fn read_records(book: &[u8]) -> Reading
+#[tactic(auto, using(crate::proofs::Records::goings))]
+pub fn read_records(book: &[u8]) -> Result<BookSize, Refusal>
     ensures { result ≡ reading_of (read_book book.now) }
 {
-    let head = head_at(book, 0, 0);
-    let HeadReading::Read(letters, first) = head else {
-        return of_head(head);
-    };
-    let mut at = first;
+    let head = head_at(book, 0, 0)?;
+    let mut at = head.end;
     let mut count = 0;
+    // Kept: each record tells where the next one begins, so that the loop steps by what it reads; no iterator is plainer.
     while at < book.len() {
-        let relation = relation_at(book, at, at, letters, count);
-        let RelationReading::Read(_, _, to) = relation else {
-            return of_relation(letters, count + 1, relation);
-        };
-        at = to;
+        let relation = relation_at(book, at, at, head.letters, count)?;
+        at = relation.end;
         count += 1;
     }
-    Reading::Read(letters, count)
+    Ok(BookSize {
+        letters: head.letters,
+        relations: count,
+    })
 }

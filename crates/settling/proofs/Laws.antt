@@ -10,6 +10,7 @@ use lib.Dec.{ltb}
 use lib.ListN.{length, take, length-take}
 use mir.Syntax.{w64}
 use mir.Val.{Fits}
+use Rattle.std.specs.Prelude.{Result, Ok, Err}
 use Rattle.words.specs.Relations.{relation_words}
 use Rattle.words.specs.Writing.{over}
 use Rattle.limits.specs.Limits.{sheet_columns, changes_most}
@@ -18,12 +19,8 @@ use Rattle.refusals.specs.declared.Refusal.TheVariants.{Narrow, BookWorn}
 use Rattle.format.specs.Book.{Presentation, BookReading, read}
 use Rattle.loading.specs.Loading.{load_book}
 use Rattle.loading.specs.Sheet.{cut_sheet}
-use Rattle.answers.specs.declared.Verdict.{Verdict}
-use Rattle.answers.specs.declared.Verdict.TheVariants as Verdicts
 use Rattle.answers.specs.Answers.{accepted, refusal, of_verdict}
 use Rattle.answers.specs.Entries.{check_of, SheetOutcome, sheet_of}
-use Rattle.held.specs.declared.Made.{Made}
-use Rattle.held.specs.declared.Made.TheVariants as Mades
 use Rattle.held.specs.Held.{changes_told, worn, holding}
 use Rattle.held.specs.Changes.{Change, Effect, refuses, leads, settled, effect_of, lastly, ChangeOutcome, made, change_of}
 use Rattle.held.proofs.Effects.{lastly_none}
@@ -34,16 +31,16 @@ use Rattle.settling.specs.Settling.{answered, Settleable, Takeable}
 use Rattle.settling.proofs.Checks.{accepted_or_refused, accepted_loaded, refused_loaded}
 
 -- refusing a new book, by its check
-module _ (book sheet : List ℕ) (last : Refusal) (v : Verdict) (e : of_verdict v ≡ check_of book) where
+module _ (book sheet : List ℕ) (last : Refusal) where
   -- a refused book goes straight back
-  pub last_refused : (r : Refusal) → v ≡ Verdicts.Refused r → of_verdict v ≡ answered (lastly true last (settled (length sheet) book))
+  pub last_refused : (r : Refusal) → of_verdict (Err r) ≡ check_of book → of_verdict (Err r) ≡ answered (lastly true last (settled (length sheet) book))
   unfolding settled
-  last_refused r a = let (x, f, d) = refused_loaded book v e r a in rw (f, d)
+  last_refused r e = let (x, f, d) = refused_loaded book r e in rw (f, d)
 
-  module _ (n : ℕ) (a : v ≡ Verdicts.Accepted n) where
+  module _ (n : ℕ) (e : of_verdict (Ok n) ≡ check_of book) where
     -- it has at most 32 relations, so that the bytes of its sheet are a number of the machine
     relations_few : n ≤ 32
-    relations_few = let (p, f, m) = accepted_loaded book v e n a in omega (arith, (loaded_within book p f).few_relations)
+    relations_few = let (p, f, m) = accepted_loaded book n e in omega (arith, (loaded_within book p f).few_relations)
 
     pub last_sides : Fits w64 (2 * n)
     last_sides = omega (arith, relations_few)
@@ -52,17 +49,17 @@ module _ (book sheet : List ℕ) (last : Refusal) (v : Verdict) (e : of_verdict 
     last_bytes = omega (arith, relations_few)
 
     -- the sheet's buffer is too small
-    pub last_narrow : length sheet < 4 * (2 * n) → of_verdict (Verdicts.Refused (Narrow 0)) ≡ answered (lastly true last (settled (length sheet) book))
+    pub last_narrow : length sheet < 4 * (2 * n) → of_verdict (Err (Narrow 0)) ≡ answered (lastly true last (settled (length sheet) book))
     unfolding settled
     last_narrow h =
-        let (p, f, m) = accepted_loaded book v e n a in
+        let (p, f, m) = accepted_loaded book n e in
         rw (f, lt-ltb (length sheet) (4 * (2 * length p.relations)) (omega arith))
 
     -- else the refusal that comes behind
-    pub last_last : 4 * (2 * n) ≤ length sheet → of_verdict (Verdicts.Refused last) ≡ answered (lastly true last (settled (length sheet) book))
+    pub last_last : 4 * (2 * n) ≤ length sheet → of_verdict (Err last) ≡ answered (lastly true last (settled (length sheet) book))
     unfolding settled
     last_last h =
-        let (p, f, m) = accepted_loaded book v e n a in
+        let (p, f, m) = accepted_loaded book n e in
         rw (f, le-ltb (length sheet) (4 * (2 * length p.relations)) (omega arith))
 
 pub ruleset lasts = (last_refused, last_sides, last_bytes, last_narrow, last_last, rules)
@@ -87,49 +84,51 @@ settles_so book sheet = by_loading_lem (load_book book) refl
     by_loading_lem (BookReading.refused r) f = refusing r (rw f) (rw f)
 
 -- a sheet that is refused: the new book has that refusal, and the buffer is kept
-pub record SheetKept (book sheet : List ℕ) (v : Verdict) (sheet' : List ℕ) : Type 0 where
+pub record SheetKept (book sheet : List ℕ) (r : Refusal) (sheet' : List ℕ) : Type 0 where
   pub why : Refusal
   pub is : settled (length sheet) book ≡ refuses why
-  pub says : of_verdict v ≡ refusal why
+  pub says : of_verdict (Err r) ≡ refusal why
   pub same : sheet' ≡ sheet
 
 -- a sheet that is written: it is that of the new book
-pub record SheetWritten (book sheet : List ℕ) (v : Verdict) (sheet' : List ℕ) : Type 0 where
+pub record SheetWritten (book sheet : List ℕ) (n : ℕ) (sheet' : List ℕ) : Type 0 where
   pub count : ℕ
   pub cuts : List ℕ
   pub is : settled (length sheet) book ≡ leads count book cuts
-  pub says : of_verdict v ≡ accepted count
+  pub says : of_verdict (Ok n) ≡ accepted count
   pub same : sheet' ≡ over cuts sheet
 
 -- what a new book comes to, by the answer of its sheet
-module _ (book sheet : List ℕ) (v : Verdict) (sheet' : List ℕ) (e : SheetOutcome.after (of_verdict v) sheet' ≡ sheet_of book sheet) where
-  pub sheet_refused : (r : Refusal) → v ≡ Verdicts.Refused r → SheetKept book sheet v sheet'
-  sheet_refused r a = go (settles_so book sheet)
+module _ (book sheet sheet' : List ℕ) where
+  pub sheet_refused : (r : Refusal) → SheetOutcome.after (of_verdict (Err r)) sheet' ≡ sheet_of book sheet → SheetKept book sheet r sheet'
+  sheet_refused r e = go (settles_so book sheet)
     where
-      go : Settles book sheet → SheetKept book sheet v sheet'
+      go : Settles book sheet → SheetKept book sheet r sheet'
       go (refusing x f g) = record { why = x; is = g; says = cc; same = cc }
       go (leading n cuts f g) =
-          let o : of_verdict v ≡ accepted n = cc in
-          absurd (accepted_or_refused n r (sym o ∙ ap of_verdict a))
+          let o : refusal r ≡ accepted n = cc in
+          absurd (accepted_or_refused n r (sym o))
 
-  pub sheet_accepted : (n : ℕ) → v ≡ Verdicts.Accepted n → SheetWritten book sheet v sheet'
-  sheet_accepted n a = go (settles_so book sheet)
+  pub sheet_accepted : (n : ℕ) → SheetOutcome.after (of_verdict (Ok n)) sheet' ≡ sheet_of book sheet → SheetWritten book sheet n sheet'
+  sheet_accepted n e = go (settles_so book sheet)
     where
-      go : Settles book sheet → SheetWritten book sheet v sheet'
+      go : Settles book sheet → SheetWritten book sheet n sheet'
       go (refusing x f g) =
-          let o : of_verdict v ≡ refusal x = cc in
-          absurd (accepted_or_refused n x (ap of_verdict (sym a) ∙ o))
+          let o : accepted n ≡ refusal x = cc in
+          absurd (accepted_or_refused n x o)
       go (leading m cuts f g) = record { count = m; cuts = cuts; is = g; says = cc; same = cc }
 
   module _ (held : List ℕ) where
     -- a refused sheet keeps both buffers
-    pub place_refused : (r : Refusal) → v ≡ Verdicts.Refused r → ChangeOutcome.after (of_verdict v) held sheet' ≡ made held sheet (settled (length sheet) book)
-    place_refused r a = let s = sheet_refused r a in rw s.is (cc (s.says, s.same))
+    pub place_refused : (r : Refusal) → SheetOutcome.after (of_verdict (Err r)) sheet' ≡ sheet_of book sheet
+        → ChangeOutcome.after (of_verdict (Err r)) held sheet' ≡ made held sheet (settled (length sheet) book)
+    place_refused r e = let s = sheet_refused r e in rw s.is (cc (s.says, s.same))
 
     -- an accepted one has its book held, with one more change counted
-    pub place_held : (n : ℕ) → v ≡ Verdicts.Accepted n → (changes : ℕ) → changes ≡ changes_told held → (held' : List ℕ) → held' ≡ holding (changes + 1) book held
-        → ChangeOutcome.after (of_verdict v) held' sheet' ≡ made held sheet (settled (length sheet) book)
-    place_held n a changes c held' q = let s = sheet_accepted n a in rw s.is (cc (s.says, s.same, q, c))
+    pub place_held : (n : ℕ) → SheetOutcome.after (of_verdict (Ok n)) sheet' ≡ sheet_of book sheet → (changes : ℕ) → changes ≡ changes_told held
+        → (held' : List ℕ) → held' ≡ holding (changes + 1) book held
+        → ChangeOutcome.after (of_verdict (Ok n)) held' sheet' ≡ made held sheet (settled (length sheet) book)
+    place_held n e changes c held' q = let s = sheet_accepted n e in rw s.is (cc (s.says, s.same, q, c))
 
 -- one more change can be counted
 module _ (book held : List ℕ) (t : Takeable book held) (changes : ℕ) (c : changes ≡ changes_told held) where
@@ -151,7 +150,7 @@ late_made held sheet last (leads n book cuts) = refl
 -- settling a new book, by the count of changes
 module _ (book held sheet : List ℕ) (changes : ℕ) (c : changes ≡ changes_told held) where
   -- no more changes are taken
-  pub settle_worn : changes_most ≤ changes → (v : Verdict) → of_verdict v ≡ answered (lastly true BookWorn (settled (length sheet) book))
+  pub settle_worn : changes_most ≤ changes → (v : Result ℕ Refusal) → of_verdict v ≡ answered (lastly true BookWorn (settled (length sheet) book))
       → ChangeOutcome.after (of_verdict v) held sheet ≡ made held sheet (lastly (worn held) BookWorn (settled (length sheet) book))
   settle_worn h v e = rw (le-leb changes_most (changes_told held) (omega arith), e) (sym (late_made held sheet BookWorn (settled (length sheet) book)))
 
@@ -168,34 +167,34 @@ module _ (book held sheet : List ℕ) (changes : ℕ) (c : changes ≡ changes_t
 pub ruleset settles = (settle_worn, settle_takeable, settle_placed, rules)
 
 -- a change, by the new book that is made
-module _ (change : Change) (held fresh : List ℕ) (new : Made) (fresh' : List ℕ) (m : NewMade change held fresh new fresh') where
+module _ (change : Change) (held fresh fresh' : List ℕ) where
   -- what the change comes to: its refusal
-  pub effect_refused : (r : Refusal) → new ≡ Mades.Refused r → (room : ℕ) → effect_of change held room ≡ refuses r
+  pub effect_refused : (r : Refusal) → NewMade change held fresh (Err r) fresh' → (room : ℕ) → effect_of change held room ≡ refuses r
   unfolding effect_of
-  effect_refused r e room = rw (m.refuses r e)
+  effect_refused r m room = rw (m.refuses r refl)
 
   -- a change that is refused keeps both buffers
-  pub change_refused : (sheet : List ℕ) (r : Refusal) → new ≡ Mades.Refused r
-      → ChangeOutcome.after (of_verdict (Verdicts.Refused r)) held sheet ≡ change_of change held sheet
+  pub change_refused : (sheet : List ℕ) (r : Refusal) → NewMade change held fresh (Err r) fresh'
+      → ChangeOutcome.after (of_verdict (Err r)) held sheet ≡ change_of change held sheet
   unfolding change_of
-  change_refused sheet r e = rw (effect_refused r e (length sheet))
+  change_refused sheet r m = rw (effect_refused r m (length sheet))
 
-  module _ (n : ℕ) (e : new ≡ Mades.Book n) where
+  module _ (n : ℕ) (m : NewMade change held fresh (Ok n) fresh') where
     -- the new book lies in the array, with so many bytes
     pub book_inside : n ≤ length fresh'
-    book_inside = (m.book n e).inside
+    book_inside = (m.book n refl).inside
 
     pub book_long : n ≡ length (take n fresh')
-    book_long = omega (arith, length-take n fresh', (m.book n e).inside)
+    book_long = omega (arith, length-take n fresh', (m.book n refl).inside)
 
     -- what the change comes to: what the new book does
     pub effect_settled : (room : ℕ) → effect_of change held room ≡ settled room (take n fresh')
     unfolding effect_of
-    effect_settled room = let b = m.book n e in rw (b.is, b.bytes)
+    effect_settled room = let b = m.book n refl in rw (b.is, b.bytes)
 
     -- it can be settled
     pub change_settleable : Settleable (take n fresh') held
-    change_settleable = let b = m.book n e in record { few = omega (arith, length-take n fresh', b.few); room = b.room }
+    change_settleable = let b = m.book n refl in record { few = omega (arith, length-take n fresh', b.few); room = b.room }
 
     -- and its settling is the change
     pub change_settled : (sheet : List ℕ) (x : ChangeOutcome) → x ≡ made held sheet (lastly (worn held) BookWorn (settled (length sheet) (take n fresh')))

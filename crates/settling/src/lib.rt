@@ -10,44 +10,39 @@ ghost use Rattle.held.specs.Changes.{settled, lastly, ChangeOutcome, made, chang
 ghost use Rattle.held.specs.Asked.{change_asked};
 ghost use Rattle.settling.specs.Settling.{answered, Settleable, Takeable};
 
-use answers::Verdict;
 use entries::{check_book, cut_sheet};
-use held::{Asked, Made};
+use held::Asked;
 use holding::{changes_of, hold};
 use limits::{Held, Sheet};
 use refusals::Refusal;
 use renewing::make_change;
 
 // The refusal of a new book or of its sheet's room; else another refusal, which comes behind them. Nothing is written.
-pub fn refuse_last(book: &[u8], sheet: &[u8], last: Refusal) -> Verdict
+#[tactic(auto, using(crate::proofs::Laws::lasts))]
+pub fn refuse_last(book: &[u8], sheet: &[u8], last: Refusal) -> Result<usize, Refusal>
     ensures { of_verdict result ≡ answered (lastly true last (settled (length sheet.now) book.now)) }
 {
-    let checked = check_book(book);
-    let Verdict::Accepted(relations) = checked else {
-        return checked;
-    };
+    let relations = check_book(book)?;
     if sheet.len() < Sheet::COLUMNS * (2 * relations) {
-        return Verdict::Refused(Refusal::Narrow(0));
+        return Err(Refusal::Narrow(0));
     }
-    Verdict::Refused(last)
+    Err(last)
 }
 
 // Writes the sheet of a new book, worked out afresh, and, where that is not refused, holds the book in place of the old one.
-fn take_place(book: &[u8], held: &mut [u8], sheet: &mut [u8]) -> Verdict
+#[tactic(auto, using(crate::proofs::Laws::places))]
+fn take_place(book: &[u8], held: &mut [u8], sheet: &mut [u8]) -> Result<usize, Refusal>
     requires { Takeable book.now held.old }
     ensures { ChangeOutcome.after (of_verdict result) held.new sheet.new ≡ made held.old sheet.old (settled (length sheet.old) book.now) }
 {
-    let verdict = cut_sheet(book, sheet);
-    let Verdict::Accepted(_) = verdict else {
-        return verdict;
-    };
+    let relations = cut_sheet(book, sheet)?;
     let changes = changes_of(held);
     hold(book, changes + 1, held);
-    verdict
+    Ok(relations)
 }
 
 // The same, unless no more changes are taken.
-fn settle(book: &[u8], held: &mut [u8], sheet: &mut [u8]) -> Verdict
+fn settle(book: &[u8], held: &mut [u8], sheet: &mut [u8]) -> Result<usize, Refusal>
     requires { Settleable book.now held.old }
     ensures { ChangeOutcome.after (of_verdict result) held.new sheet.new ≡ made held.old sheet.old (lastly (worn held.old) BookWorn (settled (length sheet.old) book.now)) }
 {
@@ -59,13 +54,16 @@ fn settle(book: &[u8], held: &mut [u8], sheet: &mut [u8]) -> Verdict
 }
 
 // Makes the change that is asked for.
-pub fn change_held(asked: Asked, held: &mut [u8], bytes: &[u8], sheet: &mut [u8]) -> Verdict
+#[tactic(auto, using(crate::proofs::Laws::changes))]
+pub fn change_held(
+    asked: Asked,
+    held: &mut [u8],
+    bytes: &[u8],
+    sheet: &mut [u8],
+) -> Result<usize, Refusal>
     ensures { ChangeOutcome.after (of_verdict result) held.new sheet.new ≡ change_of (change_asked asked bytes.now) held.old sheet.old }
 {
     let mut fresh = [0u8; Held::BOOK];
-    let made = make_change(asked, held, bytes, &mut fresh);
-    match made {
-        Made::Refused(refusal) => Verdict::Refused(refusal),
-        Made::Book(n) => settle(&fresh[..n], held, sheet),
-    }
+    let n = make_change(asked, held, bytes, &mut fresh)?;
+    settle(&fresh[..n], held, sheet)
 }

@@ -3,6 +3,8 @@ use Prim.Native.Nat.{ℕ, ◌+◌, ◌≤◌, ◌<◌}
 use mathlib.Core.Bool.{Bool, true, false}
 use mathlib.Core.List.{List}
 use mathlib.Core.Path.{◌≡◌, sym, ap, ◌∙◌, subst}
+use mathlib.Core.HLevel.{⊥_prop}
+use mathlib.Core.Logic.{∥∥₁_elim}
 use native.Mathlib.Omega.{arith}
 use borrow.Author.Rules.{rules}
 use borrow.Author.Tests.{eqb-true, ltb-false, le-leb, lt-leb}
@@ -19,22 +21,21 @@ use Rattle.overlap.proofs.Facts.{length_xy, rigid_of_c4}
 use Rattle.congruence.specs.Rows.{has_relation_prefix_at}
 use Rattle.congruence.proofs.RowTests.{test_of_stands}
 use Rattle.congruence.proofs.Drops.{BeginsNone}
-use Rattle.numbers.specs.Widths.{Widened}
 use Rattle.layout.specs.Places.{letters_bound, table_room, first_cell}
 use Rattle.layout.specs.Layout.{start_of, end_of, first_of, words_in, Checked}
 use Rattle.layout.proofs.Placed.{words_length, word_part}
 use Rattle.joined.specs.Joined.{has_place}
 use Rattle.sites.specs.FirstLetters.{empty_list}
 
-module _ (table : List ℕ) (letter c : ℕ) (w : Widened 65536 letter c) where
+module _ (table : List ℕ) (letter c : ℕ) (w : c ≡ letter) where
   pub list_high : letters_bound ≤ c → true ≡ empty_list table letter
   unfolding empty_list
-  list_high h = rw (← w.same, le-leb letters_bound c h)
+  list_high h = rw (← w, le-leb letters_bound c h)
 
   module _ (h : c < letters_bound) where
     pub list_low : (from to : ℕ) → from ≡ first_of table c → to ≡ first_of table (c + 1) → eqb from to ≡ empty_list table letter
     unfolding empty_list
-    list_low from to e f = rw (e, f, ← w.same, lt-leb letters_bound c h)
+    list_low from to e f = rw (e, f, ← w, lt-leb letters_bound c h)
 
     pub list_room : length table ≡ table_room → first_cell c < length table
     list_room e = omega arith
@@ -59,13 +60,14 @@ module _ (text table : List ℕ) (n : ℕ) (k : Checked text table n) where
       let g : get_or text (start_of table i) 0 ≡ c = sym (first_letter i h) ∙ q in
       let s = k.laid.some i h in
       let low = k.laid.letters i (start_of table i) h (omega arith) s in
-      let f = k.indexed.found i h in
+      ∥∥₁_elim (k.indexed.found i h) ⊥_prop
+      (λ f.
       let x = f.1 in
       let y = f.2 in
       let z : first_of table c ≡ first_of table (c + 1) = eqb-true (first_of table c) (first_of table (c + 1)) (rw (lt-leb letters_bound c (omega (arith, low, g))) at e) in
       let a : first_of table c ≤ f.0 = subst (λ (m : ℕ). first_of table m ≤ f.0) g x in
       let d : f.0 < first_of table (c + 1) = subst (λ (m : ℕ). f.0 < first_of table (m + 1)) g y in
-      omega (arith, a, d, z)
+      omega (arith, a, d, z))
 
 -- so no X and Y stand where such a letter stands, and none behind the end of a word
 module _ (text table : List ℕ) (n : ℕ) (k : Checked text table n) (w : Word) (q : ℕ) where

@@ -4,259 +4,157 @@
 // look.
 #![tactic(auto)]
 
-ghost use Rattle.std.specs.Prelude.{◌≤◌, length};
-ghost use Rattle.lending.specs.Rooms.{Roomy};
-
-use answers::Verdict;
-use lending::{keep_ticket, lend_change, lend_load, lend_proposal};
+use fields::{Fields, behind, front, is_kept};
+use lending::{Change, Operation, Proposal, Tickets, lend_change, lend_load, lend_proposal};
 use limits::{Held, Relation, Sheet, Ticket};
-use numbers::smaller;
 use refusals::Refusal;
 use std::io;
 use std::io::Write;
 
 // Loads the book of a line, and does what its fields behind that ask for.
 pub fn answer_held<W: Write>(out: &mut W, line: &[u8], book: &[u8]) -> io::Result<()> {
-    let mut held = fields::lent_room();
+    let mut held = rooms::room::<{ fields::ROOM }>(fields::FILL);
     let loaded = lend_load(book, &mut held);
     match loaded {
-        Verdict::Refused(refusal) => {
-            print_loaded(out, &held, 0)?;
+        Err(refusal) => {
+            print_touched(out, is_kept(&held))?;
             print_refused(out, refusal)?;
         }
-        Verdict::Accepted(relations) => {
-            print_loaded(out, &held, Held::PREFIX + smaller(book.len(), Held::BOOK))?;
+        Ok(relations) => {
+            print_touched(out, is_kept(behind(&held, held_length(book))))?;
             print_number(out, b"accepted:", relations)?;
-            let mut tickets = fields::large_room();
-            answer_fields(
-                out,
-                line,
-                fields::field_end(line, 1),
-                &mut held,
-                &mut tickets,
-            )?;
+            answer_operations(out, line, &mut held)?;
         }
     }
     out.write_all(b"\n")
 }
 
-// Does what the fields of a line from a position on ask for. `given` is where the tickets that were given so far end in their buffer.
-fn answer_fields<W: Write>(
+// Answers the operations of a line, which are its fields behind the book.
+fn answer_operations<W: Write>(
     out: &mut W,
     line: &[u8],
-    from: usize,
-    held: &mut [u8],
-    tickets: &mut [u8],
-) -> io::Result<()>
-    requires { Roomy held.old × (from ≤ length line.now) }
-{
-    let mut at = from;
-    let mut given = 0;
-    while at < line.len() {
-        let end = fields::find(line, at + 1, b' ');
+    held: &mut [u8; fields::ROOM],
+) -> io::Result<()> {
+    let mut tickets = Tickets::new();
+    for text in line.split(|&byte| byte == b' ').skip(2) {
         out.write_all(b" ")?;
-        given = answer_field(out, &line[at + 1..end], held, tickets, given)?;
-        at = end;
+        answer_operation(out, Fields::new(text, b':'), held, &mut tickets)?;
     }
     Ok(())
 }
 
-// Does what a field asks for, whose parts have a colon between them, and answers where the tickets end then.
-fn answer_field<W: Write>(
-    out: &mut W,
-    field: &[u8],
-    held: &mut [u8],
-    tickets: &mut [u8],
-    given: usize,
-) -> io::Result<usize>
-    requires { Roomy held.old }
-{
-    let mut text = fields::large_room();
-    let n = fields::put_spaced(field, &mut text);
-    answer_text(out, &text[..n], held, tickets, given)
-}
-
-// Does what a text asks for by the word that it begins with.
-fn answer_text<W: Write>(
-    out: &mut W,
-    text: &[u8],
-    held: &mut [u8],
-    tickets: &mut [u8],
-    given: usize,
-) -> io::Result<usize>
-    requires { Roomy held.old }
-{
-    let end = fields::find(text, 0, b' ');
-    answer_operation(out, &text[..end], text, held, tickets, given)
-}
-
-// A proposal may give one more ticket; a change gives none.
+// Answers an operation by the word that it begins with.
 fn answer_operation<W: Write>(
     out: &mut W,
-    word: &[u8],
-    text: &[u8],
-    held: &mut [u8],
-    tickets: &mut [u8],
-    given: usize,
-) -> io::Result<usize>
-    requires { Roomy held.old }
-{
-    if is_proposal(word) {
-        return answer_proposal(out, word, text, held, tickets, given);
+    operation: Fields<'_>,
+    held: &mut [u8; fields::ROOM],
+    tickets: &mut Tickets,
+) -> io::Result<()> {
+    match Operation::from(operation.field(0)) {
+        Operation::Change(change) => answer_change(out, change, operation, held, tickets),
+        Operation::Proposal(proposal) => answer_proposal(out, proposal, operation, held, tickets),
     }
-    answer_change(out, word, text, held, tickets)?;
-    Ok(given)
 }
 
-// The word names a proposal.
-fn is_proposal(word: &[u8]) -> bool {
-    if fields::is_word(word, b"plan-add") {
-        return true;
-    }
-    fields::is_word(word, b"plan-drop")
-}
-
-// Makes the change that a text asks for, and prints its answer.
+// Makes a change, and prints its answer.
 fn answer_change<W: Write>(
     out: &mut W,
-    word: &[u8],
-    text: &[u8],
-    held: &mut [u8],
-    tickets: &[u8],
-) -> io::Result<()>
-    requires { Roomy held.old }
-{
-    let mut before = fields::field_room();
-    fields::copy(held, &mut before);
-    let mut sheet = fields::lent_room();
-    let n = fields::lent_field(text, 2, &sheet);
-    let verdict = lend_change(word, text, held, tickets, &mut sheet, n);
+    change: Change,
+    operation: Fields<'_>,
+    held: &mut [u8; fields::ROOM],
+    tickets: &Tickets,
+) -> io::Result<()> {
+    let before = *held;
+    let mut sheet = rooms::room::<{ fields::ROOM }>(fields::FILL);
+    let n = operation.lent(2, &sheet);
+    let verdict = lend_change(change, operation, held, tickets, &mut sheet[..n]);
     print_change(out, verdict, &before, held, &sheet)
 }
 
-// Makes the proposal that a text asks for, prints its answer, and keeps the ticket that it gives.
+// Makes a proposal, prints its answer, and keeps the ticket that it gives.
 fn answer_proposal<W: Write>(
     out: &mut W,
-    word: &[u8],
-    text: &[u8],
-    held: &[u8],
-    tickets: &mut [u8],
-    given: usize,
-) -> io::Result<usize>
-    requires { Roomy held.now }
-{
-    let mut sheet = fields::lent_room();
-    let n = fields::lent_field(text, 2, &sheet);
-    let mut ticket = fields::lent_room();
-    let verdict = lend_proposal(word, text, held, &mut sheet, n, &mut ticket);
+    proposal: Proposal,
+    operation: Fields<'_>,
+    held: &[u8; fields::ROOM],
+    tickets: &mut Tickets,
+) -> io::Result<()> {
+    let mut sheet = rooms::room::<{ fields::ROOM }>(fields::FILL);
+    let n = operation.lent(2, &sheet);
+    let mut ticket = rooms::room::<{ Ticket::ROOM }>(fields::FILL);
+    let verdict = lend_proposal(proposal, operation, held, &mut sheet[..n], &mut ticket);
     match verdict {
-        Verdict::Refused(refusal) => {
-            print_proposed(out, &sheet, 0, &ticket, 0)?;
-            print_refused(out, refusal)?;
-            Ok(given)
+        Err(refusal) => {
+            print_touched(out, is_kept(&sheet) && is_kept(&ticket))?;
+            print_refused(out, refusal)
         }
-        Verdict::Accepted(relations) => {
-            print_proposed(
+        Ok(relations) => {
+            let length = ticket_length(proposal, operation);
+            print_touched(
                 out,
-                &sheet,
-                sheet_length(relations),
-                &ticket,
-                ticket_length(word, text),
+                is_kept(behind(&sheet, sheet_length(relations)))
+                    && is_kept(behind(&ticket, length)),
             )?;
             print_accepted(out, relations, &sheet)?;
-            Ok(keep_ticket(&ticket, tickets, given))
+            tickets.keep(&ticket);
+            Ok(())
         }
     }
 }
 
 // How many bytes the ticket of a proposal has: those of its fields, and of an addition those of the record.
-fn ticket_length(word: &[u8], text: &[u8]) -> usize {
-    if fields::is_word(word, b"plan-add") {
-        let mut bytes = fields::large_room();
-        let m = fields::put_field(text, 1, &mut bytes);
-        return Ticket::PREFIX + m;
+fn ticket_length(proposal: Proposal, operation: Fields<'_>) -> usize {
+    match proposal {
+        Proposal::Addition => Ticket::PREFIX + operation.field(1).len() / 2,
+        Proposal::Withdrawal => Ticket::PREFIX,
     }
-    Ticket::PREFIX
 }
 
 // A change's answer, with what its buffers were and are.
 fn print_change<W: Write>(
     out: &mut W,
-    verdict: Verdict,
+    verdict: Result<usize, Refusal>,
     before: &[u8],
     held: &[u8],
     sheet: &[u8],
 ) -> io::Result<()> {
     match verdict {
-        Verdict::Refused(refusal) => {
-            print_kept(out, sheet, 0, before, held, 0)?;
+        Err(refusal) => {
+            print_touched(out, is_kept(sheet) && before == held)?;
             print_refused(out, refusal)
         }
-        Verdict::Accepted(relations) => {
-            let book = heldbook::book_of(held);
-            print_kept(
+        Ok(relations) => {
+            let length = held_length(heldbook::book_of(held));
+            print_touched(
                 out,
-                sheet,
-                sheet_length(relations),
-                before,
-                held,
-                Held::PREFIX + smaller(book.len(), Held::BOOK),
+                is_kept(behind(sheet, sheet_length(relations)))
+                    && behind(before, length) == behind(held, length),
             )?;
             print_accepted(out, relations, sheet)
         }
     }
 }
 
+// How many bytes a held book has with a book in it.
+fn held_length(book: &[u8]) -> usize {
+    Held::PREFIX + book.len().min(Held::BOOK)
+}
+
 // How many bytes the sheet of so many relations has.
 fn sheet_length(relations: usize) -> usize {
-    Sheet::COLUMNS * (2 * smaller(relations, Relation::MOST))
+    Sheet::COLUMNS * (2 * relations.min(Relation::MOST))
 }
 
 // Prints a number of relations and their sheet.
 fn print_accepted<W: Write>(out: &mut W, relations: usize, sheet: &[u8]) -> io::Result<()> {
     print_number(out, b"accepted:", relations)?;
     out.write_all(b":")?;
-    printing::print_bytes(out, sheet, sheet_length(relations))
+    printing::print_bytes(out, front(sheet, sheet_length(relations)))
 }
 
-// Tells that a byte was changed that must be kept: of a sheet from a position on, which is filled with aa, or of a held book's buffer from another on.
-fn print_kept<W: Write>(
-    out: &mut W,
-    sheet: &[u8],
-    from: usize,
-    before: &[u8],
-    held: &[u8],
-    behind: usize,
-) -> io::Result<()> {
-    if !fields::is_kept(sheet, from) {
-        out.write_all(b"touched:")
-    } else if !fields::is_same(before, held, behind) {
-        out.write_all(b"touched:")
-    } else {
-        Ok(())
-    }
-}
-
-// Tells that a byte was changed that must be kept: of a sheet from a position on, or of a ticket's buffer from another on, both filled with aa.
-fn print_proposed<W: Write>(
-    out: &mut W,
-    sheet: &[u8],
-    from: usize,
-    ticket: &[u8],
-    behind: usize,
-) -> io::Result<()> {
-    if !fields::is_kept(sheet, from) {
-        out.write_all(b"touched:")
-    } else if !fields::is_kept(ticket, behind) {
-        out.write_all(b"touched:")
-    } else {
-        Ok(())
-    }
-}
-
-// Tells that a byte of a held book's buffer from a position on was changed, which is filled with aa.
-fn print_loaded<W: Write>(out: &mut W, held: &[u8], from: usize) -> io::Result<()> {
-    if fields::is_kept(held, from) {
+// Tells that a byte was changed that must be kept.
+fn print_touched<W: Write>(out: &mut W, kept: bool) -> io::Result<()> {
+    if kept {
         return Ok(());
     }
     out.write_all(b"touched:")
@@ -270,7 +168,7 @@ fn print_number<W: Write>(out: &mut W, word: &[u8], n: usize) -> io::Result<()> 
 
 // Prints a refusal: its number and its place.
 fn print_refused<W: Write>(out: &mut W, refusal: Refusal) -> io::Result<()> {
-    let numbered = refusals::number_and_place(refusal);
-    print_number(out, b"refused:", numbers::wide(numbered.number))?;
+    let numbered = refusals::Numbered::from(refusal);
+    print_number(out, b"refused:", usize::from(numbered.number))?;
     print_number(out, b":", numbered.place)
 }

@@ -80,8 +80,8 @@ module _ (text table : List ℕ) (n : ℕ) (given : Word) (from to : ℕ) where
               subst (λ (m : ℕ). length (words_in text table n) ≤ clean_relation_prefix (words_in text table n) (drop m given)) {x = q} {y = k} (omega arith) (omega (arith, e, l, b)));
         }
 
-    pub seek_end : to ≤ q → FirstClean (words_in text table n) given from to q
-    seek_end h = record { low = s.low; high = s.high; none = s.none; some = λ l. absurd (omega arith) }
+    pub seek_end : to ≤ q → FirstClean (words_in text table n) given from to to
+    seek_end h = record { low = s.asked.up; high = omega arith; none = λ k f g. s.none k f (omega arith); some = λ l. absurd (omega arith) }
 
 pub ruleset seeks = (seek_start, seek_place, seek_found, seek_more, seek_end, rules)
 

@@ -4,8 +4,7 @@ use Rattle.words.specs.Words.{Word, is_prefix, common_prefix, part}
 use Rattle.congruence.specs.Rows.{clean_relation_prefix}
 use Rattle.least.specs.Possible.{possible}
 use Rattle.layout.specs.Layout.{Span, words_in, Checked}
-use Rattle.layout.specs.Families.{family_by}
-use Rattle.moves.specs.State.{Ready}
+use Rattle.layout.specs.Families.{family_by, Ready}
 use Rattle.walks.specs.declared.Leg.{Leg}
 use Rattle.walks.specs.declared.Leg.TheVariants as Legs
 

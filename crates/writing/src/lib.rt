@@ -2,57 +2,40 @@
 // letter; the entries' words and buffers have one, and are turned here.
 #![tactic(auto)]
 
-ghost use Rattle.std.specs.Prelude.{◌≡◌, ◌+◌, ◌<◌, ◌≤◌, length};
+ghost use Rattle.std.specs.Prelude.{◌≡◌, ◌+◌, ◌≤◌, length};
 ghost use Rattle.writing.specs.Writing.{Narrowing};
 ghost use Rattle.words.specs.Writing.{written};
 
 // Writes bytes.
+#[tactic(auto, using(crate::proofs::Loops::copies))]
 pub fn put_bytes(s: &[u8], out: &mut [u8], at: usize)
     requires { at + length s.now ≤ length out.old }
     ensures { out.new ≡ written at s.now out.old }
 {
-    let mut i = 0;
-    while i < s.len() {
-        out[at + i] = s[i];
-        i += 1;
-    }
+    out[at..at + s.len()].copy_from_slice(s);
 }
 
-// A byte as a letter of two bytes.
-fn wider(x: u8) -> u16
-    ensures { result ≡ x }
-{
-    x as u16
-}
+// Kept: `widen` and `narrow` are two loops of three lines. One function of both would be no plainer: a trait with an impl for each width, a ghost member for the
+// number of a letter, and a promise of `written` over the numbers of three lists, which each caller would have to turn back into `written at s.now out.old`.
 
 // Writes bytes as letters of two bytes.
+#[tactic(auto, using(crate::proofs::Loops::writings))]
 pub fn widen(s: &[u8], out: &mut [u16], at: usize)
     requires { at + length s.now ≤ length out.old }
     ensures { out.new ≡ written at s.now out.old }
 {
-    let mut i = 0;
-    while i < s.len() {
-        out[at + i] = wider(s[i]);
-        i += 1;
+    for (i, &letter) in s.iter().enumerate() {
+        out[at + i] = u16::from(letter);
     }
 }
 
-// A letter of two bytes as a byte.
-fn narrower(x: u16) -> u8
-    requires { x < 256 }
-    ensures { result ≡ x }
-{
-    x as u8
-}
-
 // Writes letters of two bytes as bytes.
+#[tactic(auto, using(crate::proofs::Loops::narrowings))]
 pub fn narrow(s: &[u16], out: &mut [u8], at: usize)
     requires { Narrowing s.now out.old at }
     ensures { out.new ≡ written at s.now out.old }
 {
-    let mut i = 0;
-    while i < s.len() {
-        out[at + i] = narrower(s[i]);
-        i += 1;
+    for (i, &letter) in s.iter().enumerate() {
+        out[at + i] = letter as u8;
     }
 }

@@ -1,8 +1,5 @@
 use Rattle.std.proofs.Common.{◌≤◌, length}
 use Rattle.cases.proofs.answer_input.Given as goal
 
-abbrev pub invariant-loop-left : goal.invariant-loop-left
-invariant-loop-left g l = l.kept ≤ length l.buffer
-
-abbrev pub decreases-loop-left : goal.decreases-loop-left
-decreases-loop-left g l = l.left
+abbrev pub invariant-loop : goal.invariant-loop
+invariant-loop g l = l.kept ≤ length l.buffer

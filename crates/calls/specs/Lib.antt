@@ -1,2 +1,0 @@
--- How many of the first bytes of a round's three buffers are lent.
-pub mod Places

@@ -1,0 +1,2 @@
+-- What is told of a refusal where there may be none.
+pub mod Told

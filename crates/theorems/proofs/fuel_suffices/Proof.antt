@@ -1,6 +1,0 @@
-use Rattle.format.proofs.Readings.{fuel_suffices}
-use Rattle.theorems.proofs.fuel_suffices.Statement.{statement}
-use Rattle.theorems.proofs.fuel_suffices.Tie as tie
-
-pub fuel_suffices_spec : {M : Type 1} → statement M
-fuel_suffices_spec = tie.close (tie.spec (λ c. fuel_suffices))

@@ -1,6 +1,0 @@
-use Rattle.worked.proofs.Changes.{examples_hold}
-use Rattle.worked.proofs.examples_hold.Statement.{statement}
-use Rattle.worked.proofs.examples_hold.Tie as tie
-
-pub examples_hold_spec : {M : Type 1} → statement M
-examples_hold_spec = tie.close (tie.spec (λ c. examples_hold))
