@@ -19,12 +19,7 @@ pub fn answer_read<W: Write>(out: &mut W, book: &[u8]) -> io::Result<()> {
     let mut table = [0u16; Table::ROOM];
     let reading = reader::read_book(book, &mut text, &mut table);
     match reading {
-        Ok(size) => printing::print_pair(
-            out,
-            b"read ",
-            usize::from(size.letters),
-            size.relations,
-        ),
+        Ok(size) => printing::print_pair(out, b"read ", usize::from(size.letters), size.relations),
         Err(refusal) => printing::print_refusal(out, refusal),
     }
 }
@@ -82,7 +77,11 @@ fn compare_words<W: Write>(
     let comparison = entries::compare(book, u, v, allowance);
     match comparison {
         Ok(Comparison::Same(rounds)) => printing::print_count(out, b"same ", rounds as u64),
-        Ok(Comparison::Different(rounds)) => printing::print_count(out, b"different ", rounds as u64),
+        Ok(Comparison::Different(rounds)) => printing::print_count(
+            out,
+            b"different ",
+            rounds as u64,
+        ),
         Err(refusal) => printing::print_refusal(out, refusal),
     }
 }
@@ -172,7 +171,12 @@ fn print_round<W: Write>(
             printing::print_end(out, same)
         }
         Ok(Round::Next(next)) => {
-            print_touches(out, behind(nu, next.u), behind(nv, next.v), behind(np, next.p))?;
+            print_touches(
+                out,
+                behind(nu, next.u),
+                behind(nv, next.v),
+                behind(np, next.p),
+            )?;
             printing::print_next(out, front(nu, next.u), front(nv, next.v), front(np, next.p))
         }
         Err(refusal) => {

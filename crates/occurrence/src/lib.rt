@@ -58,13 +58,7 @@ fn find_word(text: &[u16], longest: &[u8], p: &[u16]) -> Option<Mark>
 // Where a given word stands if it is a piece of n relation words. The empty word is one.
 // Kept: text, table and number, since `Sought` asks less than `RelationWords` holds, and docs/AUDIT.md names the function.
 #[tactic(auto, using(crate::proofs::Laws::soughts))]
-pub fn find_piece(
-    text: &[u16],
-    table: &[u16],
-    n: usize,
-    longest: &[u8],
-    p: &[u16],
-) -> Option<Mark>
+pub fn find_piece(text: &[u16], table: &[u16], n: usize, longest: &[u8], p: &[u16]) -> Option<Mark>
     requires { Sought text.now table.now n longest.now p.now }
     ensures { PieceSought text.now table.now n p.now result }
 {

@@ -11,9 +11,8 @@ ghost use Rattle.removal.specs.Asked.{Removable, PrefixGiven, Marked};
 ghost use Rattle.removal.specs.Demands.{RemovalAnswered};
 ghost use Rattle.layout.specs.Views.{words_of, family_of, on};
 
-use layout::RelationWords;
 use given::widen_word;
-use layout::{Table, Text};
+use layout::{RelationWords, Table, Text};
 use limits::Word;
 use moves::Mark;
 use placing::place_word;
@@ -27,13 +26,7 @@ fn find_prefix(words: &RelationWords, longest: &[u8], p: &[u8]) -> Option<Mark>
 {
     let mut wide = [0u16; Word::MARK];
     widen_word(p, &mut wide);
-    occurrence::find_piece(
-        words.text,
-        words.table,
-        words.n,
-        longest,
-        &wide[..p.len()],
-    )
+    occurrence::find_piece(words.text, words.table, words.n, longest, &wide[..p.len()])
 }
 
 // The removal of a prefix from a word, both of which are fine: 18, or the least word behind the piece.
