@@ -1,4 +1,4 @@
--- What a copy and the loops that write leave: what each loop knows at its head, and a law for each way on. The laws serve every width.
+-- What the loops that write leave: what each loop knows at its head, and a law for each way on. The laws serve every width.
 use Prim.Native.Nat.{ℕ, ◌+◌, ◌≤◌, ◌<◌}
 use mathlib.Core.List.{List}
 use mathlib.Core.Path.{◌≡◌, refl, ap, ◌∙◌}
@@ -7,17 +7,9 @@ use native.Mathlib.Numerals.{add-one}
 use borrow.Author.Rules.{rules}
 use lib.ListN.{length, get_or, set, length-set}
 use lib.Seq.{paste, paste-zero, paste-suc}
-use borrow.Rule.Slice.PartMut.{put_mid}
-use Rattle.std.proofs.lemmas.Slice.{put_mid-paste}
 use Rattle.writing.specs.Writing.{Narrowing}
 use Rattle.words.specs.Writing.{written}
 use Rattle.writing.proofs.Writing.{pasted}
-
--- the part of d from `at` on becomes s, k elements
-pub copied : (at k : ℕ) (s d ys : List ℕ) → k ≡ length s → ys ≡ s → put_mid at k d ys ≡ written at s d
-copied at k s d ys e f = put_mid-paste at k d ys s (length s) f (omega (arith, e)) refl ∙ pasted at s d
-
-pub ruleset copies = (copied, rules)
 
 -- i elements of s are written from place `at` of d on, which is now b
 pub record Writing (s d : List ℕ) (at i : ℕ) (b : List ℕ) : Type 0 where

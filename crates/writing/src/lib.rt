@@ -7,15 +7,18 @@ ghost use Rattle.writing.specs.Writing.{Narrowing};
 ghost use Rattle.words.specs.Writing.{written};
 
 // Writes bytes.
-#[tactic(auto, using(crate::proofs::Loops::copies))]
+// Kept: a loop and no `copy_from_slice`, for which the library for C would need `memmove`; its header says that it needs `memcpy` and `memset` only.
+#[tactic(auto, using(crate::proofs::Loops::writings))]
 pub fn put_bytes(s: &[u8], out: &mut [u8], at: usize)
     requires { at + length s.now ≤ length out.old }
     ensures { out.new ≡ written at s.now out.old }
 {
-    out[at..at + s.len()].copy_from_slice(s);
+    for (i, &byte) in s.iter().enumerate() {
+        out[at + i] = byte;
+    }
 }
 
-// Kept: `widen` and `narrow` are two loops of three lines. One function of both would be no plainer: a trait with an impl for each width, a ghost member for the
+// Kept: these are loops of three lines. One function of all three would be no plainer: a trait with an impl for each width, a ghost member for the
 // number of a letter, and a promise of `written` over the numbers of three lists, which each caller would have to turn back into `written at s.now out.old`.
 
 // Writes bytes as letters of two bytes.
