@@ -17,8 +17,10 @@ use limits::{Held, Sheet};
 use refusals::Refusal;
 use renewing::make_change;
 
-// The refusal of a new book or of its sheet's room; else another refusal, which comes behind them. Nothing is written.
+// The refusal of a new book or of its sheet's room; else another refusal, which comes behind them. Nothing is written. It is not inlined, so that its arrays and
+// those of the sheet are not on the stack at once.
 #[tactic(auto, using(crate::proofs::Laws::lasts))]
+#[inline(never)]
 pub fn refuse_last(book: &[u8], sheet: &[u8], last: Refusal) -> Result<usize, Refusal>
     ensures { of_verdict result ≡ answered (lastly true last (settled (length sheet.now) book.now)) }
 {
