@@ -22,12 +22,15 @@ use settling::change_held;
 pub fn load_held(book: &[u8], held: &mut [u8]) -> Result<usize, Refusal>
     ensures { LoadOutcome.after (of_verdict result) held.new ≡ load_of book.now held.old }
 {
-    let relations = check_book(book)?;
+    let checked = check_book(book);
+    let Ok(_) = checked else {
+        return checked;
+    };
     if held.len() < Held::ROOM {
         return Err(Refusal::Narrow(Held::BUFFER));
     }
     hold(book, 0, held);
-    Ok(relations)
+    checked
 }
 
 // The book of a held book: the part of its buffer that is the book's bytes.

@@ -67,7 +67,10 @@ pub fn load_pieces(
     requires { Memory text.old table.old }
     ensures { PiecesKept book.now array.old result text.new table.new array.new }
 {
-    let size = reader::read_book(book, text, table)?;
+    let reading = reader::read_book(book, text, table);
+    let Ok(size) = reading else {
+        return reading;
+    };
     let judged = check_words(text, table, size.relations, array);
     answer(table, size, judged)
 }

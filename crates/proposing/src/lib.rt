@@ -36,9 +36,12 @@ fn show(
     if ticket.len() < Ticket::ROOM {
         return refuse_last(book, sheet, Refusal::Narrow(Ticket::BUFFER));
     }
-    let relations = cut_sheet(book, sheet)?;
+    let written = cut_sheet(book, sheet);
+    let Ok(_) = written else {
+        return written;
+    };
     put_ticket(changes_of(held), asked, bytes, ticket);
-    Ok(relations)
+    written
 }
 
 // Shows what the change that is asked for would lead to, and gives a ticket for it.

@@ -24,7 +24,8 @@ pub fn head_at(book: &[u8], at: usize, place: usize) -> Result<HeadFields, Refus
         return Err(Refusal::Short(place));
     };
     // Kept: a kind is any number of two bytes, which the definition `head_kind` names; an enum would say no more of the others than `_` does.
-    match record.kind {
+    let kind = record.kind;
+    match kind {
         Head::KIND => {
             if record.to - record.from != Head::PAYLOAD {
                 return Err(Refusal::Length(place));
@@ -96,7 +97,8 @@ pub fn relation_at(
         return Err(Refusal::Short(place));
     };
     // Kept: a kind is a number, as in `head_at`; the definition `relation_kind` names it.
-    match record.kind {
+    let kind = record.kind;
+    match kind {
         Relation::KIND => {
             if Relation::MOST <= count {
                 return Err(Refusal::TooMany(place));

@@ -67,7 +67,8 @@ fn addition_at(
         return Err(Refusal::Short(place));
     };
     // Kept: a kind is any number of two bytes, which the definition `relation_kind` names; an enum would say no more of the others than `_` does.
-    match record.kind {
+    let kind = record.kind;
+    match kind {
         Relation::KIND => {
             if Relation::MOST <= count {
                 return Err(Refusal::TooMany(place));

@@ -76,7 +76,8 @@ pub fn request_at(input: &[u8], at: usize) -> Result<Request, Refusal>
         return Err(Refusal::Short(at));
     };
     // Kept: a kind is a number, as in `book_end`.
-    match record.kind {
+    let kind = record.kind;
+    match kind {
         ComparisonRecord::KIND => fields_at(input, record.from, record.to, at),
         _ => Err(Refusal::Kind(at)),
     }

@@ -24,7 +24,10 @@ use renewing::make_change;
 pub fn refuse_last(book: &[u8], sheet: &[u8], last: Refusal) -> Result<usize, Refusal>
     ensures { of_verdict result ≡ answered (lastly true last (settled (length sheet.now) book.now)) }
 {
-    let relations = check_book(book)?;
+    let checked = check_book(book);
+    let Ok(relations) = checked else {
+        return checked;
+    };
     if sheet.len() < Sheet::COLUMNS * (2 * relations) {
         return Err(Refusal::Narrow(0));
     }
@@ -37,10 +40,13 @@ fn take_place(book: &[u8], held: &mut [u8], sheet: &mut [u8]) -> Result<usize, R
     requires { Takeable book.now held.old }
     ensures { ChangeOutcome.after (of_verdict result) held.new sheet.new ≡ made held.old sheet.old (settled (length sheet.old) book.now) }
 {
-    let relations = cut_sheet(book, sheet)?;
+    let verdict = cut_sheet(book, sheet);
+    let Ok(_) = verdict else {
+        return verdict;
+    };
     let changes = changes_of(held);
     hold(book, changes + 1, held);
-    Ok(relations)
+    verdict
 }
 
 // The same, unless no more changes are taken.
