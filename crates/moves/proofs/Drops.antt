@@ -1,7 +1,9 @@
 -- A law for each way that the first letters of a state can tell its row, and for row 2.
 use Prim.Native.Nat.{ℕ, ◌+◌, ◌≤◌, ◌<◌}
-use mathlib.Core.Bool.{Bool, true, false, true≢false}
+use mathlib.Core.Bool.{Bool, true, false}
 use mathlib.Core.List.{List, [], ◌∷◌}
+use Rattle.std.specs.Prelude.{Option, None, Some}
+use Rattle.std.proofs.lemmas.Option.{none-some}
 use mathlib.Core.Path.{◌≡◌, refl, sym, ap, ◌∙◌, subst}
 use mathlib.Core.Logic.{by_cases}
 use native.Mathlib.Omega.{arith}
@@ -26,7 +28,7 @@ use Rattle.plans.proofs.Drops.{first_row_two, drop_plan}
 use Rattle.moves.specs.declared.PlacedWord.{PlacedWord}
 use Rattle.moves.specs.declared.State.{State}
 use Rattle.moves.specs.State.{placed_word, placed_mark, WordFits, StateReady}
-use Rattle.moves.specs.Drops.{held_empty, HasLetter, DropDue, DropTold}
+use Rattle.moves.specs.Drops.{held_empty, HasLetter, DropDue, RowTold}
 use Rattle.moves.proofs.Laws.{move_applicable, move_made}
 
 -- whether a held word has a letter
@@ -73,8 +75,8 @@ some_of [] e = absurd (omega arith)
 some_of (x ∷ w) e = refl
 
 module _ (text table : List ℕ) (n : ℕ) (first second : Word) (s : State) (p : StateReady text table n first second s) where
-  pub told_nothing : DropTold text table n first second s false
-  told_nothing = record { due = λ e. absurd (true≢false (sym e)) }
+  pub told_nothing : RowTold text table n first second s None
+  told_nothing = record { two = λ e. absurd (none-some 2 e) }
 
   pub table_long : length table ≡ table_room
   table_long = p.fitting.ready.grouped.checked.indexed.room
@@ -97,10 +99,10 @@ module _ (text table : List ℕ) (n : ℕ) (first second : Word) (s : State) (p 
       pub has_v : HasLetter text second s.v
       has_v = record { inside = p.standing.v.inside; some = sym fv ∙ hv }
 
-      pub told_two : (x : ℕ) → x ≡ get_or (placed_word text first s.u) 0 0 → (r : Bool) → r ≡ empty_list table x → DropTold text table n first second s r
-      told_two x ex r er =
+      pub told_two : (x : ℕ) → x ≡ get_or (placed_word text first s.u) 0 0 → (r : Bool) → r ≡ empty_list table x → r ≡ true → RowTold text table n first second s (Some 2)
+      told_two x ex r er h =
           record {
-            due = λ h.
+            two = λ e.
                 record {
                   ready = p;
                   row =
@@ -140,7 +142,7 @@ module _ (text table : List ℕ) (n : ℕ) (first second : Word) (s : State) (d 
 pub ruleset droppings = (due_u, due_v, due_up, due_inside, due_plan, rules)
 
 -- one round
-pub drop_due : (text table : List ℕ) (n : ℕ) (first second : Word) (s : State) (told : Bool) → DropTold text table n first second s told → told ≡ true → DropDue text table n first second s
-drop_due text table n first second s told t e = t.due e
+pub drop_due : (text table : List ℕ) (n : ℕ) (first second : Word) (s : State) (row : Option ℕ) → RowTold text table n first second s row → row ≡ Some 2 → DropDue text table n first second s
+drop_due text table n first second s row t e = t.two e
 
 pub ruleset rounds = (drop_due, move_applicable, move_made, rules)

@@ -1,5 +1,5 @@
 -- Row 2 told by first letters: where no relation word begins with that of u (document 01, row 2).
-use Rattle.std.specs.Prelude.{ℕ, ◌≤◌, Bool, true, false, cond, List, ◌≡◌, leb, ltb, length}
+use Rattle.std.specs.Prelude.{ℕ, ◌≤◌, Bool, false, cond, List, Option, Some, ◌≡◌, leb, ltb, length}
 use Rattle.words.specs.Words.{Word}
 use Rattle.congruence.specs.Rows.{first_row}
 use Rattle.layout.specs.Layout.{words_in}
@@ -25,5 +25,5 @@ pub record DropDue (text table : List ℕ) (n : ℕ) (first second : Word) (s : 
   pub v : HasLetter text second s.v
 
 -- the first letters tell that row 2 is the first that fits, or they tell nothing
-pub record DropTold (text table : List ℕ) (n : ℕ) (first second : Word) (s : State) (told : Bool) : Type 0 where
-  pub due : told ≡ true → DropDue text table n first second s
+pub record RowTold (text table : List ℕ) (n : ℕ) (first second : Word) (s : State) (row : Option ℕ) : Type 0 where
+  pub two : row ≡ Some 2 → DropDue text table n first second s

@@ -5,7 +5,7 @@
 ghost use Rattle.std.specs.Prelude.{◌≡◌, length, get_or};
 ghost use Rattle.plans.specs.Plans.{PlansRound};
 ghost use Rattle.moves.specs.State.{beyond_of, Movable, advanced_of, MarkMovable, advanced_mark, placed_word, placed_mark, StateReady, Applicable, move_of, RoundMade};
-ghost use Rattle.moves.specs.Drops.{held_empty, HasLetter, DropTold, DropDue};
+ghost use Rattle.moves.specs.Drops.{held_empty, HasLetter, RowTold, DropDue};
 ghost use Rattle.layout.specs.Views.{on};
 
 use joined::Joined;
@@ -162,19 +162,28 @@ pub fn first_letter(text: &[u16], given: &[u16], h: PlacedWord) -> u16
     given[from]
 }
 
-// Whether the first letters tell that row 2 is the first that fits: no relation word begins with u's. Else relation words have to be looked at.
+// The first row that fits, where the first letters tell it: 2, where no relation word begins with u's. Else relation words have to be looked at.
 #[tactic(auto, using(crate::proofs::Drops::rows_told))]
-fn drop_told(words: &RelationWords, first: &[u16], second: &[u16], s: State) -> bool
+fn row_by_letters(
+    words: &RelationWords,
+    first: &[u16],
+    second: &[u16],
+    s: State,
+) -> Option<u8>
     requires { on words.now StateReady first.now second.now s }
-    ensures { on words.now DropTold first.now second.now s result }
+    ensures { on words.now RowTold first.now second.now s result }
 {
     if held_empty(first, s.u) {
-        return false;
+        return None;
     }
     if held_empty(second, s.v) {
-        return false;
+        return None;
     }
-    sites::begins_none(words.table, first_letter(words.text, first, s.u))
+    let x = first_letter(words.text, first, s.u);
+    if sites::begins_none(words.table, x) {
+        return Some(2);
+    }
+    None
 }
 
 // What row 2 does, by the first letters of both words as they are held.
@@ -193,8 +202,9 @@ pub fn make_move(words: &RelationWords, first: &[u16], second: &[u16], s: State)
     requires { on words.now StateReady first.now second.now s }
     ensures { on words.now RoundMade first.now second.now s result }
 {
-    if drop_told(words, first, second, s) {
-        return carry_out(s, drop_plan(words, first, second, s));
+    let row = row_by_letters(words, first, second, s);
+    match row {
+        Some(2) => carry_out(s, drop_plan(words, first, second, s)),
+        _ => carry_out(s, plan_of(words, first, second, s)),
     }
-    carry_out(s, plan_of(words, first, second, s))
 }
