@@ -8,8 +8,8 @@ that such a file imports, to the end. The enums and structs of the code that the
   definitions.py --write    puts it there
   definitions.py --why      the same files, each with the file that first led to it
 
-tools/check_audit.py holds the page to this table and refuses a crate of code among the definitions: one with a function that does something. A theorem is the contract of a function
-that does nothing; crates of TYPES have constants, and constructors that check ranges, and nothing else.
+tools/check_audit.py holds the page to this table and refuses a crate of code among the definitions, whether a file or a type of it is named: one with a function that does something.
+A theorem is the contract of a function that does nothing; crates of TYPES have constants, and constructors that check ranges, and nothing else.
 """
 
 import argparse
@@ -115,7 +115,7 @@ def table(root):
             types[item.crate].append(item.name)
     rows += ["", "The enums and structs that they speak of stand in the code:", ""]
     rows += [f"- {', '.join(f'`{name}`' for name in types[crate])} (`crates/{crate}/src/lib.rt`)" for crate in crates if crate in types]
-    return "\n".join(rows).strip("\n"), sums, sorted(crate for crate in {file.crate for file in files} if is_code(root, crate))
+    return "\n".join(rows).strip("\n"), sums, sorted(crate for crate in {item.crate for item in everything} if is_code(root, crate))
 
 
 def part_of(page):

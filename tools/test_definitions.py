@@ -53,6 +53,13 @@ class Definitions(unittest.TestCase):
         self.write("crates/answers/specs/Answers.antt", FILES["crates/answers/specs/Answers.antt"] + "use Rattle.arrays.specs.Arrays.{Laid}\n")
         self.assertEqual(definitions.table(self.root)[2], ["arrays"])
 
+    def test_a_crate_of_code_is_told_of_which_a_type_alone_is_named(self):
+        for types in ("Laid.{Laid}", "Laid.TheVariants as Laids"):
+            self.write("crates/answers/specs/Answers.antt", FILES["crates/answers/specs/Answers.antt"] + f"use Rattle.arrays.specs.declared.{types}\n")
+            made, _, code = definitions.table(self.root)
+            self.assertIn("`Laid` (`crates/arrays/src/lib.rt`)", made)
+            self.assertEqual(code, ["arrays"])
+
     def test_theorems_and_types_are_no_code(self):
         self.assertFalse(definitions.is_code(self.root, "limits"))
         self.write("crates/words/src/lib.rt", "pub fn shown()\n    ensures { A }\n{}\n")

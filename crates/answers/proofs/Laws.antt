@@ -35,9 +35,9 @@ use Rattle.presentation.specs.Loading.{Holding, Memory, BookLoaded}
 use Rattle.presentation.proofs.Laws.{load_refused}
 use Rattle.asked.specs.Given.{given_of, on_given, triple_of}
 use Rattle.given.proofs.Laws.{fine_short, fine_both}
-use Rattle.changes.specs.declared.Round as Made
-use Rattle.changes.specs.declared.Round.TheVariants as Mades
-use Rattle.rounds.specs.declared.Lengths.{Lengths}
+use Rattle.asked.specs.declared.Round as Made
+use Rattle.asked.specs.declared.Round.TheVariants as Mades
+use Rattle.asked.specs.declared.Lengths.{Lengths}
 use Rattle.asked.specs.declared.Comparison.{Comparison}
 use Rattle.asked.specs.Comparing.{comparison_of}
 use Rattle.sheet.specs.Sheet.{sheet_bytes, SheetRoom}

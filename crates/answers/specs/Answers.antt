@@ -3,9 +3,9 @@ use Rattle.std.specs.Prelude.{ℕ, Bool, Result, Ok, Err}
 use Rattle.refusals.specs.declared.Refusal.{Refusal}
 use Rattle.refusals.specs.Refusals.{number_and_place}
 use Rattle.asked.specs.declared.Comparison.{Comparison}
-use Rattle.changes.specs.declared.Round.{Round}
-use Rattle.changes.specs.declared.Round.TheVariants as Rounds
-use Rattle.rounds.specs.declared.Lengths.{Lengths}
+use Rattle.asked.specs.declared.Round.{Round}
+use Rattle.asked.specs.declared.Round.TheVariants as Rounds
+use Rattle.asked.specs.declared.Lengths.{Lengths}
 use Rattle.asked.specs.declared.Comparison.TheVariants as Comparisons
 
 pub data Answer : Type 0 where

@@ -3,10 +3,10 @@
 #![tactic(auto)]
 
 use asked::Comparison;
+use entries::{Lengths, Round};
 use fields::{Fields, behind, front};
 use layout::{Table, Text};
 use refusals::Refusal;
-use rounds::{Lengths, Round};
 use std::io;
 use std::io::Write;
 

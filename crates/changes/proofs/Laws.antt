@@ -9,7 +9,7 @@ use lib.ListN.{length, drop}
 use Rattle.words.specs.Words.{Word, is_prefix, part}
 use Rattle.layout.specs.Layout.{Span}
 use Rattle.changes.specs.declared.Change.{Change}
-use Rattle.changes.specs.declared.Round.TheVariants.{Next}
+use Rattle.asked.specs.declared.Round.TheVariants.{Next}
 use Rattle.sites.specs.declared.Site.{Site}
 use Rattle.changes.specs.Asked.{TailHas}
 use Rattle.changes.specs.Changes.{cut_by, tail_by, put_both, mark_after, plan6, plan7, rest_at, plan8}

@@ -4,8 +4,8 @@ use Rattle.words.specs.Words.{Word, is_prefix, common_suffix, part}
 use Rattle.sites.specs.declared.Site.{Site}
 use Rattle.changes.specs.declared.Change.{Change}
 use Rattle.changes.specs.declared.Changes.{Changes}
-use Rattle.changes.specs.declared.Round.{Round}
-use Rattle.changes.specs.declared.Round.TheVariants.{Next}
+use Rattle.asked.specs.declared.Round.{Round}
+use Rattle.asked.specs.declared.Round.TheVariants.{Next}
 
 -- a change that only cuts
 unfoldable pub cut_by : ℕ → Change

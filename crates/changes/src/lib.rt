@@ -8,6 +8,7 @@ ghost use Rattle.changes.specs.Asked.{BackRoom, AgreeBack, SitesUpwards, TailHas
 ghost use Rattle.changes.specs.Changes.{cut_by, tail_by, put_both, mark_after, plan6, plan7, shared_suffix, rest_at, plan8};
 ghost use Rattle.joined.specs.Words.{word_of};
 
+pub use asked::Round;
 use joined::Joined;
 use sites::Site;
 
@@ -25,13 +26,6 @@ pub struct Changes {
     pub u: Change,
     pub v: Change,
     pub mark: Change,
-}
-
-// One round: its end, with 'same' for true, or what it goes on with. Of `Changes` this is the plan of a round.
-#[derive(Clone, Copy)]
-pub enum Round<T> {
-    End(bool),
-    Next(T),
 }
 
 // Only cuts n letters.

@@ -22,8 +22,8 @@ use Rattle.asked.specs.Given.{given_of, pair_of}
 use Rattle.given.proofs.Laws.{fine_short, fine_both}
 use Rattle.limits.specs.Limits.{compared_most}
 use Rattle.moves.specs.declared.State.{State}
-use Rattle.changes.specs.declared.Round.{Round}
-use Rattle.changes.specs.declared.Round.TheVariants as Rounds
+use Rattle.asked.specs.declared.Round.{Round}
+use Rattle.asked.specs.declared.Round.TheVariants as Rounds
 use Rattle.moves.specs.State.{placed_word, placed_mark, Fitting, StateReady, MoveFits, RoundMade}
 use Rattle.comparison.specs.declared.Progress.{Progress}
 use Rattle.comparison.specs.declared.Progress.TheVariants.{Ended, Paused}

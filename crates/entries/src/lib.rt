@@ -9,12 +9,12 @@ ghost use Rattle.answers.specs.Entries.{check_of, SheetOutcome, sheet_of, RoundO
 ghost use Rattle.answers.specs.Demands.{Compared, LeastAnswered};
 
 use asked::Comparison;
+pub use asked::{Lengths, Round};
 use layout::{RelationWords, Table, Text};
 use loaded::{accepted_sheet, loaded_round};
 use placing::loaded_least;
 use program::Output;
 use refusals::Refusal;
-use rounds::{Lengths, Round};
 
 // Checks a book.
 #[tactic(auto, using(answers::proofs::Laws::checks))]

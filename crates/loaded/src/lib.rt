@@ -8,10 +8,10 @@ ghost use Rattle.answers.specs.Parts.{SheetReady, accepted_sheet};
 ghost use Rattle.layout.specs.Families.{Ready};
 ghost use Rattle.layout.specs.Views.{words_of, family_of, on};
 
+use asked::{Lengths, Round};
 use layout::RelationWords;
 use limits::{Sheet, Word};
 use refusals::Refusal;
-use rounds::{Lengths, Round};
 
 // The sheet of an accepted book, by its table: 12 where the buffer is too small.
 #[tactic(auto, using(answers::proofs::Laws::table_sheets))]

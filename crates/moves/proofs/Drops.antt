@@ -20,7 +20,7 @@ use Rattle.layout.specs.Layout.{words_in}
 use Rattle.sites.specs.FirstLetters.{empty_list}
 use Rattle.sites.proofs.FirstLetters.{begins_none}
 use Rattle.changes.specs.declared.Changes.{Changes}
-use Rattle.changes.specs.declared.Round.{Round}
+use Rattle.asked.specs.declared.Round.{Round}
 use Rattle.plans.specs.Plans.{PlansRound}
 use Rattle.plans.specs.RowPlans.{letter_drop}
 use Rattle.plans.proofs.Laws.{drop_letters}

@@ -17,8 +17,8 @@ use Rattle.layout.specs.Families.{family_by}
 use Rattle.kin.proofs.Laws.{rest_lent}
 use Rattle.changes.specs.declared.Change.{Change}
 use Rattle.changes.specs.declared.Changes.{Changes}
-use Rattle.changes.specs.declared.Round.{Round}
-use Rattle.changes.specs.declared.Round.TheVariants as Rounds
+use Rattle.asked.specs.declared.Round.{Round}
+use Rattle.asked.specs.declared.Round.TheVariants as Rounds
 use Rattle.plans.specs.Plans.{planned, Fit, MarkFit, PlanFit, PlansRound}
 use Rattle.plans.specs.Plans.PlanFit.{goes}
 use Rattle.plans.specs.Asked.{HeadClear}

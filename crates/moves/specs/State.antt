@@ -9,8 +9,8 @@ use Rattle.layout.specs.Layout.{words_in}
 use Rattle.layout.specs.Families.{family_by, Ready}
 use Rattle.changes.specs.declared.Change.{Change}
 use Rattle.changes.specs.declared.Changes.{Changes}
-use Rattle.changes.specs.declared.Round.{Round}
-use Rattle.changes.specs.declared.Round.TheVariants as Rounds
+use Rattle.asked.specs.declared.Round.{Round}
+use Rattle.asked.specs.declared.Round.TheVariants as Rounds
 use Rattle.limits.specs.Limits.{compared_most}
 use Rattle.moves.specs.declared.PlacedWord.{PlacedWord}
 use Rattle.moves.specs.declared.Mark.{Mark}

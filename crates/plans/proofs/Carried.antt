@@ -19,7 +19,7 @@ use Rattle.words.proofs.CommonSuffixes.{suffix_within}
 use Rattle.congruence.proofs.RowTests.{prefix_of_clean}
 use Rattle.congruence.proofs.FirstRow.{Fits, xy_of_whole}
 use Rattle.congruence.proofs.FirstRow.Fits.{fits2, fits4, fits5, fits6, fits7, fits8}
-use Rattle.changes.specs.declared.Round.TheVariants.{End}
+use Rattle.asked.specs.declared.Round.TheVariants.{End}
 use Rattle.sites.specs.declared.Site.{Site}
 use Rattle.plans.specs.Plans.{applied, planned, Fit, MarkFit, Carries}
 use Rattle.plans.specs.Plans.PlanFit.{ends, goes}

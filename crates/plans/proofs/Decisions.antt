@@ -27,8 +27,8 @@ use Rattle.kin.proofs.Laws.{grouped_lies}
 use Rattle.rows.specs.declared.Found.{Found}
 use Rattle.rows.specs.Shapes.{FoundRow}
 use Rattle.changes.specs.declared.Changes.{Changes}
-use Rattle.changes.specs.declared.Round.{Round}
-use Rattle.changes.specs.declared.Round.TheVariants.{End}
+use Rattle.asked.specs.declared.Round.{Round}
+use Rattle.asked.specs.declared.Round.TheVariants.{End}
 use Rattle.changes.specs.Asked.{SitesUpwards}
 use Rattle.changes.specs.Changes.{plan6, plan7, shared_suffix}
 use Rattle.plans.specs.Plans.{planned, Carries, PlansRound}

@@ -25,8 +25,8 @@ use Rattle.kin.specs.Asked.{IdleRest}
 use Rattle.kin.proofs.Laws.{grouped_room, grouped_lies}
 use Rattle.changes.specs.declared.Change.{Change}
 use Rattle.changes.specs.declared.Changes.{Changes}
-use Rattle.changes.specs.declared.Round.{Round}
-use Rattle.changes.specs.declared.Round.TheVariants.{End, Next}
+use Rattle.asked.specs.declared.Round.{Round}
+use Rattle.asked.specs.declared.Round.TheVariants.{End, Next}
 use Rattle.changes.specs.Asked.{TailHas, SitesHave}
 use Rattle.changes.specs.Changes.{cut_by, put_both, mark_after, rest_at, plan8}
 use Rattle.plans.specs.Asked.{BothNonEmpty, WholeWords, TailsHave}

@@ -10,8 +10,8 @@ use Rattle.layout.specs.Layout.{words_in}
 use Rattle.layout.specs.Families.{family_by}
 use Rattle.changes.specs.declared.Change.{Change}
 use Rattle.changes.specs.declared.Changes.{Changes}
-use Rattle.changes.specs.declared.Round.{Round}
-use Rattle.changes.specs.declared.Round.TheVariants.{End, Next}
+use Rattle.asked.specs.declared.Round.{Round}
+use Rattle.asked.specs.declared.Round.TheVariants.{End, Next}
 
 -- the word that a change makes of w
 abbrev pub applied : List ℕ → Change → Word → Word

@@ -4,8 +4,8 @@ use Rattle.std.specs.Prelude.{ℕ, ◌-◌, min, false, cond, ◌&&◌, ◌||◌
 use Rattle.words.specs.Words.{Word, is_empty}
 use Rattle.sites.specs.declared.Site.{Site}
 use Rattle.changes.specs.declared.Changes.{Changes}
-use Rattle.changes.specs.declared.Round.{Round}
-use Rattle.changes.specs.declared.Round.TheVariants.{End, Next}
+use Rattle.asked.specs.declared.Round.{Round}
+use Rattle.asked.specs.declared.Round.TheVariants.{End, Next}
 use Rattle.changes.specs.Changes.{cut_by, put_both, mark_after, rest_at, plan8}
 
 -- row 1

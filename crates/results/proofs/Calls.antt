@@ -22,8 +22,8 @@ use Rattle.results.specs.declared.LeastResult.{LeastResult}
 use Rattle.results.specs.declared.ProgramResult.{ProgramResult}
 use Rattle.results.specs.declared.HeldResult.{HeldResult}
 use Rattle.results.specs.Numbers.{check_result, round_result, compare_result, least_result, program_result, held_result}
-use Rattle.changes.specs.declared.Round.{Round}
-use Rattle.rounds.specs.declared.Lengths.{Lengths}
+use Rattle.asked.specs.declared.Round.{Round}
+use Rattle.asked.specs.declared.Lengths.{Lengths}
 use Rattle.results.specs.Calls.{SheetNumbers, sheet_numbers, RoundNumbers, round_numbers, ComparedNumbers, LeastNumbered, RemovalNumbered, ProgramNumbers, program_numbers, LoadNumbers, load_numbers, ChangeNumbers, change_numbers, ProposalNumbers, proposal_numbers}
 
 -- the numbers of an answer that is the definition's are the definition's numbers

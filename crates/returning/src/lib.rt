@@ -9,10 +9,9 @@ ghost use Rattle.results.specs.Numbers.{end_outcome, check_result, round_result,
 ghost use Rattle.results.specs.Calls.{version};
 ghost use Rattle.returning.specs.Told.{told};
 
-use asked::Comparison;
+use asked::{Comparison, Lengths, Round};
 use refusals::{Numbered, Refusal};
 use results::{CheckResult, CompareResult, HeldResult, LeastResult, ProgramResult, RoundResult};
-use rounds::{Lengths, Round};
 
 // The version of the C functions, as a number: 10,000 times the first part, 100 times the second, and the third.
 #[derive(Clone, Copy)]

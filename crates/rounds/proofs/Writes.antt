@@ -24,9 +24,9 @@ use Rattle.words.specs.Writing.{written}
 use Rattle.writing.proofs.Writing.{written_zero, written_length, written_behind, bytes_drop, bytes_take}
 use Rattle.changes.specs.declared.Change.{Change}
 use Rattle.changes.specs.declared.Changes.{Changes}
-use Rattle.changes.specs.declared.Round.{Round}
-use Rattle.changes.specs.declared.Round.TheVariants as S
-use Rattle.rounds.specs.declared.Lengths.{Lengths}
+use Rattle.asked.specs.declared.Round.{Round}
+use Rattle.asked.specs.declared.Round.TheVariants as S
+use Rattle.asked.specs.declared.Lengths.{Lengths}
 use Rattle.plans.specs.Plans.{planned, Fit, MarkFit, PlanFit, PlansRound}
 use Rattle.plans.specs.Plans.PlanFit.{goes}
 use Rattle.plans.specs.Asked.{HeadClear}

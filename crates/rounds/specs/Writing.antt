@@ -9,9 +9,9 @@ use Rattle.limits.specs.Limits.{round_most, next_room, mark_most}
 use Rattle.layout.specs.Families.{Grouped}
 use Rattle.changes.specs.declared.Change.{Change}
 use Rattle.changes.specs.declared.Changes.{Changes}
-use Rattle.changes.specs.declared.Round.{Round}
-use Rattle.changes.specs.declared.Round.TheVariants as S
-use Rattle.rounds.specs.declared.Lengths.{Lengths}
+use Rattle.asked.specs.declared.Round.{Round}
+use Rattle.asked.specs.declared.Round.TheVariants as S
+use Rattle.asked.specs.declared.Lengths.{Lengths}
 use Rattle.plans.specs.Plans.{applied}
 
 -- an outcome, and the buffers for u, v and p after it

@@ -4,25 +4,17 @@
 ghost use Rattle.std.specs.Prelude.{◌≡◌};
 ghost use Rattle.congruence.specs.Rows.{round};
 ghost use Rattle.plans.specs.Plans.{planned, PlansRound};
-ghost use Rattle.changes.specs.declared.Round.TheVariants.{Next};
+ghost use Rattle.asked.specs.declared.Round.TheVariants.{Next};
 ghost use Rattle.rounds.specs.Writing.{Writable, Written, written_by, AllWritable, Planned, GivenShort, GivenRoom, LentInBytes, Lent};
 ghost use Rattle.rounds.specs.Writing.Outcome.{after};
 ghost use Rattle.layout.specs.Views.{words_of, family_of, on};
 
+pub use asked::{Lengths, Round};
 use given::widen_word;
 use joined::Joined;
 use layout::RelationWords;
 use limits::Word;
-pub use plans::Round;
 use plans::{Change, Changes, decide};
-
-// The lengths of the next u, v and p.
-#[derive(Clone, Copy)]
-pub struct Lengths {
-    pub u: usize,
-    pub v: usize,
-    pub p: usize,
-}
 
 // The word that a change makes of w goes to the start of the buffer; its length comes back.
 fn write_change(text: &[u16], c: Change, w: &[u8], out: &mut [u8]) -> usize
