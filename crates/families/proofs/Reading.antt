@@ -2,7 +2,6 @@
 use Prim.Native.Nat.{ℕ, ◌+◌, ◌-◌, ◌≤◌, ◌<◌}
 use mathlib.Core.List.{List}
 use mathlib.Core.Path.{◌≡◌, sym, ◌∙◌, subst}
-use mathlib.Core.Logic.{∥∥₁_map}
 use native.Mathlib.Omega.{arith}
 use lib.ListN.{get_or}
 use Rattle.overlap.specs.Pieces.{C4}
@@ -60,9 +59,9 @@ module _ (t u : List ℕ) (g : KeptOutside family_from first_from t u) where
           listed = λ c h. rw (first_kept c, first_kept (c + 1)) (x.listed c h);
           known = λ j h. rw (order_kept j) (x.known j h);
           found = λ k h.
+              let (j, a, b, e) = x.found k h in
               let s = start_kept k (omega (arith, h, f.few)) in
-              ∥∥₁_map (x.found k h)
-              (λ p. (p.0, rw (s, first_kept (get_or text (start_of t k) 0)) p.1, rw (s, first_kept (get_or text (start_of t k) 0 + 1)) p.2, order_kept p.0 ∙ p.3));
+              (j, rw (s, first_kept (get_or text (start_of t k) 0)) a, rw (s, first_kept (get_or text (start_of t k) 0 + 1)) b, order_kept j ∙ e);
           alike = λ j h l.
               rw (order_kept (j - 1), order_kept j, word_kept (order_of t (j - 1)) (x.known (j - 1) (omega (arith, l))), word_kept (order_of t j) (x.known j l))
               (g.behind (shared_cell j) (omega arith) ∙ x.alike j h l);

@@ -4,8 +4,6 @@ use mathlib.Core.Bool.{Bool, true, false, cond, true≢false}
 use mathlib.Core.List.{List, ◌++◌}
 use mathlib.Core.Path.{◌≡◌, refl, sym, ap, ◌∙◌, subst}
 use mathlib.Core.Logic.{by_cases}
-use mathlib.Core.HLevel.{⊥_prop}
-use mathlib.Core.Logic.{∥∥₁_elim}
 use native.Mathlib.Omega.{arith}
 use native.Mathlib.Decide.{dec_lt}
 use borrow.Author.Rules.{rules}
@@ -350,12 +348,11 @@ module _ (text table : List ℕ) (n : ℕ) (w : Word) (q from to j m : ℕ) (s :
       none : (k : ℕ) → k < n → is_prefix (xy_of (words_in text table n) k) (drop q w) ≡ true → ⊥
       none k l e =
           let c = stands_letter text table n s.bucket.checked w q k l e in
-          ∥∥₁_elim (s.bucket.checked.indexed.found k l) ⊥_prop
-          (λ f.
+          let f = s.bucket.checked.indexed.found k l in
           let f1 : from ≤ f.0 = rw (s.bucket.first, ← c) f.1 in
           let f2 : f.0 < to = rw (s.bucket.last, ← c) f.2 in
           let z = s.none f.0 f1 (omega arith) in
-          true≢false (sym e ∙ rw f.3 at z))
+          true≢false (sym e ∙ rw f.3 at z)
 
   module _ (h : j < to) (x : Meeting) (e : x ≡ met_at text table (order_of table j) (drop q w)) where
     met_word : x ≡ met_of (words_in text table n) (order_of table j) (drop q w)

@@ -88,7 +88,7 @@ pub record Indexed (text table : List ℕ) (n : ℕ) : Type 0 where
   pub listed : (c : ℕ) → c < letters_bound → (first_of table c ≤ first_of table (c + 1)) × (first_of table (c + 1) ≤ n)
   pub known : (j : ℕ) → j < n → order_of table j < n
   pub found : (k : ℕ) → k < n
-      → ∥ ((j : ℕ) × (first_of table (get_or text (start_of table k) 0) ≤ j) × (j < first_of table (get_or text (start_of table k) 0 + 1)) × (order_of table j ≡ k)) ∥₁
+      → (j : ℕ) × (first_of table (get_or text (start_of table k) 0) ≤ j) × (j < first_of table (get_or text (start_of table k) 0 + 1)) × (order_of table j ≡ k)
   pub alike : (j : ℕ) → 0 < j → j < n
       → shared_of table j ≡ common_prefix (word_at text table (order_of table (j - 1))) (word_at text table (order_of table j))
 

@@ -2,4 +2,5 @@
 pub mod Places
 pub mod Layout
 pub mod Families
+pub mod Unique
 pub mod Views

@@ -5,6 +5,7 @@ ghost use Rattle.std.specs.Prelude.{◌≡◌, ◌+◌, ◌-◌, ◌<◌, ◌≤
 ghost use Rattle.layout.specs.Places.{word_most, start_cell, x_end_cell, z_start_cell, pieces_cell, end_cell, side_cell, count_cell, family_cell, next_cell, first_cell, order_cell, shared_cell, fixed_places};
 ghost use Rattle.layout.specs.Layout.{start_of, x_end_of, z_start_of, pieces_of, end_of, first_of, order_of, shared_of};
 ghost use Rattle.layout.specs.Families.{side_word_of, count_of, family_at, next_of, Grouped};
+ghost use Rattle.layout.specs.Unique.{Grouped-prop};
 
 use limits::{Head, Relation};
 
@@ -219,5 +220,5 @@ pub struct RelationWords<'t> {
     pub text: &'t [u16],
     pub table: &'t [u16],
     pub n: usize,
-    ghost grouped: { Grouped text.now table.now n },
+    ghost grouped: { Grouped text.now table.now n } by { Grouped-prop text.now table.now n },
 }

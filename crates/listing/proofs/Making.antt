@@ -336,7 +336,7 @@ module _ (text t₀ t : List ℕ) (n j : ℕ) (g : Sharing text t₀ t n j) wher
           room = g.lists.room;
           listed = g.lists.listed;
           known = g.lists.known;
-          found = λ k l. ∣ g.lists.found k l (g.lists.laid.letters k (start_of t k) l (omega arith) (g.lists.laid.some k l)) ∣₁;
+          found = λ k l. g.lists.found k l (g.lists.laid.letters k (start_of t k) l (omega arith) (g.lists.laid.some k l));
           alike = λ i a b. g.alike i a (omega arith) b;
         };
       }

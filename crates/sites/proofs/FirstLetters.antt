@@ -3,8 +3,6 @@ use Prim.Native.Nat.{ℕ, ◌+◌, ◌≤◌, ◌<◌}
 use mathlib.Core.Bool.{Bool, true, false}
 use mathlib.Core.List.{List}
 use mathlib.Core.Path.{◌≡◌, sym, ap, ◌∙◌, subst}
-use mathlib.Core.HLevel.{⊥_prop}
-use mathlib.Core.Logic.{∥∥₁_elim}
 use native.Mathlib.Omega.{arith}
 use borrow.Author.Rules.{rules}
 use borrow.Author.Tests.{eqb-true, ltb-false, le-leb, lt-leb}
@@ -60,14 +58,13 @@ module _ (text table : List ℕ) (n : ℕ) (k : Checked text table n) where
       let g : get_or text (start_of table i) 0 ≡ c = sym (first_letter i h) ∙ q in
       let s = k.laid.some i h in
       let low = k.laid.letters i (start_of table i) h (omega arith) s in
-      ∥∥₁_elim (k.indexed.found i h) ⊥_prop
-      (λ f.
+      let f = k.indexed.found i h in
       let x = f.1 in
       let y = f.2 in
       let z : first_of table c ≡ first_of table (c + 1) = eqb-true (first_of table c) (first_of table (c + 1)) (rw (lt-leb letters_bound c (omega (arith, low, g))) at e) in
       let a : first_of table c ≤ f.0 = subst (λ (m : ℕ). first_of table m ≤ f.0) g x in
       let d : f.0 < first_of table (c + 1) = subst (λ (m : ℕ). f.0 < first_of table (m + 1)) g y in
-      omega (arith, a, d, z))
+      omega (arith, a, d, z)
 
 -- so no X and Y stand where such a letter stands, and none behind the end of a word
 module _ (text table : List ℕ) (n : ℕ) (k : Checked text table n) (w : Word) (q : ℕ) where
