@@ -164,12 +164,7 @@ pub fn first_letter(text: &[u16], given: &[u16], h: PlacedWord) -> u16
 
 // The first row that fits, where the first letters tell it: 2, where no relation word begins with u's. Else relation words have to be looked at.
 #[tactic(auto, using(crate::proofs::Drops::rows_told))]
-fn row_by_letters(
-    words: &RelationWords,
-    first: &[u16],
-    second: &[u16],
-    s: State,
-) -> Option<u8>
+fn row_by_letters(words: &RelationWords, first: &[u16], second: &[u16], s: State) -> Option<u8>
     requires { on words.now StateReady first.now second.now s }
     ensures { on words.now RowTold first.now second.now s result }
 {
@@ -197,7 +192,9 @@ fn drop_plan(words: &RelationWords, first: &[u16], second: &[u16], s: State) -> 
 }
 
 // One round. Most rounds are of row 2 and told by the first letters; of the others `plans::decide` finds the row and decides by it. Each arm carries out its own plan, so
-// that the cuts of row 2 stay three sums.
+// that the cuts of row 2 stay three sums. It is inlined wherever it is called: as a call of its own it took a comparison of most rounds half as long again, since the state
+// then goes through memory.
+#[inline(always)]
 pub fn make_move(words: &RelationWords, first: &[u16], second: &[u16], s: State) -> Round<State>
     requires { on words.now StateReady first.now second.now s }
     ensures { on words.now RoundMade first.now second.now s result }
