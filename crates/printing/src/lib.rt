@@ -85,6 +85,13 @@ pub fn print_placed<W: Write>(
     out.write_all(b"\n")
 }
 
+// Tells of each of a round's three buffers whether a byte that it must keep was changed.
+pub fn print_touches<W: Write>(out: &mut W, nu: &[u8], nv: &[u8], np: &[u8]) -> io::Result<()> {
+    print_touched(out, nu)?;
+    print_touched(out, nv)?;
+    print_touched(out, np)
+}
+
 // Tells that a byte is not what its buffer was filled with.
 pub fn print_touched<W: Write>(out: &mut W, bytes: &[u8]) -> io::Result<()> {
     if is_kept(bytes) {
