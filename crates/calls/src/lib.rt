@@ -167,11 +167,11 @@ fn print_round<W: Write>(
 ) -> io::Result<()> {
     match round {
         Ok(Round::End(same)) => {
-            print_touches(out, nu, nv, np)?;
+            printing::print_touches(out, nu, nv, np)?;
             printing::print_end(out, same)
         }
         Ok(Round::Next(next)) => {
-            print_touches(
+            printing::print_touches(
                 out,
                 behind(nu, next.u),
                 behind(nv, next.v),
@@ -180,15 +180,8 @@ fn print_round<W: Write>(
             printing::print_next(out, front(nu, next.u), front(nv, next.v), front(np, next.p))
         }
         Err(refusal) => {
-            print_touches(out, nu, nv, np)?;
+            printing::print_touches(out, nu, nv, np)?;
             printing::print_refusal(out, refusal)
         }
     }
-}
-
-// Tells of each of a round's three buffers whether a byte that it must keep was changed.
-fn print_touches<W: Write>(out: &mut W, nu: &[u8], nv: &[u8], np: &[u8]) -> io::Result<()> {
-    printing::print_touched(out, nu)?;
-    printing::print_touched(out, nv)?;
-    printing::print_touched(out, np)
 }

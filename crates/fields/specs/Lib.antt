@@ -1,2 +1,3 @@
--- How many of the first bytes of a buffer are meant.
+-- How many of the first bytes of a buffer are meant, and what the fields of a text are.
 pub mod Places
+pub mod Texts

@@ -2,9 +2,10 @@
 // proposals and the postings of tickets.
 #![tactic(auto)]
 
-ghost use Rattle.std.specs.Prelude.{◌≡◌, ◌+◌, ◌≤◌, ◌<◌, slice_set};
+ghost use Rattle.std.specs.Prelude.{◌≡◌, ◌+◌, ◌≤◌, ◌<◌, get_or, replicate, slice_set};
+ghost use Rattle.lending.specs.Rooms.{Roomy};
 
-use fields::Fields;
+use fields::{FILL, Fields};
 use limits::{Held, Ticket};
 use refusals::Refusal;
 
@@ -60,20 +61,23 @@ pub struct Tickets {
 impl Tickets {
     // No ticket was given so far.
     pub fn new() -> Self
-        ensures { result.given ≡ 0 }
+        ensures given { result.given ≡ 0 }
+        ensures rooms { result.rooms ≡ replicate MOST_TICKETS (replicate Ticket.ROOM FILL) }
     {
         Tickets {
-            rooms: [[fields::FILL; Ticket::ROOM]; MOST_TICKETS],
+            rooms: [[FILL; Ticket::ROOM]; MOST_TICKETS],
             given: 0,
         }
     }
 
     // The ticket of a number, counted from 0. One that was not given is all aa.
-    fn ticket(&self, number: usize) -> [u8; Ticket::ROOM] {
+    fn ticket(&self, number: usize) -> [u8; Ticket::ROOM]
+        ensures { result ≡ get_or self.now.rooms number (replicate Ticket.ROOM FILL) }
+    {
         self.rooms
             .get(number)
             .copied()
-            .unwrap_or([fields::FILL; Ticket::ROOM])
+            .unwrap_or([FILL; Ticket::ROOM])
     }
 
     // Keeps a ticket behind those that were given, where there is room for it.
@@ -89,7 +93,9 @@ impl Tickets {
 }
 
 // Loads a book into the first bytes of a buffer.
-pub fn lend_load(book: &[u8], held: &mut [u8; fields::ROOM]) -> Result<usize, Refusal> {
+pub fn lend_load(book: &[u8], held: &mut [u8]) -> Result<usize, Refusal>
+    requires { Roomy held.old }
+{
     heldbook::load_held(book, &mut held[..Held::ROOM])
 }
 
@@ -97,10 +103,12 @@ pub fn lend_load(book: &[u8], held: &mut [u8; fields::ROOM]) -> Result<usize, Re
 pub fn lend_change(
     change: Change,
     operation: Fields<'_>,
-    held: &mut [u8; fields::ROOM],
+    held: &mut [u8],
     tickets: &Tickets,
     sheet: &mut [u8],
-) -> Result<usize, Refusal> {
+) -> Result<usize, Refusal>
+    requires { Roomy held.old }
+{
     let held = &mut held[..Held::ROOM];
     match change {
         Change::Addition => {
@@ -122,10 +130,12 @@ pub fn lend_change(
 pub fn lend_proposal(
     proposal: Proposal,
     operation: Fields<'_>,
-    held: &[u8; fields::ROOM],
+    held: &[u8],
     sheet: &mut [u8],
     ticket: &mut [u8],
-) -> Result<usize, Refusal> {
+) -> Result<usize, Refusal>
+    requires { Roomy held.now }
+{
     let held = &held[..Held::ROOM];
     match proposal {
         Proposal::Addition => {

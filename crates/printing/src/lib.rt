@@ -85,6 +85,13 @@ pub fn print_placed<W: Write>(
     out.write_all(b"\n")
 }
 
+// Tells of each of a round's three buffers whether a byte that it must keep was changed.
+pub fn print_touches<W: Write>(out: &mut W, nu: &[u8], nv: &[u8], np: &[u8]) -> io::Result<()> {
+    print_touched(out, nu)?;
+    print_touched(out, nv)?;
+    print_touched(out, np)
+}
+
 // Tells that a byte is not what its buffer was filled with.
 pub fn print_touched<W: Write>(out: &mut W, bytes: &[u8]) -> io::Result<()> {
     if is_kept(bytes) {
@@ -107,9 +114,19 @@ pub fn print_bytes<W: Write>(out: &mut W, bytes: &[u8]) -> io::Result<()> {
 // Prints a portion of bytes in hexadecimal by way of a buffer, so that the system is asked once and not for each byte.
 fn print_portion<W: Write>(out: &mut W, bytes: &[u8]) -> io::Result<()> {
     let mut text = [0u8; 2 * PORTION];
-    let mut room: &mut [u8] = &mut text;
-    for byte in bytes {
-        write!(room, "{byte:02x}")?;
+    for (pair, &byte) in text.chunks_exact_mut(2).zip(bytes) {
+        pair[0] = glyph(byte / 16);
+        pair[1] = glyph(byte % 16);
     }
     out.write_all(front(&text, 2 * bytes.len()))
+}
+
+// The hexadecimal digit of a value.
+// Kept: `write!` with `{:02x}` prints the same, and took a line of long words 4 to 25 times as many instructions.
+fn glyph(value: u8) -> u8 {
+    match value {
+        0..=9 => b'0' + value,
+        10..=15 => b'a' - 10 + value,
+        _ => b'?',
+    }
 }

@@ -1,14 +1,15 @@
 // Room for bytes: buffers of any size, and the reading of bytes into one.
 #![tactic(auto)]
 
-ghost use Rattle.std.specs.Prelude.{◌≡◌, ◌≤◌, length};
+ghost use Rattle.std.specs.Prelude.{◌≡◌, ◌≤◌, length, All};
 
 use std::io;
 use std::io::Read;
 
-// A buffer filled with a byte. The promise is the length alone, so that no proof counts the bytes.
+// A buffer filled with a byte. The promise is the length, and that each byte is this one, so that no proof counts the bytes.
 pub fn room<const N: usize>(byte: u8) -> [u8; N]
-    ensures { N ≡ length result }
+    ensures long { N ≡ length result }
+    ensures filled { All (λ each. each ≡ byte) result }
 {
     [byte; N]
 }
