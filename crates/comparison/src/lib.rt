@@ -8,7 +8,6 @@ ghost use Rattle.comparison.specs.Widening.{ReadyToWiden, Widenable};
 ghost use Rattle.asked.specs.Comparing.{comparison_of, answer_of};
 ghost use Rattle.layout.specs.Families.{Ready};
 ghost use Rattle.layout.specs.Views.{words_of, family_of, on};
-ghost use Rattle.layout.specs.Views.{words_of, family_of};
 
 use asked::Comparison;
 use given::widen_word;

@@ -10,7 +10,6 @@ ghost use Rattle.answers.specs.Answers.{of_written_word};
 ghost use Rattle.answers.specs.Entries.{WordOutcome, lacks_space, found_at, loaded_least};
 ghost use Rattle.answers.specs.Parts.{LeastLoaded, LeastCounted, LeastWidenable};
 ghost use Rattle.layout.specs.Views.{words_of, family_of, on};
-ghost use Rattle.layout.specs.Views.{words_of, family_of};
 
 use given::widen_word;
 use layout::RelationWords;

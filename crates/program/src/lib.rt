@@ -9,8 +9,6 @@ ghost use Rattle.output.specs.Writing.{lines_under, Lined, lines_of_accepted, Ac
 ghost use Rattle.asked.specs.Comparing.{comparison_of};
 ghost use Rattle.layout.specs.Families.{count_of, Ready};
 ghost use Rattle.layout.specs.Views.{words_of, family_of, on};
-ghost use Rattle.layout.specs.Families.{count_of, Ready};
-ghost use Rattle.layout.specs.Views.{words_of, family_of};
 
 use asked::Comparison;
 use comparison::{compare_given, compare_once};
