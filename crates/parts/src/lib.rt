@@ -334,7 +334,6 @@ fn put_other(own: Site, z: Site, mark: Mark, l: usize, k: usize, stands: bool) -
 }
 
 // The part where u = XY s of relation word i, s is the given word from k on and does not begin with Z, and the least word begins with X and Y of another relation word j.
-#[tactic(auto, using(crate::proofs::Others::others))]
 fn write_other(
     words: &RelationWords,
     given: &[u16],
