@@ -122,7 +122,7 @@ fn print_portion<W: Write>(out: &mut W, bytes: &[u8]) -> io::Result<()> {
 }
 
 // The hexadecimal digit of a value.
-// Kept: `write!` with `{:02x}` prints the same, and took a line of long words 4 to 25 times as many instructions.
+// Kept: `write!` with `{:02x}` prints the same, and took a line of long words 4 to 16 times as many instructions.
 fn glyph(value: u8) -> u8 {
     match value {
         0..=9 => b'0' + value,
