@@ -62,12 +62,6 @@ module _ (text table : List ℕ) (n : ℕ) (first second : Word) (start : State)
   pub going_end : (b : Bool) → r ≡ Rounds.End b → Progressed text table n first second start budget (Ended b done)
   going_end b e = record { same = end_of (budget - done) b e ∙ sym g.same; stands = tt }
 
-  -- an end that is seen once all rounds are made
-  pub going_ended : (b : Bool) → r ≡ Rounds.End b → budget ≤ done → Progressed text table n first second start budget (Ended b budget)
-  going_ended b e h =
-      let z : done ≡ budget = omega (arith, h, g.allowed) in
-      subst (λ (k : ℕ). Progressed text table n first second start budget (Ended b k)) z (going_end b e)
-
   module _ (t : State) (e : r ≡ Rounds.Next t) where
     due : go (placed_word text first t.u) (placed_word text second t.v) (placed_mark text t.mark) ≡ round (words_in text table n) (family_by table n) (placed_word text first s.u) (placed_word text second s.v) (placed_mark text s.mark)
     due = rw e at f.same
@@ -80,15 +74,10 @@ module _ (text table : List ℕ) (n : ℕ) (first second : Word) (start : State)
     unfolding rounds_from
     one_more left = rw (← due)
 
-    paused_now : budget ≤ done → Progressed text table n first second start budget (Paused s done)
-    paused_now h =
+    pub going_paused : budget ≤ done → Progressed text table n first second start budget (Paused s done)
+    going_paused h =
         let z : budget - done ≡ 0 = omega arith in
         record { same = paused_here ∙ sym (rw z at g.same); stands = g.poised.standing }
-
-    pub going_paused : budget ≤ done → Progressed text table n first second start budget (Paused s budget)
-    going_paused h =
-        let z : done ≡ budget = omega (arith, h, g.allowed) in
-        subst (λ (k : ℕ). Progressed text table n first second start budget (Paused s k)) z (paused_now h)
 
     pub going_more : done < budget → Going text table n first second start budget t (done + 1)
     going_more h =
@@ -99,7 +88,7 @@ module _ (text table : List ℕ) (n : ℕ) (first second : Word) (start : State)
           same = (rw z at g.same) ∙ one_more (budget - (done + 1));
         }
 
-pub ruleset goings = (going_start, going_end, going_ended, going_paused, going_more, rules)
+pub ruleset goings = (going_start, going_end, going_paused, going_more, rules)
 
 -- the rows' answer for two words, from the start
 pub whole_poised : (text table : List ℕ) (n : ℕ) (u v : Word) → Fitting text table n u v

@@ -4,11 +4,8 @@ use Rattle.comparison.proofs.make_rounds.Goals as goal
 pub returns-in-End : goal.returns-in-End
 returns-in-End c = search goings
 
-pub loop-done-preserved : goal.loop-done-preserved
-loop-done-preserved c = search goings
+pub returns-then-budget-done : goal.returns-then-budget-done
+returns-then-budget-done c = search goings
 
-pub returns-in-End-make_move : goal.returns-in-End-make_move
-returns-in-End-make_move c = search goings
-
-pub returns-in-Next-make_move : goal.returns-in-Next-make_move
-returns-in-Next-make_move c = search goings
+pub loop-same-preserved : goal.loop-same-preserved
+loop-same-preserved c = search goings
