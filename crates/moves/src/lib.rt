@@ -192,8 +192,8 @@ fn drop_plan(words: &RelationWords, first: &[u16], second: &[u16], s: State) -> 
 }
 
 // One round. Most rounds are of row 2 and told by the first letters; of the others `plans::decide` finds the row and decides by it. Each arm carries out its own plan, so
-// that the cuts of row 2 stay three sums. It is inlined wherever it is called: as a call of its own it took a comparison of most rounds half as long again, since the state
-// then goes through memory.
+// that the cuts of row 2 stay three sums. It is inlined where a comparison calls it: as a call of its own, with the state handed over in memory, a comparison of most rounds
+// took twice the time.
 #[inline(always)]
 pub fn make_move(words: &RelationWords, first: &[u16], second: &[u16], s: State) -> Round<State>
     requires { on words.now StateReady first.now second.now s }
