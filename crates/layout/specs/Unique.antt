@@ -1,10 +1,12 @@
 -- `layout::RelationWords` keeps `Grouped text table n` beside the text and the table, and what is kept there may hold in one way only. `Grouped-prop` shows that it does.
 -- All that `Grouped` says are equations and bounds of numbers and what can't be, each shown in one way, but for the place that `Indexed.found` gives for a relation word.
 -- That place is the only one: the list has n places, below n, and each of the n words stands at one of them, so no word stands at two.
+-- So it is given, too, where it is only known that there is one (`found_where_listed`).
 use Rattle.std.specs.Prelude.{ℕ, zero, suc, ◌+◌, ◌≤◌, ◌<◌, ◌≡◌, true, cond, List, [], ◌∷◌, eqb, length, get_or}
 use Rattle.std.specs.List.{list_any}
 use mathlib.Core.Path.{sym, ap, ◌∙◌}
-use mathlib.Core.Logic.{by_cases}
+use mathlib.Core.Bool.{Bool-set}
+use mathlib.Core.Logic.{by_cases, ∥∥₁_elim, ∥∥₁_map}
 use mathlib.Core.HLevel.{Π_prop, Σ_prop_path}
 use native.Mathlib.Bridge.{le_prop}
 use native.Mathlib.Nat.{ℕ_set}
@@ -13,6 +15,7 @@ use native.Mathlib.Decide.{ℕ_discrete}
 use borrow.Author.Tests.{eq-eqb, ne_eqb}
 use Rattle.std.proofs.lemmas.Bool.{or_left, or_right}
 use Rattle.std.proofs.lemmas.Map.Steps.{le-length_from_below}
+use Rattle.layout.specs.Places.{letters_bound}
 use Rattle.layout.specs.Layout.{Laid, Indexed, Checked, start_of, first_of, order_of}
 use Rattle.layout.specs.Families.{Grouped}
 
@@ -47,15 +50,15 @@ module _ (f : ℕ → ℕ) (i : ℕ) where
       (λ c. or_right (eqb (f k) (f n)) (list_any (eqb (f k)) (others f i n)) (among_others n k (omega arith) d))))
 
 -- where f gives each number below n for one below n, it gives none for two: without one of the two the rest, fewer than n, would have all n numbers
-once : (f : ℕ → ℕ) (n : ℕ) → ((k : ℕ) → k < n → (j : ℕ) × (j < n) × (f j ≡ k)) → (i j : ℕ) → i < n → j < n → f i ≡ f j → i ≡ j
+once : (f : ℕ → ℕ) (n : ℕ) → ((k : ℕ) → k < n → ∥ ((j : ℕ) × (j < n) × (f j ≡ k)) ∥₁) → (i j : ℕ) → i < n → j < n → f i ≡ f j → i ≡ j
 once f n onto i j a b e = by_cases (ℕ_discrete j i) (λ c. sym c) (λ d. absurd (omega (arith, others_fewer f i n a, le-length_from_below (others f i n) n (all d))))
   where
     all : (j ≡ i → ⊥) → (k : ℕ) → k < n → list_any (eqb k) (others f i n) ≡ true
     all d k h =
-        let g = onto k h in
-        by_cases (ℕ_discrete g.0 i)
+        ∥∥₁_elim (onto k h) (Bool-set _ _)
+        (λ g. by_cases (ℕ_discrete g.0 i)
         (λ c. rw (← g.2, c, e) (among_others f i n j b d))
-        (λ c. rw (← g.2) (among_others f i n g.0 g.1 c))
+        (λ c. rw (← g.2) (among_others f i n g.0 g.1 c)))
 
 module _ (text table : List ℕ) (n : ℕ) where
   -- relation word k is listed at place j, under its first letter
@@ -69,21 +72,29 @@ module _ (text table : List ℕ) (n : ℕ) where
   abbrev place : (k : ℕ) → (j : ℕ) × Listed k j → Place k
   place k u = (u.0, u.1.0, u.1.1, u.1.2)
 
-  module _ (l : Laid text table n) (x : Indexed text table n) where
+  -- the words are laid, the lists end within n places, and each word stands in one of them, though it need not be told where
+  module _ (l : Laid text table n)
+      (listed : (c : ℕ) → c < letters_bound → (first_of table c ≤ first_of table (c + 1)) × (first_of table (c + 1) ≤ n))
+      (stands : (k : ℕ) → k < n → ∥ Place k ∥₁) where
     place_below : (k : ℕ) → k < n → (u : Place k) → u.0 < n
     place_below k h u =
         let c = l.letters k (start_of table k) h (omega arith) (l.some k h) in
-        omega (arith, u.2, (x.listed (get_or text (start_of table k) 0) c).1)
+        omega (arith, u.2, (listed (get_or text (start_of table k) 0) c).1)
 
     place_once : (k : ℕ) → k < n → (u v : Place k) → u.0 ≡ v.0
     place_once k h u v =
-        once (order_of table) n (λ m b. let f = x.found m b in (f.0, place_below m b f, f.3)) u.0 v.0 (place_below k h u) (place_below k h v) (u.3 ∙ sym v.3)
+        once (order_of table) n (λ m b. ∥∥₁_map (stands m b) (λ f. (f.0, place_below m b f, f.3))) u.0 v.0 (place_below k h u) (place_below k h v) (u.3 ∙ sym v.3)
 
-    found-prop : IsProp ((k : ℕ) → k < n → Place k)
-    found-prop =
-        Π_prop
-        (λ k. Π_prop
-        (λ h u v. ap (place k) (Σ_prop_path {B = Listed k} (λ j. hlevel (le_prop, ℕ_set)) {u = (u.0, (u.1, u.2, u.3))} {v = (v.0, (v.1, v.2, v.3))} (place_once k h u v))))
+    place-prop : (k : ℕ) → k < n → IsProp (Place k)
+    place-prop k h u v =
+        ap (place k) (Σ_prop_path {B = Listed k} (λ j. hlevel (le_prop, ℕ_set)) {u = (u.0, (u.1, u.2, u.3))} {v = (v.0, (v.1, v.2, v.3))} (place_once k h u v))
+
+    -- what `found` gives, for a caller who knows only that each word is listed
+    pub found_where_listed : (k : ℕ) → k < n → Place k
+    found_where_listed k h = ∥∥₁_elim (stands k h) (place-prop k h) (λ u. u)
+
+  found-prop : Laid text table n → Indexed text table n → IsProp ((k : ℕ) → k < n → Place k)
+  found-prop l x = Π_prop (λ k. Π_prop (λ h. place-prop l x.listed (λ m b. ∣ x.found m b ∣₁) k h))
 
   Indexed-prop : Laid text table n → IsProp (Indexed text table n)
   Indexed-prop l x = one_way (found-prop l x) x
